@@ -1,0 +1,44 @@
+// Numbers that are at most 4,294,967,295, or too large (document 01's refusal 7).
+ghost use mathlib.Core.Path.{_≡_};
+ghost use Prim.Native.Nat.{_*_, _<_};
+ghost use Rattle.wgsl.specs.Round.{up};
+ghost use Rattle.numbers.specs.Limit.{limited};
+
+pub enum Limited {
+    Is(u32),
+    TooLarge,
+}
+
+// A number of 32 bits as one of 64, with its bound.
+fn wide32(x: u32) -> u64
+    ensures { λ r. ⌜ (r ≡ x) × (r < 4294967296) ⌝ }
+{
+    x as u64
+}
+
+// The number itself, if it is within the limit.
+pub fn within(n: u64) -> Limited
+    ensures { λ r. ⌜ r ≡ limited n ⌝ }
+{
+    if n <= 4294967295 {
+        Limited::Is(n as u32)
+    } else {
+        Limited::TooLarge
+    }
+}
+
+// The least multiple of `a` not below `n`.
+pub fn round_up(a: u32, n: u32) -> Limited
+    requires { ⌜ 0 < a ⌝ }
+    ensures { λ r. ⌜ r ≡ limited (up a n) ⌝ }
+{
+    let w = wide32(a);
+    within((wide32(n) + (w - 1)) / w * w)
+}
+
+// The product of two numbers.
+pub fn product(a: u32, b: u32) -> Limited
+    ensures { λ r. ⌜ r ≡ limited (a * b) ⌝ }
+{
+    within(wide32(a) * wide32(b))
+}
