@@ -1,3 +1,4 @@
 pub mod Number
 pub mod Round
 pub mod Power
+pub mod Case

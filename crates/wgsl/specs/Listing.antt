@@ -1,0 +1,76 @@
+-- The text of the listing program (01, "Values on each side of an edge", from "The program reads").
+--
+-- In order: characters; numbers in decimal; the lines. A text is a list of bytes in ASCII, and each line ends in a newline.
+-- Definitions only. Assumes nothing.
+use Prim.Native.Nat.{ℕ, zero, suc, _+_, _/_, _%_}
+use mathlib.Core.List.{List, [], _∷_, _++_}
+use mathlib.Core.Bool.{cond}
+use mathlib.Core.Option.{Option, none, some}
+use lib.ListN.{length}
+use lib.Dec.{ltb}
+use Rattle.wgsl.specs.Types.{Ty}
+use Rattle.wgsl.specs.Size.{sizeOf, alignOf}
+use Rattle.wgsl.specs.Said.{Said, good, refused}
+use Rattle.wgsl.specs.File.{between}
+use Rattle.wgsl.specs.Rule.{typesOf}
+
+-- `entries `
+unfoldable pub entriesText : List ℕ
+entriesText = 101 ∷ 110 ∷ 116 ∷ 114 ∷ 105 ∷ 101 ∷ 115 ∷ 32 ∷ []
+
+-- `refused `
+unfoldable pub refusedText : List ℕ
+refusedText = 114 ∷ 101 ∷ 102 ∷ 117 ∷ 115 ∷ 101 ∷ 100 ∷ 32 ∷ []
+
+-- ` at `
+unfoldable pub atText : List ℕ
+atText = 32 ∷ 97 ∷ 116 ∷ 32 ∷ []
+
+unfoldable pub space : List ℕ
+space = 32 ∷ []
+
+unfoldable pub newline : List ℕ
+newline = 10 ∷ []
+
+-- `-`
+unfoldable pub dash : List ℕ
+dash = 45 ∷ []
+
+-- a number of at most so many digits
+unfoldable pub decimalIn : ℕ → ℕ → List ℕ
+decimalIn zero n = []
+decimalIn (suc digits) n = cond (ltb n 10) ((48 + n) ∷ []) (decimalIn digits (n / 10) ++ ((48 + n % 10) ∷ []))
+
+-- 4,294,967,295 has ten
+unfoldable pub decimal : ℕ → List ℕ
+decimal n = decimalIn 10 n
+
+-- "`-` standing for an absent number"
+unfoldable pub orDash : Option ℕ → List ℕ
+orDash (some n) = decimal n
+orDash none = dash
+
+-- entry k: its number, its size and its alignment
+unfoldable pub entryLine : ℕ → Ty → List ℕ
+entryLine k t = decimal k ++ space ++ orDash (sizeOf t) ++ space ++ orDash (alignOf t) ++ newline
+
+-- the lines of the entries from number k on
+unfoldable pub entryLines : ℕ → List Ty → List ℕ
+entryLines k [] = []
+entryLines k (t ∷ ts) = entryLine k t ++ entryLines (suc k) ts
+
+-- "a bad file gives `refused 2`, or `refused 5 at 1` for 5 to 7"
+unfoldable pub refusedLine : ℕ → ℕ → List ℕ
+refusedLine number place =
+    refusedText ++ decimal number ++ cond (between 5 7 number) (atText ++ decimal place) [] ++ newline
+
+unfoldable pub listed : Said (List Ty) → List ℕ
+listed (good ts) = entriesText ++ decimal (length ts) ++ newline ++ entryLines 0 ts
+listed (refused number place) = refusedLine number place
+
+-- "The program reads at most 65,536 bytes of standard input (more: `refused 17`)."
+unfoldable pub inputLimit : ℕ
+inputLimit = 65_536
+
+unfoldable pub listingOf : List ℕ → List ℕ
+listingOf f = cond (ltb inputLimit (length f)) (refusedLine 17 0) (listed (typesOf f))

@@ -1,0 +1,75 @@
+-- WGSL types as trees (01, "The layout file", the table of kinds and the sentences after it).
+--
+-- In order: scalars; types and the members of a struct; open types; what holds of every type within a type.
+-- Not here: which trees a file may hold (`Rule`), sizes (`Size`).
+-- Definitions only. Assumes nothing.
+use Prim.Native.Nat.{ℕ, zero, suc}
+use mathlib.Core.Bool.{Bool, true, false, _&&_}
+use mathlib.Core.Option.{Option, none, some}
+
+-- "kinds 0 to 6", in their order
+pub data Scalar : Type 0 where
+  bool : Scalar
+  i32 : Scalar
+  u32 : Scalar
+  f32 : Scalar
+  f16 : Scalar
+  abstractInt : Scalar
+  abstractFloat : Scalar
+
+mutual
+  -- "kinds 0 to 6", then 7 to 12 in their order
+  pub data Ty : Type 0 where
+    scalar : Scalar → Ty
+    vector : ℕ → Scalar → Ty
+    -- columns, rows
+    matrix : ℕ → ℕ → Scalar → Ty
+    array : ℕ → Ty → Ty
+    runtime : Ty → Ty
+    atomic : Scalar → Ty
+    -- its entry number, by which structs are compared
+    struct : ℕ → Members → Ty
+
+  -- a member: its type, the size and the align that the file gives, if any; then the members after it
+  pub data Members : Type 0 where
+    no-more : Members
+    member : Ty → Option ℕ → Option ℕ → Members → Members
+
+unfoldable pub isRuntime : Ty → Bool
+isRuntime (scalar s) = false
+isRuntime (vector n s) = false
+isRuntime (matrix c r s) = false
+isRuntime (array n t) = false
+isRuntime (runtime t) = true
+isRuntime (atomic s) = false
+isRuntime (struct k ms) = false
+
+-- whether the last member is a runtime array; `before` says whether the member before these is one
+unfoldable pub endsInRuntime : Bool → Members → Bool
+endsInRuntime before no-more = before
+endsInRuntime before (member t size align ms) = endsInRuntime (isRuntime t) ms
+
+-- "An open type is a runtime array or a struct ending in one."
+unfoldable pub isOpen : Ty → Bool
+isOpen (scalar s) = false
+isOpen (vector n s) = false
+isOpen (matrix c r s) = false
+isOpen (array n t) = false
+isOpen (runtime t) = true
+isOpen (atomic s) = false
+isOpen (struct k ms) = endsInRuntime false ms
+
+-- the test p holds of a type and of every type within it
+unfoldable mutual
+  pub everywhere : (Ty → Bool) → Ty → Bool
+  everywhere p (scalar s) = p (scalar s)
+  everywhere p (vector n s) = p (vector n s)
+  everywhere p (matrix c r s) = p (matrix c r s)
+  everywhere p (array n t) = p (array n t) && everywhere p t
+  everywhere p (runtime t) = p (runtime t) && everywhere p t
+  everywhere p (atomic s) = p (atomic s)
+  everywhere p (struct k ms) = p (struct k ms) && everyMember p ms
+
+  pub everyMember : (Ty → Bool) → Members → Bool
+  everyMember p no-more = true
+  everyMember p (member t size align ms) = everywhere p t && everyMember p ms
