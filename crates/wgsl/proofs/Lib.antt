@@ -1,4 +1,5 @@
 pub mod Number
 pub mod Round
 pub mod Power
+pub mod Shape
 pub mod Case

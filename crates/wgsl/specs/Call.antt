@@ -11,13 +11,12 @@ use mathlib.Core.Bool.{Bool, true, false, cond, not, _&&_, _||_}
 use mathlib.Core.Option.{Option, none, some}
 use lib.ListN.{length, getElem?, take, drop}
 use lib.Dec.{eqb, ltb}
-use Rattle.wgsl.specs.Number.{store}
 use Rattle.wgsl.specs.Round.{withinLimit}
 use Rattle.wgsl.specs.Types.{Scalar, Ty, isOpen}
-use Rattle.wgsl.specs.Size.{present, widthOf, sizeOf, alignOf, minSizeOf, hasLayout, isStorable}
+use Rattle.wgsl.specs.Size.{present, sizeOf, alignOf, minSizeOf, hasLayout, isStorable}
 use Rattle.wgsl.specs.Said.{Said, good, refused, _>>=_, _>>_, refuse, orRefuse}
 use Rattle.wgsl.specs.Rule.{typesOf}
-use Rattle.wgsl.specs.Place.{Shape, one, parts, field, whole, Place, shapeOf, spanOf, wordsOf, places, wordCount, extentOf, elementsIn, written, wordsRead, checkWords}
+use Rattle.wgsl.specs.Place.{Shape, one, parts, field, whole, Place, shapeOf, spanOf, wordPlaces, places, wordCount, extentOf, elementsIn, storeWords, written, wordsRead, checkWords}
 use Rattle.wgsl.specs.Path.{Target, walk, stepOf}
 use Rattle.wgsl.specs.Rank.{Entry, rankOf, commonOfAll}
 
@@ -173,8 +172,8 @@ setCall f e path w b = do
   t ← storedEntry f e b
   target ← targetIn t path b
   s ← orRefuse 14 0 (scalarAt (target .shape))
-  checkWords 0 (wordsOf s (target .offset)) (w ∷ [])
-  good (record { value = target .offset; contents = store (present (widthOf s)) b (target .offset) w })
+  checkWords 0 (wordPlaces s (target .offset)) (w ∷ [])
+  good (record { value = target .offset; contents = storeWords (wordPlaces s (target .offset)) (w ∷ []) b })
 
 -- ---- rank and common
 

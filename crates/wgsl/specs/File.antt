@@ -25,8 +25,9 @@ trailerLength = 10
 unfoldable pub typeEntryLength : ℕ
 typeEntryLength = 12
 
-unfoldable pub memberEntryLength : ℕ
-memberEntryLength = 12
+-- by the file's form
+unfoldable pub memberEntryLength : ℕ → ℕ
+memberEntryLength form = 12
 
 -- "The file ends in a 10-byte trailer"
 unfoldable pub trailerOf : List ℕ → Trailer
@@ -36,7 +37,7 @@ trailerOf f =
 
 -- "So the length is S + 12 x (T + M) + 10."
 unfoldable pub lengthBy : Trailer → ℕ
-lengthBy r = r .start + (typeEntryLength * r .types + memberEntryLength * r .members) + trailerLength
+lengthBy r = r .start + (typeEntryLength * r .types + memberEntryLength (r .form) * r .members) + trailerLength
 
 -- "Type entry: byte 0 kind, 1 columns, 2 rows, 3 zero, 4-5 reference (u16), 6-7 zero, 8-11 count (u32)."
 pub record TypeEntry : Type 0 where
@@ -78,7 +79,8 @@ memberEntryFrom f at =
 -- "M member entries of 12 bytes follow"
 unfoldable pub memberEntryAt : List ℕ → ℕ → MemberEntry
 memberEntryAt f m =
-    memberEntryFrom f (trailerOf f .start + typeEntryLength * trailerOf f .types + memberEntryLength * m)
+    let r : Trailer = trailerOf f in
+    memberEntryFrom f (r .start + typeEntryLength * r .types + memberEntryLength (r .form) * m)
 
 -- "Flag bit 0 says a size is given, bit 1 an align"
 unfoldable pub sizeIsGiven : MemberEntry → Bool

@@ -106,9 +106,9 @@ pub record Place : Type 0 where
   pub at : ℕ
   pub width : ℕ
 
--- "one u32 each": the words that a scalar takes
-unfoldable pub wordsOf : Scalar → ℕ → List Place
-wordsOf s at = record { at = at; width = present (widthOf s) } ∷ []
+-- "one u32 each": where the words lie that a scalar takes
+unfoldable pub wordPlaces : Scalar → ℕ → List Place
+wordPlaces s at = record { at = at; width = present (widthOf s) } ∷ []
 
 -- what f gives at `at`, at + stride, ..: n of them
 unfoldable pub repeated : {A : Type 0} → ℕ → ℕ → (ℕ → List A) → ℕ → List A
@@ -117,7 +117,7 @@ repeated (suc n) stride f at = f at ++ repeated n stride f (at + stride)
 
 -- "Its words are its scalars in order of offset": their places, where the shape begins at `at`
 unfoldable pub placesOf : Shape → ℕ → List Place
-placesOf (one s) at = wordsOf s at
+placesOf (one s) at = wordPlaces s at
 placesOf (parts n stride x) at = repeated n stride (λ p. placesOf x p) at
 placesOf (field offset x rest) at = placesOf x (at + offset) ++ placesOf rest at
 placesOf (whole z) at = []

@@ -47,6 +47,9 @@ scalarIn (struct k ms) = none
 unfoldable pub lower : List Ty → ℕ → Option Ty
 lower ts r = getElem? ts r
 
+unfoldable pub lowerScalar : List Ty → ℕ → Option Scalar
+lowerScalar ts r = andThen (lower ts r) scalarIn
+
 -- "and so do a struct's members": n members from number m on
 unfoldable pub membersFrom : List ℕ → List Ty → ℕ → ℕ → Option Members
 membersFrom f ts zero m = some no-more
@@ -55,27 +58,56 @@ membersFrom f ts (suc n) m =
     when (restIsZero e)
     (andThen (lower ts (e .type)) (λ t. andThen (membersFrom f ts n (suc m)) (λ ms. some (member t (givenSize e) (givenAlign e) ms))))
 
--- the table of kinds, from "0 to 6 .. nothing" to "12 struct": the type that entry k makes, if its fields make one
+-- The table of kinds: the type that an entry's fields make, if they make one. Which of these types are allowed is said below.
+
+-- "0 to 6 .. nothing"
+unfoldable pub scalarMade : TypeEntry → Option Ty
+scalarMade e =
+    when (unused (e .columns ∷ e .rows ∷ e .reference ∷ e .count ∷ []))
+    (andThen (scalarOfKind (e .kind)) (λ s. some (scalar s)))
+
+-- "7 vector: rows .., reference to a kind 0-6"
+unfoldable pub vectorMade : List Ty → TypeEntry → Option Ty
+vectorMade ts e =
+    when (unused (e .columns ∷ e .count ∷ [])) (andThen (lowerScalar ts (e .reference)) (λ s. some (vector (e .rows) s)))
+
+-- "8 matrix: columns .., rows .., reference"
+unfoldable pub matrixMade : List Ty → TypeEntry → Option Ty
+matrixMade ts e =
+    when (unused (e .count ∷ [])) (andThen (lowerScalar ts (e .reference)) (λ s. some (matrix (e .columns) (e .rows) s)))
+
+-- "9 array: reference, count"
+unfoldable pub arrayMade : List Ty → TypeEntry → Option Ty
+arrayMade ts e =
+    when (unused (e .columns ∷ e .rows ∷ [])) (andThen (lower ts (e .reference)) (λ t. some (array (e .count) t)))
+
+-- "10 runtime array: reference"
+unfoldable pub runtimeMade : List Ty → TypeEntry → Option Ty
+runtimeMade ts e =
+    when (unused (e .columns ∷ e .rows ∷ e .count ∷ [])) (andThen (lower ts (e .reference)) (λ t. some (runtime t)))
+
+-- "11 atomic: reference"
+unfoldable pub atomicMade : List Ty → TypeEntry → Option Ty
+atomicMade ts e =
+    when (unused (e .columns ∷ e .rows ∷ e .count ∷ []))
+    (andThen (lowerScalar ts (e .reference)) (λ s. some (atomic s)))
+
+-- "12 struct: reference = first member, count = members, .. all within M"
+unfoldable pub structMade : List ℕ → List Ty → ℕ → TypeEntry → Option Ty
+structMade f ts k e =
+    when (unused (e .columns ∷ e .rows ∷ []) && leb (e .reference + e .count) (trailerOf f .members))
+    (andThen (membersFrom f ts (e .count) (e .reference)) (λ ms. some (struct k ms)))
+
 unfoldable pub typeMade : List ℕ → List Ty → ℕ → TypeEntry → Option Ty
 typeMade f ts k e =
-    cond (leb (e .kind) 6)
-    (when (unused (e .columns ∷ e .rows ∷ e .reference ∷ e .count ∷ [])) (andThen (scalarOfKind (e .kind)) (λ s. some (scalar s))))
-    (cond (eqb (e .kind) 7)
-    (when (unused (e .columns ∷ e .count ∷ [])) (andThen (lower ts (e .reference)) (λ t. andThen (scalarIn t) (λ s. some (vector (e .rows) s)))))
-    (cond (eqb (e .kind) 8)
-    (when (unused (e .count ∷ [])) (andThen (lower ts (e .reference)) (λ t. andThen (scalarIn t) (λ s. some (matrix (e .columns) (e .rows) s)))))
-    (cond (eqb (e .kind) 9)
-    (when (unused (e .columns ∷ e .rows ∷ [])) (andThen (lower ts (e .reference)) (λ t. some (array (e .count) t))))
-    (cond (eqb (e .kind) 10)
-    (when (unused (e .columns ∷ e .rows ∷ e .count ∷ [])) (andThen (lower ts (e .reference)) (λ t. some (runtime t))))
-    (cond (eqb (e .kind) 11)
-    (when (unused (e .columns ∷ e .rows ∷ e .count ∷ [])) (andThen (lower ts (e .reference)) (λ t. andThen (scalarIn t) (λ s. some (atomic s)))))
-    (cond (eqb (e .kind) 12)
-    -- "count = members, .. all within M"
-    (when (unused (e .columns ∷ e .rows ∷ []) && leb (e .reference + e .count) (trailerOf f .members))
-    (andThen (membersFrom f ts (e .count) (e .reference)) (λ ms. some (struct k ms))))
-    none))))))
+    cond (leb (e .kind) 6) (scalarMade e)
+    (cond (eqb (e .kind) 7) (vectorMade ts e)
+    (cond (eqb (e .kind) 8) (matrixMade ts e)
+    (cond (eqb (e .kind) 9) (arrayMade ts e)
+    (cond (eqb (e .kind) 10) (runtimeMade ts e)
+    (cond (eqb (e .kind) 11) (atomicMade ts e) (cond (eqb (e .kind) 12) (structMade f ts k e) none))))))
 
+-- the type that entry k makes, over the types of the entries below it
 unfoldable pub typeOfEntry : List ℕ → List Ty → ℕ → Option Ty
 typeOfEntry f ts k =
     let e : TypeEntry = typeEntryAt f k in
@@ -161,6 +193,10 @@ givenFits (array n t) = true
 givenFits (runtime t) = true
 givenFits (atomic s) = true
 givenFits (struct k ms) = membersGivenFit ms
+
+-- what 5, 6 and 7 leave
+unfoldable pub isWellFormed : Ty → Bool
+isWellFormed t = isAllowed t && givenFits t && fitsLimit t
 
 -- entry k, over the types of those below it: "in it 5 before 6 before 7"
 unfoldable pub judged : List ℕ → List Ty → ℕ → Said Ty

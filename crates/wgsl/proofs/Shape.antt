@@ -1,0 +1,97 @@
+-- Shapes that are laid out as they should be (specs/Place), and where their places lie.
+--
+-- In order: what is asked of a shape (`Sound`); lists of places in order (`Ordered`); the places of a sound shape are in order, inside.
+-- Assumes nothing.
+use Prim.Native.Nat.{ℕ, zero, suc, _+_, _*_, _%_, _<_, _≤_}
+use mathlib.Core.List.{List, [], _∷_, _++_}
+use mathlib.Core.Path.{_≡_, refl}
+use native.Mathlib.Omega.{arith}
+use native.Mathlib.Nat.{suc-mul}
+use Rattle.wgsl.specs.Types.{Scalar}
+use Rattle.wgsl.specs.Size.{present, widthOf}
+use Rattle.wgsl.specs.Place.{Shape, one, parts, field, whole, spanOf, Place, wordPlaces, repeated, placesOf}
+
+-- every scalar of the shape has a size that divides m
+unfoldable pub Divides : Shape → ℕ → Type 0
+Divides (one s) m = m % present (widthOf s) ≡ 0
+Divides (parts n stride x) m = Divides x m
+Divides (field offset x rest) m = Divides x m × Divides rest m
+Divides (whole z) m = Unit {0}
+
+-- these are the members that are left of a struct, or its end, and the first of them begins at lo or later
+unfoldable pub From : Shape → ℕ → Type 0
+From (one s) lo = ⊥
+From (parts n stride x) lo = ⊥
+From (field offset x rest) lo = lo ≤ offset
+From (whole z) lo = lo ≤ z
+
+-- scalars have a size; parts fit their stride; members follow each other inside the struct; strides and offsets suit the scalars
+unfoldable pub Sound : Shape → Type 0
+Sound (one s) = 0 < present (widthOf s)
+Sound (parts n stride x) = Sound x × (spanOf x ≤ stride) × Divides x stride
+Sound (field offset x rest) = Sound x × Sound rest × From rest (offset + spanOf x) × Divides x offset
+Sound (whole z) = Unit {0}
+
+-- the places lie between lo and hi, each past the end of the one before
+unfoldable pub Ordered : List Place → ℕ → ℕ → Type 0
+Ordered [] lo hi = lo ≤ hi
+Ordered (p ∷ ps) lo hi = (lo ≤ p .at) × Ordered ps (p .at + p .width) hi
+
+pub ordered-low : (ps : List Place) (lo′ lo hi : ℕ) → lo′ ≤ lo → Ordered ps lo hi → Ordered ps lo′ hi
+unfolding Ordered
+ordered-low [] lo′ lo hi h o = omega arith
+ordered-low (p ∷ ps) lo′ lo hi h o = (omega (arith, o .0), o .1)
+
+pub ordered-high : (ps : List Place) (lo hi hi′ : ℕ) → hi ≤ hi′ → Ordered ps lo hi → Ordered ps lo hi′
+unfolding Ordered
+ordered-high [] lo hi hi′ h o = omega arith
+ordered-high (p ∷ ps) lo hi hi′ h o = (o .0, ordered-high ps (p .at + p .width) hi hi′ h (o .1))
+
+pub ordered-append : (ps qs : List Place) (lo mid hi : ℕ) → Ordered ps lo mid → Ordered qs mid hi → Ordered (ps ++ qs) lo hi
+unfolding Ordered
+ordered-append [] qs lo mid hi o u = ordered-low qs lo mid hi o u
+ordered-append (p ∷ ps) qs lo mid hi o u = (o .0, ordered-append ps qs (p .at + p .width) mid hi (o .1) u)
+
+pub ordered-span : (ps : List Place) (lo hi : ℕ) → Ordered ps lo hi → lo ≤ hi
+unfolding Ordered
+ordered-span [] lo hi o = o
+ordered-span (p ∷ ps) lo hi o = omega (arith, o .0, ordered-span ps (p .at + p .width) hi (o .1))
+
+repeated-ordered : (n stride z : ℕ) (f : ℕ → List Place) (at : ℕ) → ((p : ℕ) → Ordered (f p) p (p + z)) → z ≤ stride → Ordered (repeated n stride f at) at (at + n * stride)
+unfolding repeated Ordered
+repeated-ordered zero stride z f at h l = omega arith
+repeated-ordered (suc n) stride z f at h l =
+    ordered-append (f at) (repeated n stride f (at + stride)) at (at + stride) (at + suc n * stride)
+    (ordered-high (f at) at (at + z) (at + stride) (omega arith) (h at))
+    (ordered-high (repeated n stride f (at + stride)) (at + stride) (at + stride + n * stride) (at + suc n * stride)
+    (omega (arith, suc-mul n stride)) (repeated-ordered n stride z f (at + stride) h l))
+
+field-ordered : (at offset : ℕ) (x rest : Shape) → Ordered (placesOf x (at + offset)) (at + offset) (at + offset + spanOf x) → Ordered (placesOf rest at) (at + (offset + spanOf x)) (at + spanOf rest) → Ordered (placesOf (field offset x rest) at) (at + offset) (at + spanOf rest)
+unfolding placesOf
+field-ordered at offset x rest o u =
+    ordered-append (placesOf x (at + offset)) (placesOf rest at) (at + offset) (at + offset + spanOf x) (at + spanOf rest) o
+    (ordered-low (placesOf rest at) (at + offset + spanOf x) (at + (offset + spanOf x)) (at + spanOf rest) (omega arith) u)
+
+-- The places of a sound shape are in rising order, share no byte and lie inside it; those of the members that are left of a struct lie
+-- past the members before.
+mutual
+  unfolding Sound From placesOf spanOf Ordered wordPlaces
+
+  pub places-ordered : (x : Shape) (at : ℕ) → Sound x → Ordered (placesOf x at) at (at + spanOf x)
+  places-ordered (one s) at sound = (omega arith, omega arith)
+  places-ordered (parts n stride x) at sound =
+      repeated-ordered n stride (spanOf x) (λ p. placesOf x p) at (λ p. places-ordered x p (sound .0)) (sound .1)
+  places-ordered (field offset x rest) at sound =
+      ordered-low (placesOf (field offset x rest) at) at (at + offset) (at + spanOf rest) (omega arith)
+      (field-ordered at offset x rest (places-ordered x (at + offset) (sound .0))
+      (rest-ordered rest at (offset + spanOf x) (sound .1) (sound .2)))
+  places-ordered (whole z) at sound = omega arith
+
+  pub rest-ordered : (x : Shape) (at lo : ℕ) → Sound x → From x lo → Ordered (placesOf x at) (at + lo) (at + spanOf x)
+  rest-ordered (one s) at lo sound from = absurd from
+  rest-ordered (parts n stride x) at lo sound from = absurd from
+  rest-ordered (field offset x rest) at lo sound from =
+      ordered-low (placesOf (field offset x rest) at) (at + lo) (at + offset) (at + spanOf rest) (omega arith)
+      (field-ordered at offset x rest (places-ordered x (at + offset) (sound .0))
+      (rest-ordered rest at (offset + spanOf x) (sound .1) (sound .2)))
+  rest-ordered (whole z) at lo sound from = omega arith
