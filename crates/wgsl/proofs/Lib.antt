@@ -2,4 +2,8 @@ pub mod Number
 pub mod Round
 pub mod Power
 pub mod Shape
+pub mod Word
+pub mod Absent
+pub mod Align
+pub mod Laid
 pub mod Case

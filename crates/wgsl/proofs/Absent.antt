@@ -1,0 +1,49 @@
+-- Laws of numbers that may be absent (specs/Size), and of tests that hold.
+--
+-- In order: tests joined by `&&` and `||`; a number that is present; a number made from two; one given or the type's own.
+-- Assumes nothing.
+use Prim.Native.Nat.{ℕ}
+use mathlib.Core.Bool.{Bool, true, false, not, _&&_, _||_}
+use mathlib.Core.Option.{Option, none, some}
+use mathlib.Core.Path.{_≡_, refl}
+use mathlib.Core.Logic.{_⊎_, inl, inr}
+use native.Mathlib.Omega.{arith}
+use Rattle.wgsl.specs.Size.{both, givenOr, isPresent, present}
+
+pub both-hold : (a b : Bool) → (a && b) ≡ true → (a ≡ true) × (b ≡ true)
+both-hold true b e = (refl, e)
+both-hold false b e = let z : _≡_ {A = ℕ} 0 1 = cc in absurd (omega arith)
+
+pub either-holds : (a b : Bool) → (a || b) ≡ true → (a ≡ true) ⊎ (b ≡ true)
+either-holds true b e = inl refl
+either-holds false b e = inr e
+
+pub true-not-false : {A : Type 0} {b : Bool} → b ≡ true → b ≡ false → A
+true-not-false e f = let z : _≡_ {A = ℕ} 0 1 = cc in absurd (omega arith)
+
+pub some-not-none : {A B : Type 0} {o : Option A} {a : A} → o ≡ some a → o ≡ none → B
+some-not-none e f = let z : _≡_ {A = ℕ} 0 1 = cc in absurd (omega arith)
+
+-- A number that is present is some number.
+pub present-some : (o : Option ℕ) → isPresent o ≡ true → (n : ℕ) × (o ≡ some n)
+unfolding isPresent
+present-some (some n) e = (n, refl)
+present-some none e = let z : _≡_ {A = ℕ} 0 1 = cc in absurd (omega arith)
+
+pub some-present : {o : Option ℕ} {n : ℕ} → o ≡ some n → isPresent o ≡ true
+unfolding isPresent
+some-present e = rw e
+
+-- What a number that is present was made from is present.
+pub record Both (f : ℕ → ℕ → ℕ) (x y : Option ℕ) (c : ℕ) : Type 0 where
+  pub left : ℕ
+  pub right : ℕ
+  pub left-is : x ≡ some left
+  pub right-is : y ≡ some right
+  pub is : c ≡ f left right
+
+pub both-some : (f : ℕ → ℕ → ℕ) (x y : Option ℕ) (c : ℕ) → both f x y ≡ some c → Both f x y c
+unfolding both
+both-some f (some a) (some b) c e = record { left = a; right = b; left-is = refl; right-is = refl; is = cc }
+both-some f (some a) none c e = some-not-none {A = ℕ} {a = c} e refl
+both-some f none y c e = some-not-none {A = ℕ} {a = c} e refl
