@@ -2,4 +2,5 @@ pub mod Number
 pub mod Round
 pub mod Power
 pub mod Shape
+pub mod Path
 pub mod Case
