@@ -1,9 +1,10 @@
 pub mod Number
 pub mod Round
 pub mod Power
-pub mod Shape
-pub mod Word
 pub mod Absent
 pub mod Align
+pub mod Shape
+pub mod Path
+pub mod Word
 pub mod Laid
 pub mod Case
