@@ -30,6 +30,10 @@ unfolding isPresent
 present-some (some n) e = (n, refl)
 present-some none e = let z : _≡_ {A = ℕ} 0 1 = cc in absurd (omega arith)
 
+pub present-is : (n : ℕ) → present (some n) ≡ n
+unfolding present
+present-is n = refl
+
 pub some-present : {o : Option ℕ} {n : ℕ} → o ≡ some n → isPresent o ≡ true
 unfolding isPresent
 some-present e = rw e
@@ -47,3 +51,8 @@ unfolding both
 both-some f (some a) (some b) c e = record { left = a; right = b; left-is = refl; right-is = refl; is = cc }
 both-some f (some a) none c e = some-not-none {A = ℕ} {a = c} e refl
 both-some f none y c e = some-not-none {A = ℕ} {a = c} e refl
+
+pub both-none : (f : ℕ → ℕ → ℕ) (x : Option ℕ) → both f x none ≡ none
+unfolding both
+both-none f (some a) = refl
+both-none f none = refl

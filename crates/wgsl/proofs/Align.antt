@@ -54,8 +54,8 @@ pow-divides i j h =
 pub power-divides : {a b : ℕ} → IsPower a → IsPower b → a ≤ b → b % a ≡ 0
 power-divides {a} {b} p q h =
     let l : p .exponent ≤ q .exponent =
-      elim (decLe (p .exponent) (q .exponent))
-      [ yes m ↦ m | no m ↦ absurd (omega (arith, pow-lt (lt-of-not-le m), p .is, q .is)) ] in
+    elim (decLe (p .exponent) (q .exponent))
+    [ yes m ↦ m | no m ↦ absurd (omega (arith, pow-lt (lt-of-not-le m), p .is, q .is)) ] in
     rw (p .is, q .is) (pow-divides (p .exponent) (q .exponent) l)
 
 -- A power of two of 32 bits is at most 2 ^ 31.
@@ -134,8 +134,10 @@ vector-align k s a b e = go (eqb k 3) refl e
   where
     low : 2 ≤ k
     low = leb-true 2 k (both-hold (leb 2 k) (leb k 4) b .0)
+
     high : k ≤ 4
     high = leb-true k 4 (both-hold (leb 2 k) (leb k 4) b .1)
+
     go : (c : Bool) → eqb k 3 ≡ c → cond c (vec3Align s) (both _*_ (some k) (widthOf s)) ≡ some a → VectorAligned k s a
     go true q h =
         let v = vec3-align s a h in
@@ -225,5 +227,5 @@ mutual
       let fit = both-hold (givenSizeFits t size) (givenAlignFits t align) (fits .0) in
       let m = both-some max (givenOr align (alignOf t)) (membersAlign ms) a e in
       let here : IsPower (m .left) =
-        member-power t align (m .left) (λ own h. align-power t own (both-well .0) h) (fit .1) (m .left-is) in
+      member-power t align (m .left) (λ own h. align-power t own (both-well .0) h) (fit .1) (m .left-is) in
       rw (m .is) (power-max here (members-power ms (m .right) (both-well .1) (fits .1) (m .right-is)))

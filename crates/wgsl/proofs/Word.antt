@@ -101,9 +101,9 @@ wordsRead-same [] a b lo hi o h = refl
 wordsRead-same (p ∷ ps) a b lo hi o h =
     let span = ordered-span ps (p .at + p .width) hi (o .1) in
     let first : load (p .width) a (p .at) ≡ load (p .width) b (p .at) =
-      load-same (p .width) a b (p .at) (λ i from to. h i (omega (arith, o .0)) (omega arith)) in
+    load-same (p .width) a b (p .at) (λ i from to. h i (omega (arith, o .0)) (omega arith)) in
     let rest : wordsRead ps a ≡ wordsRead ps b =
-      wordsRead-same ps a b (p .at + p .width) hi (o .1) (λ i from to. h i (omega (arith, o .0)) to) in
+    wordsRead-same ps a b (p .at + p .width) hi (o .1) (λ i from to. h i (omega (arith, o .0)) to) in
     rw (first, rest)
 
 -- Reading the places that were written gives the words.
@@ -116,11 +116,11 @@ wordsRead-storeWords (p ∷ ps) (w ∷ ws) b lo hi o room n f =
     let b′ : List ℕ = store (p .width) b (p .at) w in
     let span = ordered-span ps (p .at + p .width) hi (o .1) in
     let first : load (p .width) (storeWords ps ws b′) (p .at) ≡ w =
-      load-same (p .width) (storeWords ps ws b′) b′ (p .at)
-        (λ i from to. storeWords-uncovered ps ws b′ i (uncovered-below ps (p .at + p .width) hi i (o .1) to))
-      ∙ load-store (p .width) b (p .at) w (omega arith) (f .0) in
+    load-same (p .width) (storeWords ps ws b′) b′ (p .at)
+    (λ i from to. storeWords-uncovered ps ws b′ i (uncovered-below ps (p .at + p .width) hi i (o .1) to))
+    ∙ load-store (p .width) b (p .at) w (omega arith) (f .0) in
     let rest : wordsRead ps (storeWords ps ws b′) ≡ ws =
-      wordsRead-storeWords ps ws b′ (p .at + p .width) hi (o .1) (rw length-store room) (omega arith) (f .1) in
+    wordsRead-storeWords ps ws b′ (p .at + p .width) hi (o .1) (rw length-store room) (omega arith) (f .1) in
     rw (first, rest)
 
 -- ---- one scalar changed
@@ -147,13 +147,13 @@ wordsRead-middle before mid after ws b lo hi o room n f =
     let m′ = second .0 in
     let end = ordered-span after m′ hi (second .2) in
     let left : wordsRead before (storeWords mid ws b) ≡ wordsRead before b =
-      wordsRead-same before (storeWords mid ws b) b lo m (first .1)
-        (λ i from to. storeWords-uncovered mid ws b i (uncovered-below mid m m′ i (second .1) to)) in
+    wordsRead-same before (storeWords mid ws b) b lo m (first .1)
+    (λ i from to. storeWords-uncovered mid ws b i (uncovered-below mid m m′ i (second .1) to)) in
     let middle : wordsRead mid (storeWords mid ws b) ≡ ws =
-      wordsRead-storeWords mid ws b m m′ (second .1) (omega arith) n f in
+    wordsRead-storeWords mid ws b m m′ (second .1) (omega arith) n f in
     let right : wordsRead after (storeWords mid ws b) ≡ wordsRead after b =
-      wordsRead-same after (storeWords mid ws b) b m′ hi (second .2)
-        (λ i from to. storeWords-uncovered mid ws b i (uncovered-past mid m m′ i (second .1) from)) in
+    wordsRead-same after (storeWords mid ws b) b m′ hi (second .2)
+    (λ i from to. storeWords-uncovered mid ws b i (uncovered-past mid m m′ i (second .1) from)) in
     rw (wordsRead-append before (mid ++ after), wordsRead-append mid after, left, middle, right)
 
 -- ---- written
