@@ -3,3 +3,4 @@ pub mod Round
 pub mod Power
 pub mod Shape
 pub mod Case
+pub mod Rank
