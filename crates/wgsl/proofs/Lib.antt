@@ -8,3 +8,4 @@ pub mod Path
 pub mod Word
 pub mod Laid
 pub mod Case
+pub mod Rank
