@@ -2,10 +2,12 @@ pub mod Number
 pub mod Round
 pub mod Power
 pub mod Absent
+pub mod Said
 pub mod Align
+pub mod Accepted
 pub mod Shape
 pub mod Path
 pub mod Word
 pub mod Laid
-pub mod Case
 pub mod Rank
+pub mod Case
