@@ -19,7 +19,7 @@ use Rattle.wgsl.specs.Types.{Scalar, Ty, scalar, vector, matrix, array, 
 use Rattle.wgsl.specs.Size.{fitsLimit}
 use Rattle.wgsl.specs.Said.{good, refused}
 use Rattle.wgsl.specs.File.{trailerLength, trailerOf, lengthBy, TypeEntry, typeEntryAt, between, checkTrailer}
-use Rattle.wgsl.specs.Rule.{when, andThen, lower, membersFrom, scalarMade, vectorMade, matrixMade, arrayMade, runtimeMade, atomicMade, structMade, typeMade, typeOfEntry, isAllowed, givenFits, isWellFormed, judged, typesBelow, typesOf}
+use Rattle.wgsl.specs.Rule.{when, andThen, lower, membersFrom, scalarMade, vectorMade, matrixMade, arrayMade, runtimeMade, atomicMade, structMade, overMade, typeMade, typeOfEntry, isAllowed, givenFits, isWellFormed, judged, typesBelow, typesOf}
 use Rattle.wgsl.proofs.Said.{then-good, then-cases, refuse-good, refuse-cases, orRefuse-good, orRefuse-refused, when-some, andThen-some, and-true, true-and}
 
 module _ {A : Type 0} where
@@ -182,17 +182,16 @@ module _ (f : List ℕ) (ts : List Ty) (k : ℕ) where
 
   -- An entry makes such a type.
   pub entry-made : (t : Ty) → typeOfEntry f ts k ≡ some t → Made f ts k t
-  unfolding typeOfEntry typeMade scalarMade vectorMade matrixMade arrayMade runtimeMade atomicMade structMade lower
+  unfolding typeOfEntry typeMade overMade scalarMade vectorMade matrixMade arrayMade runtimeMade atomicMade structMade lower
   entry-made t e =
       let x : TypeEntry = typeEntryAt f k in
       makes-cond (leb (x .kind) 6) (makes-then _ _ _ (λ s h. made-scalar s))
+      (makes-cond (eqb (x .kind) 12) (makes-then _ _ _ (λ ms h. made-struct (x .count) (x .reference) ms h))
       (makes-cond (eqb (x .kind) 7) (makes-then _ _ _ (λ s h. made-vector (x .rows) s))
       (makes-cond (eqb (x .kind) 8) (makes-then _ _ _ (λ s h. made-matrix (x .columns) (x .rows) s))
       (makes-cond (eqb (x .kind) 9) (makes-then _ _ _ (λ u h. made-array (x .reference) (x .count) u h))
       (makes-cond (eqb (x .kind) 10) (makes-then _ _ _ (λ u h. made-runtime (x .reference) u h))
-      (makes-cond (eqb (x .kind) 11) (makes-then _ _ _ (λ s h. made-atomic s))
-      (makes-cond (eqb (x .kind) 12) (makes-then _ _ _ (λ ms h. made-struct (x .count) (x .reference) ms h))
-      makes-none)))))) t (when-some _ _ e .1)
+      (makes-cond (eqb (x .kind) 11) (makes-then _ _ _ (λ s h. made-atomic s)) makes-none)))))) t (when-some _ _ e .1)
 
 -- A struct carries the number of its entry.
 pub struct-number : (f : List ℕ) (ts : List Ty) (k j : ℕ) (ms : Members) → typeOfEntry f ts k ≡ some (struct j ms) → j ≡ k

@@ -47,9 +47,6 @@ scalarIn (struct k ms) = none
 unfoldable pub lower : List Ty → ℕ → Option Ty
 lower ts r = getElem? ts r
 
-unfoldable pub lowerScalar : List Ty → ℕ → Option Scalar
-lowerScalar ts r = andThen (lower ts r) scalarIn
-
 -- "and so do a struct's members": n members from number m on
 unfoldable pub membersFrom : List ℕ → List Ty → ℕ → ℕ → Option Members
 membersFrom f ts zero m = some no-more
@@ -66,31 +63,30 @@ scalarMade e =
     when (unused (e .columns ∷ e .rows ∷ e .reference ∷ e .count ∷ []))
     (andThen (scalarOfKind (e .kind)) (λ s. some (scalar s)))
 
+-- The next five take the type that the reference leads to.
+
 -- "7 vector: rows .., reference to a kind 0-6"
-unfoldable pub vectorMade : List Ty → TypeEntry → Option Ty
-vectorMade ts e =
-    when (unused (e .columns ∷ e .count ∷ [])) (andThen (lowerScalar ts (e .reference)) (λ s. some (vector (e .rows) s)))
+unfoldable pub vectorMade : Option Ty → TypeEntry → Option Ty
+vectorMade below e =
+    when (unused (e .columns ∷ e .count ∷ [])) (andThen (andThen below scalarIn) (λ s. some (vector (e .rows) s)))
 
 -- "8 matrix: columns .., rows .., reference"
-unfoldable pub matrixMade : List Ty → TypeEntry → Option Ty
-matrixMade ts e =
-    when (unused (e .count ∷ [])) (andThen (lowerScalar ts (e .reference)) (λ s. some (matrix (e .columns) (e .rows) s)))
+unfoldable pub matrixMade : Option Ty → TypeEntry → Option Ty
+matrixMade below e =
+    when (unused (e .count ∷ [])) (andThen (andThen below scalarIn) (λ s. some (matrix (e .columns) (e .rows) s)))
 
 -- "9 array: reference, count"
-unfoldable pub arrayMade : List Ty → TypeEntry → Option Ty
-arrayMade ts e =
-    when (unused (e .columns ∷ e .rows ∷ [])) (andThen (lower ts (e .reference)) (λ t. some (array (e .count) t)))
+unfoldable pub arrayMade : Option Ty → TypeEntry → Option Ty
+arrayMade below e = when (unused (e .columns ∷ e .rows ∷ [])) (andThen below (λ t. some (array (e .count) t)))
 
 -- "10 runtime array: reference"
-unfoldable pub runtimeMade : List Ty → TypeEntry → Option Ty
-runtimeMade ts e =
-    when (unused (e .columns ∷ e .rows ∷ e .count ∷ [])) (andThen (lower ts (e .reference)) (λ t. some (runtime t)))
+unfoldable pub runtimeMade : Option Ty → TypeEntry → Option Ty
+runtimeMade below e = when (unused (e .columns ∷ e .rows ∷ e .count ∷ [])) (andThen below (λ t. some (runtime t)))
 
 -- "11 atomic: reference"
-unfoldable pub atomicMade : List Ty → TypeEntry → Option Ty
-atomicMade ts e =
-    when (unused (e .columns ∷ e .rows ∷ e .count ∷ []))
-    (andThen (lowerScalar ts (e .reference)) (λ s. some (atomic s)))
+unfoldable pub atomicMade : Option Ty → TypeEntry → Option Ty
+atomicMade below e =
+    when (unused (e .columns ∷ e .rows ∷ e .count ∷ [])) (andThen (andThen below scalarIn) (λ s. some (atomic s)))
 
 -- "12 struct: reference = first member, count = members, .. all within M"
 unfoldable pub structMade : List ℕ → List Ty → ℕ → TypeEntry → Option Ty
@@ -98,14 +94,18 @@ structMade f ts k e =
     when (unused (e .columns ∷ e .rows ∷ []) && leb (e .reference + e .count) (trailerOf f .members))
     (andThen (membersFrom f ts (e .count) (e .reference)) (λ ms. some (struct k ms)))
 
+-- kinds 7 to 11
+unfoldable pub overMade : Option Ty → TypeEntry → Option Ty
+overMade below e =
+    cond (eqb (e .kind) 7) (vectorMade below e)
+    (cond (eqb (e .kind) 8) (matrixMade below e)
+    (cond (eqb (e .kind) 9) (arrayMade below e)
+    (cond (eqb (e .kind) 10) (runtimeMade below e) (cond (eqb (e .kind) 11) (atomicMade below e) none))))
+
 unfoldable pub typeMade : List ℕ → List Ty → ℕ → TypeEntry → Option Ty
 typeMade f ts k e =
     cond (leb (e .kind) 6) (scalarMade e)
-    (cond (eqb (e .kind) 7) (vectorMade ts e)
-    (cond (eqb (e .kind) 8) (matrixMade ts e)
-    (cond (eqb (e .kind) 9) (arrayMade ts e)
-    (cond (eqb (e .kind) 10) (runtimeMade ts e)
-    (cond (eqb (e .kind) 11) (atomicMade ts e) (cond (eqb (e .kind) 12) (structMade f ts k e) none))))))
+    (cond (eqb (e .kind) 12) (structMade f ts k e) (overMade (lower ts (e .reference)) e))
 
 -- the type that entry k makes, over the types of the entries below it
 unfoldable pub typeOfEntry : List ℕ → List Ty → ℕ → Option Ty
