@@ -10,7 +10,7 @@ use mathlib.Core.Option.{Option, none, some}
 use Rattle.wgsl.specs.Types.{Scalar, Ty, scalar, vector, matrix, array, runtime, atomic, struct, isOpen, everywhere}
 use Rattle.wgsl.specs.Size.{present, widthOf, vectorAlign, sizeOf, alignOf, strideOf, fitsLimit, hasLayout, isStorable}
 use Rattle.wgsl.specs.Rule.{isAllowed, givenFits, isWellFormed}
-use Rattle.wgsl.specs.Place.{wordCount}
+use Rattle.wgsl.specs.Place.{Tail, tailOf, wordCount}
 use Rattle.wgsl.specs.Rank.{kindOf}
 use Rattle.kinds.specs.declared.value.Layout.{Layout}
 use Rattle.kinds.specs.declared.value.Made.{Made}
@@ -26,6 +26,14 @@ kindOfType (runtime t) = 10
 kindOfType (atomic s) = 11
 kindOfType (struct k ms) = 12
 
+unfoldable pub tailStride : Option Tail → Option ℕ
+tailStride none = none
+tailStride (some tail) = some (tail .stride)
+
+unfoldable pub tailOffset : Option Tail → ℕ
+tailOffset none = 0
+tailOffset (some tail) = tail .offset
+
 -- from one element of a type to the next
 unfoldable pub elementStride : Ty → Option ℕ
 elementStride (scalar s) = none
@@ -34,7 +42,7 @@ elementStride (matrix c r s) = vectorAlign r s
 elementStride (array n t) = strideOf t
 elementStride (runtime t) = strideOf t
 elementStride (atomic s) = none
-elementStride (struct k ms) = none
+elementStride (struct k ms) = tailStride (tailOf (struct k ms))
 
 -- the words of a type that has a layout, with no element of a runtime array
 unfoldable pub fixedWords : Ty → ℕ
@@ -47,6 +55,7 @@ valueOf t =
       size = present (sizeOf t);
       align = present (alignOf t);
       stride = present (elementStride t);
+      offset = tailOffset (tailOf t);
       words = fixedWords t;
       opens = isOpen t;
       storable = isStorable t;

@@ -5,8 +5,10 @@ pub struct Layout {
     pub kind: u32,
     pub size: u32,
     pub align: u32,
-    // of its elements: an array's, a vector's, a matrix's columns
+    // from one of its elements to the next: of an array, a vector, a matrix's columns, the runtime array that a struct ends in
     pub stride: u32,
+    // where the runtime array of an open type begins
+    pub offset: u32,
     // its words, with no element of a runtime array; 0 where it has no layout
     pub words: u32,
     pub opens: bool,

@@ -1,0 +1,46 @@
+-- What the table promises: the layouts of all entries of an accepted file, in the words of crates/wgsl.
+--
+-- In order: a table whose first entries hold the layouts of types; what the whole table says.
+-- Definitions only. Assumes nothing.
+use Prim.Native.Nat.{ℕ, _-_}
+use mathlib.Core.Path.{_≡_}
+use mathlib.Core.Bool.{false, true}
+use mathlib.Core.List.{List, _++_, map}
+use mathlib.Core.Option.{some}
+use lib.ListN.{length, take, getElem?, replicate}
+use Rattle.wgsl.specs.Types.{Ty, everywhere}
+use Rattle.wgsl.specs.Said.{Said, good, refused, _>>=_}
+use Rattle.wgsl.specs.File as wgsl
+use Rattle.wgsl.specs.File.{trailerOf}
+use Rattle.wgsl.specs.Rule.{isWellFormed, typesOf}
+use Rattle.file.specs.Refusal.{numberOf, placeOf}
+use Rattle.file.specs.Fields.{trailerIs}
+use Rattle.kinds.specs.declared.value.Layout.{Layout}
+use Rattle.kinds.specs.Value.{valueOf}
+use Rattle.layout.specs.declared.table.Checked.{Checked}
+use Rattle.layout.specs.declared.table.Checked.the-variants.{Types, Refused}
+
+-- the first entries of the table hold the layouts of these types, which the file's rules leave
+pub record Holds (ls : List Layout) (ts : List Ty) : Type 0 where
+  pub first : take (length ts) ls ≡ map valueOf ts
+  pub well-formed : (k : ℕ) (t : Ty) → getElem? ts k ≡ some t → everywhere isWellFormed t ≡ true
+
+-- what stands past the entries
+abbrev pub blankLayout : Layout
+blankLayout =
+    record { kind = 0; size = 0; align = 0; stride = 0; offset = 0; words = 0; opens = false; storable = false }
+
+-- "A table of 256 layouts": those of the types, and blanks past them; blank where the file is refused
+unfoldable pub layoutsOf : Said (List Ty) → List Layout
+layoutsOf (good ts) = map valueOf ts ++ replicate (256 - length ts) blankLayout
+layoutsOf (refused number place) = replicate 256 blankLayout
+
+-- the trailer of an accepted file
+unfoldable pub acceptedTrailer : List ℕ → Said wgsl.Trailer
+acceptedTrailer f = do
+  ts ← typesOf f
+  good (trailerOf f)
+
+abbrev pub saidChecked : Checked → Said wgsl.Trailer
+saidChecked (Types t) = good (trailerIs t)
+saidChecked (Refused r) = refused (numberOf r) (placeOf r)

@@ -1,0 +1,194 @@
+// A struct: its members one after the other.
+use crate::member::align_fits;
+use crate::member::align_given;
+use crate::member::is_allowed;
+use crate::member::rest_is_zero;
+use crate::member::size_fits;
+use crate::member::size_given;
+use file::fields::Entry;
+use file::fields::Member;
+use file::fields::member_at;
+use file::trailer::wide;
+use kinds::scalars::zeros;
+use kinds::value::Layout;
+use kinds::value::Made;
+use numbers::limit::Limited;
+use numbers::limit::round_up;
+use numbers::limit::sum;
+
+// Where the members so far end, and what they hold.
+pub struct Ends {
+    // 0 past a runtime array, which has no end
+    pub end: u32,
+    pub align: u32,
+    // of the runtime array, if that was the last
+    pub stride: u32,
+    pub offset: u32,
+    pub words: u32,
+    pub opens: bool,
+    pub storable: bool,
+}
+
+// What the members so far come to: "5 before 6 before 7".
+pub enum Run {
+    Placed(Ends),
+    Unfit,
+    TooLarge,
+}
+
+pub enum Stepped {
+    Next(Run),
+    Rule,
+}
+
+fn larger(a: u32, b: u32) -> u32 {
+    if a < b { b } else { a }
+}
+
+// One more member, whose size and align fit, after those that end as `p` says.
+fn place(p: Ends, l: Layout, m: Member) -> Run {
+    let mut align = l.align;
+    if align_given(m) {
+        align = m.align;
+    }
+    let mut size = l.size;
+    if size_given(m) {
+        size = m.size;
+    }
+    let Limited::Is(start) = round_up(align, p.end) else {
+        return Run::TooLarge;
+    };
+    let most = larger(p.align, align);
+    let storable = p.storable && l.storable;
+    if l.opens {
+        return Run::Placed(Ends {
+            end: 0,
+            align: most,
+            stride: l.stride,
+            offset: start,
+            words: p.words,
+            opens: true,
+            storable,
+        });
+    }
+    let Limited::Is(end) = sum(start, size) else {
+        return Run::TooLarge;
+    };
+    Run::Placed(Ends {
+        end,
+        align: most,
+        stride: 0,
+        offset: 0,
+        words: p.words + l.words,
+        opens: false,
+        storable,
+    })
+}
+
+// One more member.
+fn step(run: Run, l: Layout, m: Member, last: bool) -> Stepped {
+    if !rest_is_zero(m) {
+        return Stepped::Rule;
+    }
+    if !is_allowed(l, last) {
+        return Stepped::Rule;
+    }
+    if !size_fits(m, l) {
+        return Stepped::Next(Run::Unfit);
+    }
+    if !align_fits(m, l) {
+        return Stepped::Next(Run::Unfit);
+    }
+    match run {
+        Run::Placed(p) => Stepped::Next(place(p, l, m)),
+        Run::Unfit => Stepped::Next(Run::Unfit),
+        Run::TooLarge => Stepped::Next(Run::TooLarge),
+    }
+}
+
+// Past the last member.
+fn finish(run: Run) -> Made {
+    match run {
+        Run::Placed(p) => whole(p),
+        Run::Unfit => Made::Given,
+        Run::TooLarge => Made::Large,
+    }
+}
+
+// The struct whose members end as `p` says.
+fn whole(p: Ends) -> Made {
+    if p.opens {
+        return Made::Laid(Layout {
+            kind: 12,
+            size: 0,
+            align: p.align,
+            stride: p.stride,
+            offset: p.offset,
+            words: p.words,
+            opens: true,
+            storable: p.storable,
+        });
+    }
+    let Limited::Is(size) = round_up(p.align, p.end) else {
+        return Made::Large;
+    };
+    Made::Laid(Layout {
+        kind: 12,
+        size,
+        align: p.align,
+        stride: 0,
+        offset: 0,
+        words: p.words,
+        opens: false,
+        storable: p.storable,
+    })
+}
+
+// The members of a struct, `count` of them from byte `at` on, over the layouts of the `k` lower entries.
+fn run_members(f: &[u8], at: usize, ls: [Layout; 256], k: usize, count: usize) -> Made {
+    let mut run = Run::Placed(Ends {
+        end: 0,
+        align: 1,
+        stride: 0,
+        offset: 0,
+        words: 0,
+        opens: false,
+        storable: true,
+    });
+    let mut i: usize = 0;
+    while i < count {
+        let m = member_at(f, at + 12 * i);
+        let ty = wide(m.ty);
+        if k <= ty {
+            return Made::Rule;
+        }
+        let l = ls[ty];
+        let s = step(run, l, m, i + 1 == count);
+        match s {
+            Stepped::Next(r) => {
+                run = r;
+            }
+            Stepped::Rule => {
+                return Made::Rule;
+            }
+        }
+        i += 1;
+    }
+    finish(run)
+}
+
+// "12 struct: reference = first member, count = members, 1 to 1,024, all within M"
+pub fn struct_entry(f: &[u8], base: usize, members: usize, e: Entry, ls: [Layout; 256], k: usize) -> Made {
+    if !zeros(e.columns, e.rows, 0, 0) {
+        return Made::Rule;
+    }
+    let first = wide(e.reference);
+    let count = wide(e.count);
+    if count < 1 {
+        return Made::Rule;
+    }
+    if members < first + count {
+        return Made::Rule;
+    }
+    run_members(f, base + 12 * first, ls, k, count)
+}
