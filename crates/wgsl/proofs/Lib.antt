@@ -13,5 +13,7 @@ pub mod Word
 pub mod Tail
 pub mod Members
 pub mod Laid
+pub mod Entry
+pub mod Count
 pub mod Rank
 pub mod Case

@@ -68,12 +68,12 @@ sized-extent n t (some g) m w h = cc
 sized-extent n t none m w h = closed-extent n t (sized-closed t m w h) ∙ rw h
 
 -- what a member with a size takes is no less than its type's size
-record Sized (t : Ty) (size : Option ℕ) (own : ℕ) : Type 0 where
-  given : ℕ
-  given-is : givenOr size (sizeOf t) ≡ some given
-  not-below : own ≤ given
+pub record Sized (t : Ty) (size : Option ℕ) (own : ℕ) : Type 0 where
+  pub given : ℕ
+  pub given-is : givenOr size (sizeOf t) ≡ some given
+  pub not-below : own ≤ given
 
-sized : (t : Ty) (size : Option ℕ) (own : ℕ) → sizeOf t ≡ some own → givenSizeFits t size ≡ true → Sized t size own
+pub sized : (t : Ty) (size : Option ℕ) (own : ℕ) → sizeOf t ≡ some own → givenSizeFits t size ≡ true → Sized t size own
 unfolding givenSizeFits atLeast givenOr
 sized t (some g) own e f =
     let c = both-hold (not (isRuntime t)) (atLeast (sizeOf t) g) f in
@@ -116,50 +116,32 @@ unfoldable pub endOf : ℕ → ℕ → Members → ℕ
 endOf n lo no-more = lo
 endOf n lo (member t size align ms) = endOf n (up (present (givenOr align (alignOf t))) lo + memberExtent n t size) ms
 
--- a member's start and end, where they are present
-record Ends (end align size : Option ℕ) (hi : ℕ) : Type 0 where
-  before : ℕ
-  aligned : ℕ
-  taken : ℕ
-  before-is : end ≡ some before
-  align-is : align ≡ some aligned
-  size-is : size ≡ some taken
-  is : hi ≡ up aligned before + taken
+-- the align and the size of a member, and the end of those after it, where that is present
+pub record Next (lo : ℕ) (t : Ty) (size align : Option ℕ) (ms : Members) (z : ℕ) : Type 0 where
+  pub aligned : ℕ
+  pub taken : ℕ
+  pub align-is : givenOr align (alignOf t) ≡ some aligned
+  pub size-is : givenOr size (sizeOf t) ≡ some taken
+  pub rest : membersEnd (some (up aligned lo + taken)) ms ≡ some z
 
-ends : (end align size : Option ℕ) (hi : ℕ) → endAfter end align size ≡ some hi → Ends end align size hi
-unfolding endAfter startAfter
-ends end align size hi e =
-    let m = both-some _+_ (both up align end) size hi e in
-    let s = both-some up align end (m .left) (m .left-is) in
-    record {
-      before = s .right;
-      aligned = s .left;
-      taken = m .right;
-      before-is = s .right-is;
-      align-is = s .left-is;
-      size-is = m .right-is;
-      is = m .is ∙ ap (λ (i : ℕ). i + m .right) (s .is);
-    }
+pub next-member : (lo : ℕ) (t : Ty) (size align : Option ℕ) (ms : Members) (z : ℕ) → membersEnd (some lo) (member t size align ms) ≡ some z → Next lo t size align ms z
+unfolding membersEnd endAfter startAfter both
+next-member lo t size align ms z e = go (givenOr align (alignOf t)) (givenOr size (sizeOf t)) refl refl e
+  where
+    go : (al sz : Option ℕ) → givenOr align (alignOf t) ≡ al → givenOr size (sizeOf t) ≡ sz → membersEnd (both _+_ (both up al (some lo)) sz) ms ≡ some z → Next lo t size align ms z
+    go (some a) (some s) p q h = record { aligned = a; taken = s; align-is = p; size-is = q; rest = h }
+    go (some a) none p q h = some-not-none h (absent-end ms)
+    go none sz p q h = some-not-none h (absent-end ms)
 
 -- Where the end of the members is present, it is `endOf`.
 pub end-is : (n lo : ℕ) (ms : Members) (z : ℕ) → everyMember isWellFormed ms ≡ true → membersEnd (some lo) ms ≡ some z → endOf n lo ms ≡ z
-unfolding membersEnd endOf everyMember
+unfolding membersEnd endOf everyMember present
 end-is n lo no-more z w e = cc
 end-is n lo (member t size align ms) z w e =
     let well = both-hold (everywhere isWellFormed t) (everyMember isWellFormed ms) w in
-    go (endAfter (some lo) (givenOr align (alignOf t)) (givenOr size (sizeOf t))) refl (well .0)
-    (λ lo′ z′ h. end-is n lo′ ms z′ (well .1) h)
-  where
-    go : (end : Option ℕ) → endAfter (some lo) (givenOr align (alignOf t)) (givenOr size (sizeOf t)) ≡ end → everywhere isWellFormed t ≡ true → ((lo′ z′ : ℕ) → membersEnd (some lo′) ms ≡ some z′ → endOf n lo′ ms ≡ z′) → endOf n (up (present (givenOr align (alignOf t))) lo + memberExtent n t size) ms ≡ z
-    go (some lo′) q here next =
-        let m = ends (some lo) (givenOr align (alignOf t)) (givenOr size (sizeOf t)) lo′ q in
-        let b : m .before ≡ lo = cc (m .before-is) in
-        let a : present (givenOr align (alignOf t)) ≡ m .aligned = ap present (m .align-is) ∙ present-is (m .aligned) in
-        let s : memberExtent n t size ≡ m .taken = sized-extent n t size (m .taken) here (m .size-is) in
-        let l : up (present (givenOr align (alignOf t))) lo + memberExtent n t size ≡ lo′ = cc (m .is) in
-        ap (λ (i : ℕ). endOf n i ms) l ∙ next lo′ z (ap (λ (end : Option ℕ). membersEnd end ms) (sym q) ∙ e)
-    go none q here next =
-        some-not-none {A = ℕ} {a = z} (ap (λ (end : Option ℕ). membersEnd end ms) (sym q) ∙ e) (absent-end ms)
+    let x = next-member lo t size align ms z e in
+    rw (x .align-is, sized-extent n t size (x .taken) (well .0) (x .size-is))
+    (end-is n (up (x .aligned) lo + x .taken) ms z (well .1) (x .rest))
 
 -- The runtime array that ends a struct ends at `endOf`.
 pub tail-end : (n lo : ℕ) (ms : Members) (b : Bool) (before : Option Tail) (end : Option ℕ) → everyMember isWellFormed ms ≡ true → membersAllowed ms ≡ true → membersGivenFit ms ≡ true → (b ≡ true → TailEnds n before lo) → (isLast ms ≡ true) ⊎ (end ≡ some lo) → endsInRuntime b ms ≡ true → TailEnds n (membersTail before end ms) (endOf n lo ms)

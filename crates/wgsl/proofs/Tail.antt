@@ -96,7 +96,8 @@ runtime-size t (some g) e f =
     true-not-false e (not-true (isRuntime t) (both-hold (not (isRuntime t)) (atLeast (sizeOf t) g) f .0))
 runtime-size t none e f = refl
 
-runtime-unsized : (t : Ty) → isRuntime t ≡ true → sizeOf t ≡ none
+-- A runtime array has no size.
+pub runtime-unsized : (t : Ty) → isRuntime t ≡ true → sizeOf t ≡ none
 unfolding isRuntime sizeOf
 runtime-unsized (scalar s) e = true-not-false e refl
 runtime-unsized (vector n s) e = true-not-false e refl
