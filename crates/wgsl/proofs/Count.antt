@@ -1,19 +1,29 @@
 -- How many words a type has (specs/Place).
 --
--- In order: the words of a shape, wherever it lies; how they add up, type by type; a type that is not open has the same shape for every
--- number of elements; bounds.
+-- In order: the words of a shape, wherever it lies; how they add up, type by type; bounds.
 -- Assumes nothing.
-use Prim.Native.Nat.{ℕ, zero, suc, _+_, _*_, _≤_}
-use mathlib.Core.Bool.{Bool, true, false, not, _&&_}
-use mathlib.Core.List.{List, _++_}
+use Prim.Native.Nat.{ℕ, zero, suc, _+_, _*_, _<_, _≤_}
+use mathlib.Core.Bool.{true, false, not, _&&_}
+use mathlib.Core.List.{List}
 use mathlib.Core.Option.{Option, some}
-use mathlib.Core.Path.{_≡_, refl, sym, ap, _∙_}
+use mathlib.Core.Path.{_≡_, refl, ap, _∙_}
 use native.Mathlib.Omega.{arith}
-use native.Mathlib.Nat.{zero-mul, suc-mul, mul-one}
+use native.Mathlib.Nat.{zero-mul, suc-mul, mul-one, mul-left-comm, mul-le-mul-left, mul-pos}
+use borrow.Author.Tests.{leb-true, not-true}
+use lib.Dec.{leb}
 use lib.ListN.{length, length-append}
-use Rattle.wgsl.specs.Types.{Scalar, Ty, scalar, vector, matrix, array, runtime, atomic, struct, Members, no-more, member}
-use Rattle.wgsl.specs.Size.{givenOr, sizeOf, alignOf, endAfter}
-use Rattle.wgsl.specs.Place.{extentOf, Shape, one, parts, field, whole, column, shapeOf, fieldsOf, wordPlaces, repeated, placesOf, places, wordCount}
+use Rattle.wgsl.specs.Types.{Scalar, bool, i32, u32, f32, f16, abstractInt, abstractFloat, Ty, scalar, vector, matrix, array, runtime, atomic, struct, Members, no-more, member, endsInRuntime, isOpen, everywhere, everyMember}
+use Rattle.wgsl.specs.Size.{givenOr, present, widthOf, endAfter, sizeOf, alignOf}
+use Rattle.wgsl.specs.File.{between}
+use Rattle.wgsl.specs.Rule.{isMatrixScalar, countOf, membersAllowed, isAllowed, givenFits, isWellFormed, membersGivenFit}
+use Rattle.wgsl.specs.Place.{extentOf, Shape, one, parts, field, whole, column, shapeOf, fieldsOf, spanOf, wordPlaces, repeated, placesOf, places, wordCount}
+use Rattle.wgsl.proofs.Absent.{both-hold, between-true, true-not-false}
+use Rattle.wgsl.proofs.Align.{passed}
+use Rattle.wgsl.proofs.Shape.{From, Sound}
+use Rattle.wgsl.proofs.Tail.{sized-has, sized-takes}
+use Rattle.wgsl.proofs.Members.{first-member}
+use Rattle.wgsl.proofs.Closed.{member-open}
+use Rattle.wgsl.proofs.Laid.{laid}
 
 -- ---- the words of a shape
 
@@ -90,3 +100,77 @@ fields-words n z end (member t size align ms) =
 pub wordCount-struct : (n k : ℕ) (ms : Members) → wordCount n (struct k ms) ≡ membersWords n ms
 unfolding shapeOf
 wordCount-struct n k ms = count-words n (struct k ms) ∙ fields-words n (extentOf n (struct k ms)) (some 0) ms
+
+-- ---- bounds
+
+scalar-room : (s : Scalar) → 0 < present (widthOf s) → 2 ≤ present (widthOf s)
+unfolding present widthOf
+scalar-room bool h = omega arith
+scalar-room i32 h = omega arith
+scalar-room u32 h = omega arith
+scalar-room f32 h = omega arith
+scalar-room f16 h = omega arith
+scalar-room abstractInt h = omega arith
+scalar-room abstractFloat h = omega arith
+
+-- Each word of a sound shape takes at least 2 of its bytes.
+mutual
+  unfolding Sound From words spanOf
+
+  pub words-room : (x : Shape) → Sound x → 2 * words x ≤ spanOf x
+  words-room (one s) sound = scalar-room s sound
+  words-room (parts n stride x) sound =
+      let l : 2 * words x ≤ stride = omega (arith, words-room x (sound .0), sound .1) in
+      rw (mul-left-comm 2 n (words x)) (mul-le-mul-left n l)
+  words-room (field offset x rest) sound =
+      omega (arith, words-room x (sound .0), rest-room rest (offset + spanOf x) (sound .1) (sound .2))
+  words-room (whole z) sound = omega arith
+
+  rest-room : (x : Shape) (lo : ℕ) → Sound x → From x lo → lo + 2 * words x ≤ spanOf x
+  rest-room (one s) lo sound from = absurd from
+  rest-room (parts n stride x) lo sound from = absurd from
+  rest-room (field offset x rest) lo sound from =
+      omega (arith, words-room x (sound .0), rest-room rest (offset + spanOf x) (sound .1) (sound .2))
+  rest-room (whole z) lo sound from = omega arith
+
+-- Each word of a type of fixed size takes at least 2 of its bytes.
+pub words-bounded : (n : ℕ) (t : Ty) (a z : ℕ) → everywhere isWellFormed t ≡ true → alignOf t ≡ some a → sizeOf t ≡ some z → 2 * wordCount n t ≤ z
+words-bounded n t a z w e h =
+    let l = laid n t a w e (sized-has t z h) in
+    omega (arith, count-words n t, words-room (shapeOf n t) (l .sound), l .span, sized-takes n t z w h)
+
+mutual
+  unfolding everywhere isAllowed givenFits isOpen endsInRuntime shapeOf column fieldsOf words countOf
+
+  shape-positive : (n : ℕ) (t : Ty) → everywhere isWellFormed t ≡ true → (isOpen t ≡ true → 1 ≤ n) → 1 ≤ words (shapeOf n t)
+  shape-positive n (scalar s) w h = omega arith
+  shape-positive n (vector k s) w h =
+      mul-pos (omega (arith, between-true 2 4 k (passed (vector k s) w .allowed) .0)) (omega arith)
+  shape-positive n (matrix c r s) w h =
+      let ok = both-hold (between 2 4 c && between 2 4 r) (isMatrixScalar s) (passed (matrix c r s) w .allowed) in
+      let sides = both-hold (between 2 4 c) (between 2 4 r) (ok .0) in
+      mul-pos (omega (arith, between-true 2 4 c (sides .0) .0))
+      (mul-pos (omega (arith, between-true 2 4 r (sides .1) .0)) (omega arith))
+  shape-positive n (array k t) w h =
+      let below = both-hold (isWellFormed (array k t)) (everywhere isWellFormed t) w .1 in
+      let ok = both-hold (leb 1 k) (not (isOpen t)) (passed (array k t) w .allowed) in
+      mul-pos (leb-true 1 k (ok .0)) (shape-positive n t below (λ q. true-not-false q (not-true (isOpen t) (ok .1))))
+  shape-positive n (runtime t) w h =
+      let below = both-hold (isWellFormed (runtime t)) (everywhere isWellFormed t) w .1 in
+      mul-pos (h refl) (shape-positive n t below (λ q. h refl))
+  shape-positive n (atomic s) w h = omega arith
+  shape-positive n (struct k ms) w h =
+      let below = both-hold (isWellFormed (struct k ms)) (everyMember isWellFormed ms) w .1 in
+      let ok = both-hold (between 1 1024 (countOf ms)) (membersAllowed ms) (passed (struct k ms) w .allowed) in
+      let some-there = between-true 1 1024 (countOf ms) (ok .0) .0 in
+      fields-positive n (extentOf n (struct k ms)) (some 0) ms below (ok .1) (passed (struct k ms) w .given) some-there h
+
+  fields-positive : (n z : ℕ) (end : Option ℕ) (ms : Members) → everyMember isWellFormed ms ≡ true → membersAllowed ms ≡ true → membersGivenFit ms ≡ true → 1 ≤ countOf ms → (endsInRuntime false ms ≡ true → 1 ≤ n) → 1 ≤ words (fieldsOf n z end ms)
+  fields-positive n z end no-more w ok g c h = absurd (omega arith)
+  fields-positive n z end (member t size align ms) w ok g c h =
+      let m = first-member t size align ms w ok g in
+      omega (arith, shape-positive n t (m .well) (λ q. h (member-open t size align ms m q)))
+
+-- A type has at least one word, if an open one holds an element.
+pub words-positive : (n : ℕ) (t : Ty) → everywhere isWellFormed t ≡ true → (isOpen t ≡ true → 1 ≤ n) → 1 ≤ wordCount n t
+words-positive n t w h = rw (count-words n t) (shape-positive n t w h)

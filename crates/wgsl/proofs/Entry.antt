@@ -2,20 +2,20 @@
 --
 -- In order: the limit; alignments; sizes.
 -- Assumes nothing.
-use Prim.Native.Nat.{ℕ, suc, _+_, _*_, _^_, _<_, _≤_}
+use Prim.Native.Nat.{ℕ, _+_, _*_, _^_, _<_, _≤_}
 use mathlib.Core.Bool.{true, not, _&&_}
 use mathlib.Core.List.{List, [], _∷_, List·Memᴰ, List·Memᴰ·head, List·Memᴰ·tail, List·Memᴰ·cases-cons, List·Memᴰ·not-nil}
 use mathlib.Core.Logic.{⊎-elim}
 use mathlib.Core.Option.{Option, none, some}
 use mathlib.Core.Path.{_≡_, refl, ap, _∙_}
 use native.Mathlib.Omega.{arith}
-use native.Mathlib.Nat.{mul-le-mul-right, mul-le-mul-left}
+use native.Mathlib.Nat.{mul-le-mul-right}
 use borrow.Author.Tests.{leb-true}
 use lib.Dec.{leb}
 use lib.ListN.{getElem?}
 use Rattle.wgsl.specs.Round.{up, IsPower, limit, withinLimit}
 use Rattle.wgsl.specs.Types.{Scalar, Ty, scalar, vector, matrix, array, runtime, atomic, struct, Members, no-more, member, isRuntime, isOpen, everywhere, everyMember}
-use Rattle.wgsl.specs.Size.{both, givenOr, isPresent, widthOf, vectorSize, vectorAlign, sizeOf, alignOf, membersAlign, membersEnd, numbersOf, withinLimits, fitsLimit}
+use Rattle.wgsl.specs.Size.{both, givenOr, isPresent, widthOf, vectorSize, vectorAlign, sizeOf, alignOf, membersAlign, membersEnd, strideOf, numbersOf, withinLimits, fitsLimit}
 use Rattle.wgsl.specs.Said.{good}
 use Rattle.wgsl.specs.File.{between}
 use Rattle.wgsl.specs.Rule.{isMatrixScalar, isLast, countOf, membersAllowed, isAllowed, givenFits, isWellFormed, membersGivenFit, typesOf}
@@ -25,7 +25,7 @@ use Rattle.wgsl.proofs.Power.{power-positive, power-bounded}
 use Rattle.wgsl.proofs.Align.{width-power, vector-align, member-aligned, passed, align-power, members-power}
 use Rattle.wgsl.proofs.Accepted.{accepted-well-formed}
 use Rattle.wgsl.proofs.Tail.{runtime-size, runtime-unsized}
-use Rattle.wgsl.proofs.Members.{Member, first-member, sized, next-member}
+use Rattle.wgsl.proofs.Members.{first-member, sized, next-member}
 
 -- ---- the limit
 
@@ -91,7 +91,8 @@ column-positive r s a b e =
 up-positive : (t : Ty) (y : ℕ) → everywhere isWellFormed t ≡ true → ((z : ℕ) → sizeOf t ≡ some z → 2 ≤ z) → both up (alignOf t) (sizeOf t) ≡ some y → 2 ≤ y
 up-positive t y w h e =
     let m = both-some up (alignOf t) (sizeOf t) y e in
-    omega (arith, m .is, h (m .right) (m .right-is), up-not-below (m .left) (m .right) (align-positive t (m .left) w (m .left-is)))
+    let pos = align-positive t (m .left) w (m .left-is) in
+    omega (arith, m .is, h (m .right) (m .right-is), up-not-below (m .left) (m .right) pos)
 
 mutual
   unfolding everywhere isAllowed givenFits sizeOf membersEnd vectorSize countOf givenOr
@@ -128,7 +129,7 @@ mutual
   members-end lo (member t size align ms) z w ok g e =
       let m = first-member t size align ms w ok g in
       let x = next-member lo t size align ms z e in
-      let p = member-aligned t align (x .aligned) (λ own h. align-power t own (m .well) h) (m .align-fits) (x .align-is) .is-power in
+      let p = member-aligned t align (x .aligned) (λ own h. align-power t own (m .well) h) (m .align-fits) (x .align-is) in
       let room : 2 ≤ x .taken =
       ⊎-elim
       (λ (q : isPresent (sizeOf t) ≡ true).
@@ -137,6 +138,12 @@ mutual
       let same : s .given ≡ x .taken = cc (s .given-is, x .size-is) in
       omega (arith, s .not-below, size-positive t (o .0) (m .well) (o .1)))
       (λ (q : (isLast ms ≡ true) × (isRuntime t ≡ true)).
-      some-not-none (x .size-is) (ap (λ (o : Option ℕ). givenOr o (sizeOf t)) (runtime-size t size (q .1) (m .size-fits)) ∙ runtime-unsized t (q .1)))
+      some-not-none (x .size-is) (rw (runtime-size t size (q .1) (m .size-fits), runtime-unsized t (q .1))))
       (m .sized-or-last) in
-      omega (arith, up-not-below (x .aligned) lo (power-positive p), members-end (up (x .aligned) lo + x .taken) ms z (m .rest-well) (m .rest-allowed) (m .rest-fits) (x .rest))
+      let after = up-not-below (x .aligned) lo (power-positive (p .is-power)) in
+      omega (arith, after, members-end (up (x .aligned) lo + x .taken) ms z (m .rest-well) (m .rest-allowed) (m .rest-fits) (x .rest))
+
+-- Every stride of an array of a well-formed type is at least 2.
+pub stride-positive : (t : Ty) (y : ℕ) → everywhere isWellFormed t ≡ true → strideOf t ≡ some y → 2 ≤ y
+unfolding strideOf
+stride-positive t y w e = up-positive t y w (λ z h. size-positive t z w h) e

@@ -13,7 +13,9 @@ pub mod Word
 pub mod Tail
 pub mod Members
 pub mod Laid
+pub mod Closed
 pub mod Entry
 pub mod Count
+pub mod Index
 pub mod Rank
 pub mod Case
