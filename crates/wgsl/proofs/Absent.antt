@@ -1,7 +1,7 @@
 -- Tests that hold; numbers that may be absent (specs/Size).
 --
--- In order: tests joined by `&&` and `||`; the test for a range; no test holds and fails; a number that is present; a number made from two;
--- one given or the type's own.
+-- In order: tests joined by `&&` and `||`; the test for a range; no test holds and fails; a number that is present; a number made from
+-- two; one given or the type's own.
 -- Assumes nothing.
 use Prim.Native.Nat.{ℕ, _≤_}
 use mathlib.Core.Bool.{Bool, true, false, _&&_, _||_, and-eq-true-iff}
@@ -34,6 +34,7 @@ between-true low high n e =
     let h = both-hold (leb low n) (leb n high) e in
     (leb-true low n (h .0), leb-true n high (h .1))
 
+-- No test holds and fails, and nothing is there and absent.
 pub true-not-false : {A : Type 0} {b : Bool} → b ≡ true → b ≡ false → A
 true-not-false e f = let z : _≡_ {A = ℕ} 0 1 = cc in absurd (omega arith)
 

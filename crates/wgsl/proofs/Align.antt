@@ -1,6 +1,6 @@
 -- Laws of alignments (specs/Size): every alignment of a well-formed type is a power of two.
 --
--- In order: scalars; vectors; a member's align; what a well-formed type has passed; every type.
+-- In order: scalars; vectors; a member's align; every type.
 -- Assumes nothing.
 use Prim.Native.Nat.{ℕ, _*_, _%_, _≤_, max}
 use mathlib.Core.Bool.{Bool, true, false, _&&_, cond}
@@ -15,10 +15,11 @@ use lib.Arith.{lt-of-le-ne}
 use lib.Dec.{eqb}
 use Rattle.wgsl.specs.Round.{IsPower, isPower}
 use Rattle.wgsl.specs.Types.{Scalar, bool, i32, u32, f32, f16, abstractInt, abstractFloat, Ty, scalar, vector, matrix, array, runtime, atomic, struct, Members, no-more, member, everywhere, everyMember}
-use Rattle.wgsl.specs.Size.{both, givenOr, widthOf, vec3Align, vectorSize, vectorAlign, alignOf, membersAlign, fitsLimit}
+use Rattle.wgsl.specs.Size.{both, givenOr, widthOf, vec3Align, vectorSize, vectorAlign, alignOf, membersAlign}
 use Rattle.wgsl.specs.File.{between}
-use Rattle.wgsl.specs.Rule.{isMatrixScalar, isAtomicScalar, isAllowed, givenFits, isWellFormed, membersGivenFit, givenAlignFits, givenSizeFits, isMultiple}
+use Rattle.wgsl.specs.Rule.{isAtomicScalar, isAllowed, isWellFormed, membersGivenFit, givenAlignFits, givenSizeFits, isMultiple}
 use Rattle.wgsl.proofs.Absent.{both-hold, between-true, true-not-false, both-some, some-not-none}
+use Rattle.wgsl.proofs.Passed.{passed, matrix-passed, array-passed, runtime-passed, struct-passed}
 use Rattle.wgsl.proofs.Power.{power-tested, power, power-double, power-four, power-max}
 
 -- ---- scalars
@@ -136,53 +137,23 @@ member-aligned t (some g) a p f h =
 member-aligned t none a p f h =
     record { is-power = p a h; multiple = λ own e. let q : own ≡ a = cc in rw q (mod-self a) }
 
--- ---- what a well-formed type has passed
-
--- neither 5 nor 6 nor 7 refuses the type
-pub record Passed (t : Ty) : Type 0 where
-  pub allowed : isAllowed t ≡ true
-  pub given : givenFits t ≡ true
-  pub fits : fitsLimit t ≡ true
-
-pub well-formed : (t : Ty) → isWellFormed t ≡ true → Passed t
-unfolding isWellFormed
-well-formed t e =
-    let c = both-hold (isAllowed t && givenFits t) (fitsLimit t) e in
-    let d = both-hold (isAllowed t) (givenFits t) (c .0) in
-    record { allowed = d .0; given = d .1; fits = c .1 }
-
--- A type that is well formed everywhere is well formed itself.
-pub everywhere-here : (p : Ty → Bool) (t : Ty) → everywhere p t ≡ true → p t ≡ true
-unfolding everywhere
-everywhere-here p (scalar s) e = e
-everywhere-here p (vector n s) e = e
-everywhere-here p (matrix c r s) e = e
-everywhere-here p (array n t) e = both-hold (p (array n t)) (everywhere p t) e .0
-everywhere-here p (runtime t) e = both-hold (p (runtime t)) (everywhere p t) e .0
-everywhere-here p (atomic s) e = e
-everywhere-here p (struct k ms) e = both-hold (p (struct k ms)) (everyMember p ms) e .0
-
-pub passed : (t : Ty) → everywhere isWellFormed t ≡ true → Passed t
-passed t e = well-formed t (everywhere-here isWellFormed t e)
-
 -- ---- every type
 
 mutual
-  unfolding everywhere everyMember isAllowed givenFits membersGivenFit alignOf membersAlign
+  unfolding everyMember isAllowed membersGivenFit membersAlign
 
   -- Every alignment of a well-formed type is a power of two.
   pub align-power : (t : Ty) (a : ℕ) → everywhere isWellFormed t ≡ true → alignOf t ≡ some a → IsPower a
   align-power (scalar s) a w e = width-power s a e .is-power
   align-power (vector n s) a w e = vector-align n s a (passed (vector n s) w .allowed) e .is-power
   align-power (matrix c r s) a w e =
-      let h = both-hold (between 2 4 c && between 2 4 r) (isMatrixScalar s) (passed (matrix c r s) w .allowed) in
-      vector-align r s a (both-hold (between 2 4 c) (between 2 4 r) (h .0) .1) e .is-power
-  align-power (array n t) a w e = align-power t a (both-hold (isWellFormed (array n t)) (everywhere isWellFormed t) w .1) e
-  align-power (runtime t) a w e = align-power t a (both-hold (isWellFormed (runtime t)) (everywhere isWellFormed t) w .1) e
+      vector-align r s a (matrix-passed c r s w .1) e .is-power
+  align-power (array n t) a w e = align-power t a (array-passed n t w .below) e
+  align-power (runtime t) a w e = align-power t a (runtime-passed t w .below) e
   align-power (atomic s) a w e = let q : 4 ≡ a = cc in rw (← q) (power 2)
   align-power (struct k ms) a w e =
-      members-power ms a (both-hold (isWellFormed (struct k ms)) (everyMember isWellFormed ms) w .1)
-      (passed (struct k ms) w .given) e
+      let p = struct-passed k ms w in
+      members-power ms a (p .below) (p .given) e
 
   pub members-power : (ms : Members) (a : ℕ) → everyMember isWellFormed ms ≡ true → membersGivenFit ms ≡ true → membersAlign ms ≡ some a → IsPower a
   members-power no-more a w g e = let q : 1 ≡ a = cc in rw (← q) (power 0)

@@ -3,19 +3,16 @@
 -- In order: a member that is open ends its struct; every type.
 -- Assumes nothing.
 use Prim.Native.Nat.{ℕ}
-use mathlib.Core.Bool.{Bool, true, false, not}
+use mathlib.Core.Bool.{Bool, true, false}
 use mathlib.Core.Logic.{⊎-elim}
 use mathlib.Core.Option.{Option, some}
 use mathlib.Core.Path.{_≡_, refl, ap, _∙_}
-use borrow.Author.Tests.{not-true}
-use lib.Dec.{leb}
 use Rattle.wgsl.specs.Types.{Ty, scalar, vector, matrix, array, runtime, atomic, struct, Members, no-more, member, isRuntime, endsInRuntime, isOpen, everywhere, everyMember}
 use Rattle.wgsl.specs.Size.{givenOr, isPresent, present, endAfter, sizeOf, alignOf, strideOf}
-use Rattle.wgsl.specs.File.{between}
-use Rattle.wgsl.specs.Rule.{isLast, countOf, membersAllowed, isAllowed, givenFits, isWellFormed, membersGivenFit}
+use Rattle.wgsl.specs.Rule.{isLast, membersAllowed, isWellFormed, membersGivenFit}
 use Rattle.wgsl.specs.Place.{parts, shapeOf, fieldsOf}
-use Rattle.wgsl.proofs.Absent.{both-hold, true-not-false, present-some}
-use Rattle.wgsl.proofs.Align.{passed}
+use Rattle.wgsl.proofs.Absent.{true-not-false, present-some}
+use Rattle.wgsl.proofs.Passed.{array-passed, struct-passed}
 use Rattle.wgsl.proofs.Tail.{closed-extent, sized-closed}
 use Rattle.wgsl.proofs.Members.{Member, first-member}
 
@@ -38,7 +35,7 @@ contrary true h e = true-not-false (h refl) e
 contrary false h e = refl
 
 mutual
-  unfolding everywhere isAllowed givenFits isOpen endsInRuntime shapeOf fieldsOf
+  unfolding isOpen endsInRuntime fieldsOf
 
   -- The shape of a type that is not open depends on no number of elements.
   pub closed-shape : (t : Ty) → everywhere isWellFormed t ≡ true → isOpen t ≡ false → (m n : ℕ) → shapeOf m t ≡ shapeOf n t
@@ -46,16 +43,14 @@ mutual
   closed-shape (vector k s) w e m n = refl
   closed-shape (matrix c r s) w e m n = refl
   closed-shape (array k t) w e m n =
-      let below = both-hold (isWellFormed (array k t)) (everywhere isWellFormed t) w .1 in
-      let shut = not-true (isOpen t) (both-hold (leb 1 k) (not (isOpen t)) (passed (array k t) w .allowed) .1) in
-      ap (parts k (present (strideOf t))) (closed-shape t below shut m n)
+      let p = array-passed k t w in
+      ap (parts k (present (strideOf t))) (closed-shape t (p .below) (p .closed) m n)
   closed-shape (runtime t) w e m n = true-not-false refl e
   closed-shape (atomic s) w e m n = refl
   closed-shape (struct k ms) w e m n =
-      let below = both-hold (isWellFormed (struct k ms)) (everyMember isWellFormed ms) w .1 in
-      let ok = both-hold (between 1 1024 (countOf ms)) (membersAllowed ms) (passed (struct k ms) w .allowed) .1 in
+      let p = struct-passed k ms w in
       rw (closed-extent m (struct k ms) e, closed-extent n (struct k ms) e)
-      (closed-fields ms false below ok (passed (struct k ms) w .given) e m n (present (sizeOf (struct k ms))) (some 0))
+      (closed-fields ms false (p .below) (p .allowed) (p .given) e m n (present (sizeOf (struct k ms))) (some 0))
 
   closed-fields : (ms : Members) (b : Bool) → everyMember isWellFormed ms ≡ true → membersAllowed ms ≡ true → membersGivenFit ms ≡ true → endsInRuntime b ms ≡ false → (m n z : ℕ) (end : Option ℕ) → fieldsOf m z end ms ≡ fieldsOf n z end ms
   closed-fields no-more b w ok g e m n z end = refl

@@ -3,22 +3,19 @@
 -- In order: the words of a shape, wherever it lies; how they add up, type by type; bounds.
 -- Assumes nothing.
 use Prim.Native.Nat.{ℕ, zero, suc, _+_, _*_, _<_, _≤_}
-use mathlib.Core.Bool.{true, false, not, _&&_}
+use mathlib.Core.Bool.{true, false}
 use mathlib.Core.List.{List}
 use mathlib.Core.Option.{Option, some}
 use mathlib.Core.Path.{_≡_, refl, ap, _∙_}
 use native.Mathlib.Omega.{arith}
 use native.Mathlib.Nat.{zero-mul, suc-mul, mul-one, mul-left-comm, mul-le-mul-left, mul-pos}
-use borrow.Author.Tests.{leb-true, not-true}
-use lib.Dec.{leb}
 use lib.ListN.{length, length-append}
 use Rattle.wgsl.specs.Types.{Scalar, bool, i32, u32, f32, f16, abstractInt, abstractFloat, Ty, scalar, vector, matrix, array, runtime, atomic, struct, Members, no-more, member, endsInRuntime, isOpen, everywhere, everyMember}
 use Rattle.wgsl.specs.Size.{givenOr, present, widthOf, endAfter, sizeOf, alignOf}
-use Rattle.wgsl.specs.File.{between}
-use Rattle.wgsl.specs.Rule.{isMatrixScalar, countOf, membersAllowed, isAllowed, givenFits, isWellFormed, membersGivenFit}
+use Rattle.wgsl.specs.Rule.{countOf, membersAllowed, isAllowed, isWellFormed, membersGivenFit}
 use Rattle.wgsl.specs.Place.{extentOf, Shape, one, parts, field, whole, column, shapeOf, fieldsOf, spanOf, wordPlaces, repeated, placesOf, places, wordCount}
-use Rattle.wgsl.proofs.Absent.{both-hold, between-true, true-not-false}
-use Rattle.wgsl.proofs.Align.{passed}
+use Rattle.wgsl.proofs.Absent.{between-true, true-not-false}
+use Rattle.wgsl.proofs.Passed.{passed, matrix-passed, array-passed, runtime-passed, struct-passed}
 use Rattle.wgsl.proofs.Shape.{From, Sound}
 use Rattle.wgsl.proofs.Tail.{sized-has, sized-takes}
 use Rattle.wgsl.proofs.Members.{first-member}
@@ -140,30 +137,25 @@ words-bounded n t a z w e h =
     omega (arith, count-words n t, words-room (shapeOf n t) (l .sound), l .span, sized-takes n t z w h)
 
 mutual
-  unfolding everywhere isAllowed givenFits isOpen endsInRuntime shapeOf column fieldsOf words countOf
+  unfolding isAllowed isOpen endsInRuntime column fieldsOf words countOf
 
   shape-positive : (n : ℕ) (t : Ty) → everywhere isWellFormed t ≡ true → (isOpen t ≡ true → 1 ≤ n) → 1 ≤ words (shapeOf n t)
   shape-positive n (scalar s) w h = omega arith
   shape-positive n (vector k s) w h =
       mul-pos (omega (arith, between-true 2 4 k (passed (vector k s) w .allowed) .0)) (omega arith)
   shape-positive n (matrix c r s) w h =
-      let ok = both-hold (between 2 4 c && between 2 4 r) (isMatrixScalar s) (passed (matrix c r s) w .allowed) in
-      let sides = both-hold (between 2 4 c) (between 2 4 r) (ok .0) in
+      let sides = matrix-passed c r s w in
       mul-pos (omega (arith, between-true 2 4 c (sides .0) .0))
       (mul-pos (omega (arith, between-true 2 4 r (sides .1) .0)) (omega arith))
   shape-positive n (array k t) w h =
-      let below = both-hold (isWellFormed (array k t)) (everywhere isWellFormed t) w .1 in
-      let ok = both-hold (leb 1 k) (not (isOpen t)) (passed (array k t) w .allowed) in
-      mul-pos (leb-true 1 k (ok .0)) (shape-positive n t below (λ q. true-not-false q (not-true (isOpen t) (ok .1))))
+      let p = array-passed k t w in
+      mul-pos (p .count) (shape-positive n t (p .below) (λ q. true-not-false q (p .closed)))
   shape-positive n (runtime t) w h =
-      let below = both-hold (isWellFormed (runtime t)) (everywhere isWellFormed t) w .1 in
-      mul-pos (h refl) (shape-positive n t below (λ q. h refl))
+      mul-pos (h refl) (shape-positive n t (runtime-passed t w .below) (λ q. h refl))
   shape-positive n (atomic s) w h = omega arith
   shape-positive n (struct k ms) w h =
-      let below = both-hold (isWellFormed (struct k ms)) (everyMember isWellFormed ms) w .1 in
-      let ok = both-hold (between 1 1024 (countOf ms)) (membersAllowed ms) (passed (struct k ms) w .allowed) in
-      let some-there = between-true 1 1024 (countOf ms) (ok .0) .0 in
-      fields-positive n (extentOf n (struct k ms)) (some 0) ms below (ok .1) (passed (struct k ms) w .given) some-there h
+      let p = struct-passed k ms w in
+      fields-positive n (extentOf n (struct k ms)) (some 0) ms (p .below) (p .allowed) (p .given) (p .some-there) h
 
   fields-positive : (n z : ℕ) (end : Option ℕ) (ms : Members) → everyMember isWellFormed ms ≡ true → membersAllowed ms ≡ true → membersGivenFit ms ≡ true → 1 ≤ countOf ms → (endsInRuntime false ms ≡ true → 1 ≤ n) → 1 ≤ words (fieldsOf n z end ms)
   fields-positive n z end no-more w ok g c h = absurd (omega arith)

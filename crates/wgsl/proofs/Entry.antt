@@ -3,26 +3,27 @@
 -- In order: the limit; alignments; sizes.
 -- Assumes nothing.
 use Prim.Native.Nat.{ℕ, _+_, _*_, _^_, _<_, _≤_}
-use mathlib.Core.Bool.{true, not, _&&_}
+use mathlib.Core.Bool.{true}
 use mathlib.Core.List.{List, [], _∷_, List·Memᴰ, List·Memᴰ·head, List·Memᴰ·tail, List·Memᴰ·cases-cons, List·Memᴰ·not-nil}
 use mathlib.Core.Logic.{⊎-elim}
 use mathlib.Core.Option.{Option, none, some}
-use mathlib.Core.Path.{_≡_, refl, ap, _∙_}
+use mathlib.Core.Path.{_≡_, refl}
 use native.Mathlib.Omega.{arith}
 use native.Mathlib.Nat.{mul-le-mul-right}
 use borrow.Author.Tests.{leb-true}
 use lib.Dec.{leb}
 use lib.ListN.{getElem?}
 use Rattle.wgsl.specs.Round.{up, IsPower, limit, withinLimit}
-use Rattle.wgsl.specs.Types.{Scalar, Ty, scalar, vector, matrix, array, runtime, atomic, struct, Members, no-more, member, isRuntime, isOpen, everywhere, everyMember}
+use Rattle.wgsl.specs.Types.{Scalar, Ty, scalar, vector, matrix, array, runtime, atomic, struct, Members, no-more, member, isRuntime, everywhere, everyMember}
 use Rattle.wgsl.specs.Size.{both, givenOr, isPresent, widthOf, vectorSize, vectorAlign, sizeOf, alignOf, membersAlign, membersEnd, strideOf, numbersOf, withinLimits, fitsLimit}
 use Rattle.wgsl.specs.Said.{good}
 use Rattle.wgsl.specs.File.{between}
-use Rattle.wgsl.specs.Rule.{isMatrixScalar, isLast, countOf, membersAllowed, isAllowed, givenFits, isWellFormed, membersGivenFit, typesOf}
+use Rattle.wgsl.specs.Rule.{isLast, countOf, membersAllowed, isAllowed, isWellFormed, membersGivenFit, typesOf}
 use Rattle.wgsl.proofs.Round.{up-not-below}
 use Rattle.wgsl.proofs.Absent.{both-hold, between-true, some-not-none, present-some, both-some}
 use Rattle.wgsl.proofs.Power.{power-positive, power-bounded}
-use Rattle.wgsl.proofs.Align.{width-power, vector-align, member-aligned, passed, align-power, members-power}
+use Rattle.wgsl.proofs.Passed.{passed, matrix-passed, array-passed, struct-passed}
+use Rattle.wgsl.proofs.Align.{width-power, vector-align, member-aligned, align-power, members-power}
 use Rattle.wgsl.proofs.Accepted.{accepted-well-formed}
 use Rattle.wgsl.proofs.Tail.{runtime-size, runtime-unsized}
 use Rattle.wgsl.proofs.Members.{first-member, sized, next-member}
@@ -95,7 +96,7 @@ up-positive t y w h e =
     omega (arith, m .is, h (m .right) (m .right-is), up-not-below (m .left) (m .right) pos)
 
 mutual
-  unfolding everywhere isAllowed givenFits sizeOf membersEnd vectorSize countOf givenOr
+  unfolding isAllowed membersEnd vectorSize countOf givenOr
 
   -- Every size of a well-formed type is at least 2.
   pub size-positive : (t : Ty) (z : ℕ) → everywhere isWellFormed t ≡ true → sizeOf t ≡ some z → 2 ≤ z
@@ -104,24 +105,21 @@ mutual
       let l : 1 ≤ k = omega (arith, between-true 2 4 k (passed (vector k s) w .allowed) .0) in
       times k (widthOf s) z l (λ y h. width-power s y h .low) e
   size-positive (matrix c r s) z w e =
-      let ok = both-hold (between 2 4 c && between 2 4 r) (isMatrixScalar s) (passed (matrix c r s) w .allowed) in
-      let sides = both-hold (between 2 4 c) (between 2 4 r) (ok .0) in
+      let sides = matrix-passed c r s w in
       let l : 1 ≤ c = omega (arith, between-true 2 4 c (sides .0) .0) in
       times c (vectorAlign r s) z l (λ y h. column-positive r s y (sides .1) h) e
   size-positive (array k t) z w e =
-      let below = both-hold (isWellFormed (array k t)) (everywhere isWellFormed t) w .1 in
-      let l = leb-true 1 k (both-hold (leb 1 k) (not (isOpen t)) (passed (array k t) w .allowed) .0) in
-      times k (both up (alignOf t) (sizeOf t)) z l (λ y h. up-positive t y below (λ x q. size-positive t x below q) h) e
+      let p = array-passed k t w in
+      times k (both up (alignOf t) (sizeOf t)) z (p .count)
+      (λ y h. up-positive t y (p .below) (λ x q. size-positive t x (p .below) q) h) e
   size-positive (runtime t) z w e = some-not-none e refl
   size-positive (atomic s) z w e = let q : 4 ≡ z = cc in omega arith
   size-positive (struct k ms) z w e =
-      let below = both-hold (isWellFormed (struct k ms)) (everyMember isWellFormed ms) w .1 in
-      let ok = both-hold (between 1 1024 (countOf ms)) (membersAllowed ms) (passed (struct k ms) w .allowed) in
-      let given = passed (struct k ms) w .given in
+      let p = struct-passed k ms w in
       let m = both-some up (membersAlign ms) (membersEnd (some 0) ms) z e in
-      let pos : 0 < m .left = power-positive (members-power ms (m .left) below given (m .left-is)) in
-      let end = members-end 0 ms (m .right) below (ok .1) given (m .right-is) in
-      omega (arith, m .is, end, between-true 1 1024 (countOf ms) (ok .0) .0, up-not-below (m .left) (m .right) pos)
+      let pos : 0 < m .left = power-positive (members-power ms (m .left) (p .below) (p .given) (m .left-is)) in
+      let end = members-end 0 ms (m .right) (p .below) (p .allowed) (p .given) (m .right-is) in
+      omega (arith, m .is, end, p .some-there, up-not-below (m .left) (m .right) pos)
 
   -- Each member takes at least 2 bytes.
   pub members-end : (lo : ℕ) (ms : Members) (z : ℕ) → everyMember isWellFormed ms ≡ true → membersAllowed ms ≡ true → membersGivenFit ms ≡ true → membersEnd (some lo) ms ≡ some z → lo + 2 * countOf ms ≤ z
@@ -141,7 +139,8 @@ mutual
       some-not-none (x .size-is) (rw (runtime-size t size (q .1) (m .size-fits), runtime-unsized t (q .1))))
       (m .sized-or-last) in
       let after = up-not-below (x .aligned) lo (power-positive (p .is-power)) in
-      omega (arith, after, members-end (up (x .aligned) lo + x .taken) ms z (m .rest-well) (m .rest-allowed) (m .rest-fits) (x .rest))
+      let rest = members-end (up (x .aligned) lo + x .taken) ms z (m .rest-well) (m .rest-allowed) (m .rest-fits) (x .rest) in
+      omega (arith, after, rest)
 
 -- Every stride of an array of a well-formed type is at least 2.
 pub stride-positive : (t : Ty) (y : ℕ) → everywhere isWellFormed t ≡ true → strideOf t ≡ some y → 2 ≤ y

@@ -3,7 +3,7 @@
 -- In order: members; arrays; every type.
 -- Assumes nothing.
 use Prim.Native.Nat.{ℕ, suc, _*_, _^_, _≤_}
-use mathlib.Core.Bool.{Bool, true, false, not, _&&_, _||_}
+use mathlib.Core.Bool.{Bool, true, false, _||_}
 use mathlib.Core.Option.{Option, some}
 use mathlib.Core.Path.{_≡_, refl, ap}
 use native.Mathlib.Omega.{arith}
@@ -11,13 +11,12 @@ use native.Mathlib.Nat.{mul-le-mul-left}
 use Rattle.wgsl.specs.Round.{up, limit}
 use Rattle.wgsl.specs.Types.{Ty, scalar, vector, matrix, array, runtime, atomic, struct, Members, no-more, member, isRuntime, endsInRuntime, isOpen, everywhere, everyMember}
 use Rattle.wgsl.specs.Size.{both, givenOr, isPresent, endAfter, sizeOf, alignOf, strideOf}
-use Rattle.wgsl.specs.File.{between}
-use Rattle.wgsl.specs.Rule.{isMatrixScalar, countOf, membersAllowed, isAllowed, givenFits, isWellFormed, membersGivenFit}
+use Rattle.wgsl.specs.Rule.{countOf, membersAllowed, isAllowed, isWellFormed, membersGivenFit}
 use Rattle.wgsl.specs.Place.{extentOf, column, shapeOf, fieldsOf}
-use Rattle.wgsl.proofs.Absent.{both-hold, between-true, true-not-false, present-some, both-some}
-use Rattle.wgsl.proofs.Align.{passed}
+use Rattle.wgsl.proofs.Absent.{between-true, true-not-false, present-some, both-some}
+use Rattle.wgsl.proofs.Passed.{passed, matrix-passed, array-passed, runtime-passed, struct-passed}
 use Rattle.wgsl.proofs.Step.{members-left, Small}
-use Rattle.wgsl.proofs.Tail.{sized-closed, sized-has}
+use Rattle.wgsl.proofs.Tail.{sized-has}
 use Rattle.wgsl.proofs.Members.{first-member, member-has}
 use Rattle.wgsl.proofs.Closed.{member-open}
 use Rattle.wgsl.proofs.Entry.{size-limit, stride-positive}
@@ -48,31 +47,26 @@ counted k t w below h =
     record { own = inner .right; own-is = inner .right-is; small = omega (arith, mul-le-mul-left k wide) }
 
 mutual
-  unfolding everywhere isAllowed givenFits isOpen endsInRuntime shapeOf column fieldsOf countOf Small
+  unfolding isAllowed isOpen endsInRuntime column fieldsOf countOf Small
 
   -- A well-formed type with a layout has counts of at most 2 ^ 31, if an open one holds no more elements.
   pub entry-small : (n : ℕ) (t : Ty) → everywhere isWellFormed t ≡ true → (isOpen t || isPresent (sizeOf t)) ≡ true → (isOpen t ≡ true → n ≤ 2 ^ 31) → Small (2 ^ 31) (shapeOf n t)
   entry-small n (scalar s) w l h = tt
   entry-small n (vector k s) w l h = (omega (arith, between-true 2 4 k (passed (vector k s) w .allowed) .1), tt)
   entry-small n (matrix c r s) w l h =
-      let ok = both-hold (between 2 4 c && between 2 4 r) (isMatrixScalar s) (passed (matrix c r s) w .allowed) in
-      let sides = both-hold (between 2 4 c) (between 2 4 r) (ok .0) in
+      let sides = matrix-passed c r s w in
       (omega (arith, between-true 2 4 c (sides .0) .1), (omega (arith, between-true 2 4 r (sides .1) .1), tt))
   entry-small n (array k t) w l h =
-      let below = both-hold (isWellFormed (array k t)) (everywhere isWellFormed t) w .1 in
-      let c = counted k t w below l in
-      (c .small, entry-small n t below (sized-has t (c .own) (c .own-is)) (λ q. true-not-false q (sized-closed t (c .own) below (c .own-is))))
+      let p = array-passed k t w in
+      let c = counted k t w (p .below) l in
+      (c .small, entry-small n t (p .below) (sized-has t (c .own) (c .own-is)) (λ q. true-not-false q (p .closed)))
   entry-small n (runtime t) w l h =
-      let below = both-hold (isWellFormed (runtime t)) (everywhere isWellFormed t) w .1 in
-      let ok = both-hold (not (isOpen t) && isPresent (sizeOf t)) (isPresent (alignOf t)) (passed (runtime t) w .allowed) in
-      let z = present-some (sizeOf t) (both-hold (not (isOpen t)) (isPresent (sizeOf t)) (ok .0) .1) in
-      (h refl, entry-small n t below (sized-has t (z .0) (z .1)) (λ q. h refl))
+      let p = runtime-passed t w in
+      (h refl, entry-small n t (p .below) (sized-has t (p .own) (p .own-is)) (λ q. h refl))
   entry-small n (atomic s) w l h = tt
   entry-small n (struct k ms) w l h =
-      let below = both-hold (isWellFormed (struct k ms)) (everyMember isWellFormed ms) w .1 in
-      let ok = both-hold (between 1 1024 (countOf ms)) (membersAllowed ms) (passed (struct k ms) w .allowed) in
-      let few = between-true 1 1024 (countOf ms) (ok .0) .1 in
-      fields-small n (extentOf n (struct k ms)) (some 0) ms false below (ok .1) (passed (struct k ms) w .given) few h
+      let p = struct-passed k ms w in
+      fields-small n (extentOf n (struct k ms)) (some 0) ms false (p .below) (p .allowed) (p .given) (p .few) h
 
   fields-small : (n z : ℕ) (end : Option ℕ) (ms : Members) (b : Bool) → everyMember isWellFormed ms ≡ true → membersAllowed ms ≡ true → membersGivenFit ms ≡ true → countOf ms ≤ 1024 → (endsInRuntime b ms ≡ true → n ≤ 2 ^ 31) → Small (2 ^ 31) (fieldsOf n z end ms)
   fields-small n z end no-more b w ok g c h = tt

@@ -3,7 +3,7 @@
 -- In order: what is shown of a type (`Laid`); scalars, vectors, matrices; members; every type.
 -- Assumes nothing.
 use Prim.Native.Nat.{ℕ, _+_, _*_, _<_, _≤_, max}
-use mathlib.Core.Bool.{true, not, _&&_, _||_}
+use mathlib.Core.Bool.{true, _||_}
 use mathlib.Core.Option.{Option, some}
 use mathlib.Core.Path.{_≡_, refl, ap, _∙_}
 use mathlib.Core.Logic.{⊎-elim}
@@ -12,13 +12,13 @@ use native.Mathlib.Nat.{mod-self, zero-add}
 use Rattle.wgsl.specs.Round.{IsPower, up}
 use Rattle.wgsl.specs.Types.{Scalar, Ty, scalar, vector, matrix, array, runtime, atomic, struct, Members, no-more, member, isRuntime, isOpen, everywhere, everyMember}
 use Rattle.wgsl.specs.Size.{both, givenOr, isPresent, present, widthOf, vectorSize, vectorAlign, startAfter, endAfter, sizeOf, alignOf, membersAlign, strideOf}
-use Rattle.wgsl.specs.File.{between}
-use Rattle.wgsl.specs.Rule.{isMatrixScalar, isLast, countOf, membersAllowed, isAllowed, givenFits, isWellFormed, membersGivenFit}
+use Rattle.wgsl.specs.Rule.{isLast, membersAllowed, isAllowed, isWellFormed, membersGivenFit}
 use Rattle.wgsl.specs.Place.{tailAt, tailOf, extentBy, extentOf, parts, column, shapeOf, fieldsOf, spanOf}
 use Rattle.wgsl.proofs.Round.{up-multiple, up-not-below}
-use Rattle.wgsl.proofs.Absent.{both-hold, true-not-false, present-some, present-is, both-some, given-present}
+use Rattle.wgsl.proofs.Absent.{true-not-false, present-some, present-is, both-some, given-present}
 use Rattle.wgsl.proofs.Power.{power-positive, power-divides}
-use Rattle.wgsl.proofs.Align.{width-power, atomic-width, VectorAligned, vector-align, member-aligned, passed, align-power, members-power}
+use Rattle.wgsl.proofs.Passed.{passed, matrix-passed, array-passed, runtime-passed, struct-passed}
+use Rattle.wgsl.proofs.Align.{width-power, atomic-width, VectorAligned, vector-align, member-aligned, align-power, members-power}
 use Rattle.wgsl.proofs.Shape.{Divides, From, Sound, divides-multiple, from-low}
 use Rattle.wgsl.proofs.Tail.{sized-has, sized-takes}
 use Rattle.wgsl.proofs.Members.{Member, first-member, memberExtent, member-room, member-has, start-is, end-after, endOf, struct-end}
@@ -132,17 +132,16 @@ unfolding shapeOf Sound spanOf Divides extentOf extentBy tailOf sizeOf present
 atomic-laid n s a e h = record { sound = rw e (omega arith); span = rw e; divides = rw (e, h) }
 
 mutual
-  unfolding everywhere everyMember isAllowed givenFits alignOf membersAlign isOpen sizeOf shapeOf endOf isLast
+  unfolding isAllowed isOpen sizeOf shapeOf endOf isLast
 
   -- A well-formed type with a layout has a sound shape, which takes its extent and suits its alignment.
   pub laid : (n : ℕ) (t : Ty) (a : ℕ) → everywhere isWellFormed t ≡ true → alignOf t ≡ some a → (isOpen t || isPresent (sizeOf t)) ≡ true → Laid n t a
   laid n (scalar s) a w e h = scalar-laid n s a e
   laid n (vector k s) a w e h = vector-laid n k s a (vector-align k s a (passed (vector k s) w .allowed) e)
   laid n (matrix c r s) a w e h =
-      let ok = both-hold (between 2 4 c && between 2 4 r) (isMatrixScalar s) (passed (matrix c r s) w .allowed) in
-      matrix-laid n c r s a e (vector-align r s a (both-hold (between 2 4 c) (between 2 4 r) (ok .0) .1) e)
+      matrix-laid n c r s a e (vector-align r s a (matrix-passed c r s w .1) e)
   laid n (array k t) a w e h =
-      let below = both-hold (isWellFormed (array k t)) (everywhere isWellFormed t) w .1 in
+      let below = array-passed k t w .below in
       let z = present-some (both _*_ (some k) (both up (alignOf t) (sizeOf t))) h in
       let outer = both-some _*_ (some k) (both up (alignOf t) (sizeOf t)) (z .0) (z .1) in
       let inner = both-some up (alignOf t) (sizeOf t) (outer .right) (outer .right-is) in
@@ -150,18 +149,15 @@ mutual
       (sized-takes n t (inner .right) below (inner .right-is))
       (laid n t a below e (sized-has t (inner .right) (inner .right-is)))
   laid n (runtime t) a w e h =
-      let below = both-hold (isWellFormed (runtime t)) (everywhere isWellFormed t) w .1 in
-      let ok = both-hold (not (isOpen t) && isPresent (sizeOf t)) (isPresent (alignOf t)) (passed (runtime t) w .allowed) in
-      let z = present-some (sizeOf t) (both-hold (not (isOpen t)) (isPresent (sizeOf t)) (ok .0) .1) in
-      runtime-laid n t a (z .0) (align-power t a below e) e (z .1) (sized-takes n t (z .0) below (z .1))
-      (laid n t a below e (sized-has t (z .0) (z .1)))
+      let p = runtime-passed t w in
+      runtime-laid n t a (p .own) (align-power t a (p .below) e) e (p .own-is) (sized-takes n t (p .own) (p .below) (p .own-is))
+      (laid n t a (p .below) e (sized-has t (p .own) (p .own-is)))
   laid n (atomic s) a w e h = atomic-laid n s a (atomic-width s (passed (atomic s) w .allowed)) (cc)
   laid n (struct k ms) a w e h =
-      let below = both-hold (isWellFormed (struct k ms)) (everyMember isWellFormed ms) w .1 in
-      let ok = both-hold (between 1 1024 (countOf ms)) (membersAllowed ms) (passed (struct k ms) w .allowed) .1 in
-      let given = passed (struct k ms) w .given in
-      let f = fields-laid n (extentOf n (struct k ms)) 0 a ms a below ok given e (members-power ms a below given e) (omega arith)
-      (struct-end n k ms w below ok given h) in
+      let p = struct-passed k ms w in
+      let f = fields-laid n (extentOf n (struct k ms)) 0 a ms a (p .below) (p .allowed) (p .given) e
+      (members-power ms a (p .below) (p .given) e) (omega arith)
+      (struct-end n k ms w (p .below) (p .allowed) (p .given) h) in
       record { sound = f .sound; span = f .span; divides = f .divides }
 
   fields-laid : (n z lo all : ℕ) (ms : Members) (most : ℕ) → everyMember isWellFormed ms ≡ true → membersAllowed ms ≡ true → membersGivenFit ms ≡ true → membersAlign ms ≡ some most → IsPower all → most ≤ all → endOf n lo ms ≤ z → FieldsLaid n z lo (some lo) ms all

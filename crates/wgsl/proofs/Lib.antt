@@ -2,6 +2,7 @@ pub mod Number
 pub mod Round
 pub mod Absent
 pub mod Power
+pub mod Passed
 pub mod Said
 pub mod Align
 pub mod Accepted

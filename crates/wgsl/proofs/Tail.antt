@@ -12,10 +12,10 @@ use borrow.Author.Tests.{not-true}
 use Rattle.wgsl.specs.Round.{up}
 use Rattle.wgsl.specs.Types.{Ty, scalar, vector, matrix, array, runtime, atomic, struct, Members, no-more, member, isRuntime, endsInRuntime, isOpen, everywhere}
 use Rattle.wgsl.specs.Size.{both, givenOr, isPresent, present, startAfter, endAfter, sizeOf, alignOf, membersAlign, membersEnd, strideOf}
-use Rattle.wgsl.specs.Rule.{givenFits, isWellFormed, atLeast, givenSizeFits, givenAlignFits, membersGivenFit}
+use Rattle.wgsl.specs.Rule.{isWellFormed, atLeast, givenSizeFits, givenAlignFits, membersGivenFit}
 use Rattle.wgsl.specs.Place.{Tail, tailAt, membersTail, tailOf, extentBy, extentOf}
 use Rattle.wgsl.proofs.Absent.{both-hold, true-not-false, some-not-none, some-present, present-is, both-some, both-none}
-use Rattle.wgsl.proofs.Align.{passed}
+use Rattle.wgsl.proofs.Passed.{struct-passed}
 
 -- A runtime array is open.
 pub runtime-open : (t : Ty) → isRuntime t ≡ true → isOpen t ≡ true
@@ -119,7 +119,7 @@ open-end end b (member t size align ms) g h e =
 
 -- A well-formed type that has a size is not open.
 pub sized-closed : (t : Ty) (z : ℕ) → everywhere isWellFormed t ≡ true → sizeOf t ≡ some z → isOpen t ≡ false
-unfolding isOpen sizeOf givenFits
+unfolding isOpen sizeOf
 sized-closed (scalar s) z w e = refl
 sized-closed (vector n s) z w e = refl
 sized-closed (matrix c r s) z w e = refl
@@ -132,7 +132,7 @@ sized-closed (struct k ms) z w e = go (endsInRuntime false ms) refl
     go true q =
         let m = both-some up (membersAlign ms) (membersEnd (some 0) ms) z e in
         some-not-none (m .right-is)
-        (open-end (some 0) false ms (passed (struct k ms) w .given) (λ f. true-not-false f refl) q)
+        (open-end (some 0) false ms (struct-passed k ms w .given) (λ f. true-not-false f refl) q)
     go false q = refl
 
 -- What has a size has an extent.
