@@ -9,5 +9,7 @@ pub mod Shape
 pub mod Path
 pub mod Word
 pub mod Laid
+pub mod Call
+pub mod Demand
 pub mod Rank
 pub mod Case
