@@ -1,3 +1,4 @@
+-- The laws about specs/, by subject. What is claimed stands in Claims; read that first.
 pub mod Number
 pub mod Round
 pub mod Absent
@@ -18,5 +19,8 @@ pub mod Closed
 pub mod Entry
 pub mod Count
 pub mod Index
+pub mod Elements
+pub mod Call
+pub mod Demand
 pub mod Rank
 pub mod Case

@@ -64,21 +64,26 @@ array-passed k t w =
       closed = not-true (isOpen t) (ok .1);
     }
 
--- the element of a runtime array has a size
+-- the element of a runtime array has size and alignment
 pub record RuntimePassed (t : Ty) : Type 0 where
   pub below : everywhere isWellFormed t ≡ true
   pub own : ℕ
   pub own-is : sizeOf t ≡ some own
+  pub aligned : ℕ
+  pub aligned-is : alignOf t ≡ some aligned
 
 pub runtime-passed : (t : Ty) → everywhere isWellFormed (runtime t) ≡ true → RuntimePassed t
 unfolding everywhere isAllowed
 runtime-passed t w =
     let ok = both-hold (not (isOpen t) && isPresent (sizeOf t)) (isPresent (alignOf t)) (passed (runtime t) w .allowed) in
     let z = present-some (sizeOf t) (both-hold (not (isOpen t)) (isPresent (sizeOf t)) (ok .0) .1) in
+    let a = present-some (alignOf t) (ok .1) in
     record {
       below = both-hold (isWellFormed (runtime t)) (everywhere isWellFormed t) w .1;
       own = z .0;
       own-is = z .1;
+      aligned = a .0;
+      aligned-is = a .1;
     }
 
 -- a struct has 1 to 1,024 members, which are allowed and whose given sizes and aligns fit

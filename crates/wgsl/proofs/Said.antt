@@ -43,6 +43,17 @@ pub then-refused : {A B : Type 0} {m : Said A} {number place : ℕ} (rest : A �
 unfolding _>>=_
 then-refused rest e = rw e
 
+-- Where a step whose value is not used and the rest are good, each of them is.
+pub next-good : {B : Type 0} {b : B} (m : Said (Unit {0})) (rest : Said B) → _>>_ m rest ≡ good b → (m ≡ good tt) × (rest ≡ good b)
+unfolding _>>_
+next-good (good u) rest e = (refl, e)
+next-good (refused number place) rest e = good-not-refused e refl
+
+-- After such a step that is good comes the rest.
+pub next-is : {A B : Type 0} {m : Said A} {a : A} (rest : Said B) → m ≡ good a → _>>_ m rest ≡ rest
+unfolding _>>_
+next-is rest e = rw e
+
 -- A test that holds refuses.
 pub refuse-yes : {B : Type 0} {number place : ℕ} {test : Bool} (rest : Said B) → test ≡ true → _>>_ (refuse number place test) rest ≡ refused number place
 unfolding _>>_ refuse
