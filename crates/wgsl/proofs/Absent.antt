@@ -1,23 +1,40 @@
--- Laws of numbers that may be absent (specs/Size), and of tests that hold.
+-- Tests that hold; numbers that may be absent (specs/Size).
 --
--- In order: tests joined by `&&` and `||`; a number that is present; a number made from two; one given or the type's own.
+-- In order: tests joined by `&&` and `||`; the test for a range; no test holds and fails; a number that is present; a number made from
+-- two; one given or the type's own.
 -- Assumes nothing.
-use Prim.Native.Nat.{ℕ}
-use mathlib.Core.Bool.{Bool, true, false, not, _&&_, _||_}
+use Prim.Native.Nat.{ℕ, _≤_}
+use mathlib.Core.Bool.{Bool, true, false, _&&_, _||_, and-eq-true-iff}
 use mathlib.Core.Option.{Option, none, some}
 use mathlib.Core.Path.{_≡_, refl}
 use mathlib.Core.Logic.{_⊎_, inl, inr}
 use native.Mathlib.Omega.{arith}
+use borrow.Author.Tests.{leb-true}
+use lib.Dec.{leb}
 use Rattle.wgsl.specs.Size.{both, givenOr, isPresent, present}
+use Rattle.wgsl.specs.File.{between}
 
+-- Where two tests hold together, each holds.
 pub both-hold : (a b : Bool) → (a && b) ≡ true → (a ≡ true) × (b ≡ true)
-both-hold true b e = (refl, e)
-both-hold false b e = let z : _≡_ {A = ℕ} 0 1 = cc in absurd (omega arith)
+both-hold a b = and-eq-true-iff a b .0
 
+-- Two tests that hold, hold together.
+pub hold-both : (a b : Bool) → a ≡ true → b ≡ true → (a && b) ≡ true
+hold-both a b p q = and-eq-true-iff a b .1 (p, q)
+
+-- Where one of two tests holds, the first does or the second.
 pub either-holds : (a b : Bool) → (a || b) ≡ true → (a ≡ true) ⊎ (b ≡ true)
 either-holds true b e = inl refl
 either-holds false b e = inr e
 
+-- A number that is tested to be in a range is in it.
+pub between-true : (low high n : ℕ) → between low high n ≡ true → (low ≤ n) × (n ≤ high)
+unfolding between
+between-true low high n e =
+    let h = both-hold (leb low n) (leb n high) e in
+    (leb-true low n (h .0), leb-true n high (h .1))
+
+-- No test holds and fails, and nothing is there and absent.
 pub true-not-false : {A : Type 0} {b : Bool} → b ≡ true → b ≡ false → A
 true-not-false e f = let z : _≡_ {A = ℕ} 0 1 = cc in absurd (omega arith)
 
@@ -28,7 +45,7 @@ some-not-none e f = let z : _≡_ {A = ℕ} 0 1 = cc in absurd (omega arith)
 pub present-some : (o : Option ℕ) → isPresent o ≡ true → (n : ℕ) × (o ≡ some n)
 unfolding isPresent
 present-some (some n) e = (n, refl)
-present-some none e = let z : _≡_ {A = ℕ} 0 1 = cc in absurd (omega arith)
+present-some none e = true-not-false e refl
 
 pub present-is : (n : ℕ) → present (some n) ≡ n
 unfolding present
@@ -56,3 +73,9 @@ pub both-none : (f : ℕ → ℕ → ℕ) (x : Option ℕ) → both f x none ≡
 unfolding both
 both-none f (some a) = refl
 both-none f none = refl
+
+-- The number given, or the type's own, is present where the type's own is.
+pub given-present : (given own : Option ℕ) → isPresent own ≡ true → (a : ℕ) × (givenOr given own ≡ some a)
+unfolding givenOr
+given-present (some g) own e = (g, refl)
+given-present none own e = present-some own e

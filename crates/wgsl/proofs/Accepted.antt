@@ -11,7 +11,7 @@ use mathlib.Core.Logic.{_⊎_, inl, inr, ⊎-elim}
 use mathlib.Core.Path.{_≡_, refl, ap, sym, _∙_}
 use native.Mathlib.Omega.{arith}
 use native.Mathlib.Nat.{eq-or-lt-of-le}
-use borrow.Author.Tests.{ltb-false, leb-true, eqb-true, not-false}
+use borrow.Author.Tests.{ltb-false, eqb-true, not-false}
 use lib.Dec.{eqb, leb}
 use lib.ListN.{length, take, getElem?, length-append}
 use lib.Seq.{take-all, take-append-le}
@@ -20,7 +20,8 @@ use Rattle.wgsl.specs.Size.{fitsLimit}
 use Rattle.wgsl.specs.Said.{good, refused}
 use Rattle.wgsl.specs.File.{trailerLength, trailerOf, lengthBy, TypeEntry, typeEntryAt, between, checkTrailer}
 use Rattle.wgsl.specs.Rule.{when, andThen, lower, membersFrom, scalarMade, vectorMade, matrixMade, arrayMade, runtimeMade, atomicMade, structMade, overMade, typeMade, typeOfEntry, isAllowed, givenFits, isWellFormed, judged, typesBelow, typesOf}
-use Rattle.wgsl.proofs.Said.{then-good, then-cases, refuse-good, refuse-cases, orRefuse-good, orRefuse-refused, when-some, andThen-some, and-true, true-and}
+use Rattle.wgsl.proofs.Absent.{both-hold, hold-both, between-true, some-not-none}
+use Rattle.wgsl.proofs.Said.{good-not-refused, then-good, then-cases, refuse-good, refuse-cases, orRefuse-good, orRefuse-refused, when-some, andThen-some}
 
 module _ {A : Type 0} where
   -- The first elements are those of the list.
@@ -38,7 +39,7 @@ module _ {A : Type 0} where
   -- An element of a list with one more is one of the list or that one.
   pub getElem-cases : (l : List A) (a : A) (n : ℕ) (b : A) → getElem? (l ++ (a ∷ [])) n ≡ some b → (getElem? l n ≡ some b) ⊎ (a ≡ b)
   getElem-cases [] a zero b e = inr cc
-  getElem-cases [] a (suc n) b e = let z : _≡_ {A = ℕ} 0 1 = cc in absurd (omega arith)
+  getElem-cases [] a (suc n) b e = some-not-none e refl
   getElem-cases (c ∷ l) a zero b e = inl e
   getElem-cases (c ∷ l) a (suc n) b e = getElem-cases l a n b e
 
@@ -69,8 +70,8 @@ judged-good {f} {ts} {k} {t} e =
 pub judged-well-formed : {f : List ℕ} {ts : List Ty} {k : ℕ} {t : Ty} → Judged f ts k t → isWellFormed t ≡ true
 unfolding isWellFormed
 judged-well-formed {t = t} j =
-    true-and (isAllowed t && givenFits t) (fitsLimit t)
-    (true-and (isAllowed t) (givenFits t) (j .allowed) (j .given-fits)) (j .fits)
+    hold-both (isAllowed t && givenFits t) (fitsLimit t)
+    (hold-both (isAllowed t) (givenFits t) (j .allowed) (j .given-fits)) (j .fits)
 
 -- the types of n + 1 entries: those of n entries, and one that is judged over them
 record Split (f : List ℕ) (n : ℕ) (ts : List Ty) : Type 0 where
@@ -129,8 +130,7 @@ judged-refused f ts k e =
     then-cases _ _ e (λ h. let r = orRefuse-refused 5 k _ h in (r .1, inl (r .0))) (λ h.
     refuse-cases 5 k _ _ (h .after) (λ q. (cc, inl cc)) (λ h₅.
     refuse-cases 6 k _ _ h₅ (λ q. (cc, inr (inl cc))) (λ h₆.
-    refuse-cases 7 k _ _ h₆ (λ q. (cc, inr (inr cc))) (λ h₇.
-    let z : _≡_ {A = ℕ} 0 1 = cc in absurd (omega arith)))))
+    refuse-cases 7 k _ _ h₆ (λ q. (cc, inr (inr cc))) (λ h₇. good-not-refused refl h₇))))
 
 -- The entry at `place` is the lowest bad one below n.
 pub record Lowest (f : List ℕ) (n number place : ℕ) : Type 0 where
@@ -145,14 +145,14 @@ lowest-more h = record { low = omega arith; types = h .types; good-below = h .go
 -- The refusal of a file names its lowest bad entry.
 pub below-lowest : {number place : ℕ} (f : List ℕ) (n : ℕ) → typesBelow f n ≡ refused number place → Lowest f n number place
 unfolding typesBelow
-below-lowest f zero e = let z : _≡_ {A = ℕ} 0 1 = cc in absurd (omega arith)
+below-lowest f zero e = good-not-refused refl e
 below-lowest {number} {place} f (suc n) e =
     then-cases _ _ e (λ h. lowest-more (below-lowest f n h)) (λ h.
     then-cases _ _ (h .after)
     (λ b.
     let at : place ≡ n = judged-refused f (h .value) n b .0 in
     record { low = omega arith; types = h .value; good-below = rw at (h .first); bad = cc })
-    (λ g. let z : _≡_ {A = ℕ} 0 1 = cc (g .after) in absurd (omega arith)))
+    (λ g. good-not-refused refl (g .after)))
 
 -- What entry k can make over the types of the lower entries: the types within are of these, and a struct carries the number k.
 pub data Made (f : List ℕ) (ts : List Ty) (k : ℕ) : Ty → Type 0 where
@@ -169,7 +169,7 @@ module _ (f : List ℕ) (ts : List Ty) (k : ℕ) where
   Makes o = (t : Ty) → o ≡ some t → Made f ts k t
 
   makes-none : Makes none
-  makes-none t e = let z : _≡_ {A = ℕ} 0 1 = cc in absurd (omega arith)
+  makes-none t e = some-not-none e refl
 
   makes-cond : (test : Bool) {x y : Option Ty} → Makes x → Makes y → Makes (cond test x y)
   makes-cond true g h = g
@@ -209,7 +209,7 @@ module _ (p : Ty → Bool) (ts : List Ty) (all : (i : ℕ) (u : Ty) → getElem?
       let rest = andThen-some _ _ (first .after) in
       let z = Option·some-injective _ _ (rest .after) in
       rw (← z)
-      (true-and (everywhere p (first .value)) (everyMember p (rest .value)) (all _ _ (first .first))
+      (hold-both (everywhere p (first .value)) (everyMember p (rest .value)) (all _ _ (first .first))
       (members-everywhere f n (suc m) (rest .value) (rest .first)))
 
 -- A test that holds of every type of the lower entries, and of an entry's type itself, holds of every type within that.
@@ -221,19 +221,18 @@ made-everywhere p f ts k t e all = go (entry-made f ts k t e)
     go (made-scalar s) h = h
     go (made-vector n s) h = h
     go (made-matrix c r s) h = h
-    go (made-array i n u x) h = true-and (p (array n u)) (everywhere p u) h (all i u x)
-    go (made-runtime i u x) h = true-and (p (runtime u)) (everywhere p u) h (all i u x)
+    go (made-array i n u x) h = hold-both (p (array n u)) (everywhere p u) h (all i u x)
+    go (made-runtime i u x) h = hold-both (p (runtime u)) (everywhere p u) h (all i u x)
     go (made-atomic s) h = h
     go (made-struct n m ms x) h =
-        true-and (p (struct k ms)) (everyMember p ms) h (members-everywhere p ts all f n m ms x)
+        hold-both (p (struct k ms)) (everyMember p ms) h (members-everywhere p ts all f n m ms x)
 
 -- The types of accepted entries are well formed, and so is every type within them.
 pub below-well-formed : (f : List ℕ) (n : ℕ) (ts : List Ty) → typesBelow f n ≡ good ts → (k : ℕ) (t : Ty) → getElem? ts k ≡ some t → everywhere isWellFormed t ≡ true
 unfolding typesBelow
 below-well-formed f zero ts e k t h =
     let z : ts ≡ [] = cc in
-    let none-there : getElem? [] k ≡ some t = rw z at h in
-    let y : _≡_ {A = ℕ} 0 1 = cc in absurd (omega arith)
+    some-not-none (rw z at h) refl
 below-well-formed f (suc n) ts e k t h =
     let s = split f n ts e in
     let all = below-well-formed f n (s .before) (s .below) in
@@ -242,13 +241,6 @@ below-well-formed f (suc n) ts e k t h =
     (λ (same : s .last ≡ t).
     rw (← same) (made-everywhere isWellFormed f (s .before) n (s .last) (j .made) all (judged-well-formed j)))
     (getElem-cases (s .before) (s .last) k t (rw (s .whole) at h))
-
--- A number that is tested to be in a range is in it.
-pub between-true : (low high n : ℕ) → between low high n ≡ true → (low ≤ n) × (n ≤ high)
-unfolding between
-between-true low high n e =
-    let h = and-true (leb low n) (leb n high) e in
-    (leb-true low n (h .0), leb-true n high (h .1))
 
 -- The file f is accepted, and ts are the types of its entries.
 pub record Accepted (f : List ℕ) (ts : List Ty) : Type 0 where
@@ -275,7 +267,7 @@ accepted f ts e =
     let below : typesBelow f (r .types) ≡ good ts = rw same (h .after) in
     let types = between 1 256 (r .types) in
     let members = between 0 1024 (r .members) in
-    let ranges = and-true types members (not-false (types && members) (three .0)) in
+    let ranges = both-hold types members (not-false (types && members) (three .0)) in
     let range = between-true 1 256 (r .types) (ranges .0) in
     record {
       types-below = below;

@@ -1,13 +1,26 @@
+-- The laws about specs/, by subject. What is claimed stands in Claims; read that first.
 pub mod Number
 pub mod Round
-pub mod Power
 pub mod Absent
+pub mod Power
+pub mod Passed
 pub mod Said
 pub mod Align
 pub mod Accepted
 pub mod Shape
 pub mod Path
+pub mod PathPlace
+pub mod Step
 pub mod Word
+pub mod Tail
+pub mod Members
 pub mod Laid
+pub mod Closed
+pub mod Entry
+pub mod Count
+pub mod Index
+pub mod Elements
+pub mod Call
+pub mod Demand
 pub mod Rank
 pub mod Case

@@ -1,22 +1,23 @@
--- Where paths lead (specs/Path), and which places they lead to.
+-- Where paths lead (specs/Path).
 --
 -- In order: the walks that find a target, as a relation (`Leads`); targets lie inside, at multiples; different paths to scalars share no
--- byte; a path to a scalar leads to a place, and each place has a path; steps as numbers; how large the numbers of steps are.
+-- byte.
 -- Assumes nothing.
-use Prim.Native.Nat.{ℕ, zero, suc, _+_, _*_, _/_, _%_, _^_, _<_, _≤_}
+use Prim.Native.Nat.{ℕ, zero, suc, _+_, _*_, _/_, _%_, _<_, _≤_}
 use mathlib.Core.Bool.{Bool, true, false, cond}
-use mathlib.Core.List.{List, [], _∷_, _++_, append-nil, append-assoc, List·Memᴰ, List·Memᴰ·append-cases, List·Memᴰ·eq-of-singleton, List·Memᴰ·not-nil}
+use mathlib.Core.List.{List, [], _∷_}
 use mathlib.Core.Logic.{_⊎_, inl, inr, ⊎-elim, ⊎-map}
 use mathlib.Core.Path.{_≡_, refl, ap, subst}
 use native.Mathlib.Omega.{arith}
-use native.Mathlib.Nat.{add-zero, zero-mul, suc-mul, one-mul, mul-assoc, mul-le-mul-right, div-add-mod', add-mul-mod-self-right}
-use borrow.Author.Tests.{ltb-true, lt-ltb, eqb-true, eqb-false}
-use lib.Dec.{eqb, ltb}
+use native.Mathlib.Nat.{suc-mul, one-mul, mul-assoc, mul-le-mul-right, div-add-mod', add-mul-mod-self-right}
+use borrow.Author.Tests.{ltb-true, lt-ltb}
+use lib.Dec.{ltb}
 use Rattle.wgsl.specs.Types.{Scalar}
 use Rattle.wgsl.specs.Size.{present, widthOf}
 use Rattle.wgsl.specs.Said.{good, refused, _>>=_}
-use Rattle.wgsl.specs.Place.{Shape, one, parts, field, whole, spanOf, Place, wordPlaces, repeated, placesOf}
-use Rattle.wgsl.specs.Path.{Step, index, member, stepOf, Target, enter, walk}
+use Rattle.wgsl.specs.Place.{Shape, one, parts, field, whole, spanOf}
+use Rattle.wgsl.specs.Path.{Step, index, member, Target, enter, walk}
+use Rattle.wgsl.proofs.Said.{good-not-refused}
 use Rattle.wgsl.proofs.Shape.{Divides, From, Sound}
 
 -- this shape at this offset
@@ -30,25 +31,23 @@ pub data Leads : ℕ → Shape → List Step → ℕ → Shape → Type 0 where
   first : {off offset a : ℕ} {x rest y : Shape} {steps : List Step} → Leads (off + offset) x steps a y → Leads off (field offset x rest) (member zero ∷ steps) a y
   later : {off offset i a : ℕ} {x rest y : Shape} {steps : List Step} → Leads off rest (member i ∷ steps) a y → Leads off (field offset x rest) (member (suc i) ∷ steps) a y
 
-refused-good : {A B : Type 0} (number place : ℕ) (b : B) → refused number place ≡ good b → A
-refused-good number place b h = let z : _≡_ {A = ℕ} 0 1 = cc in absurd (omega arith)
-
+-- one step, where the rest of the walk leads on
 step-leads : (k off : ℕ) (x : Shape) (s : Step) (steps : List Step) (t : Target) → ((at : ℕ) (y : Shape) → walk (suc k) at y steps ≡ good t → Leads at y steps (t .offset) (t .shape)) → walk k off x (s ∷ steps) ≡ good t → Leads off x (s ∷ steps) (t .offset) (t .shape)
 unfolding walk enter _>>=_
-step-leads k off (one s) (index i) steps t next h = refused-good 13 k t h
-step-leads k off (one s) (member i) steps t next h = refused-good 11 k t h
+step-leads k off (one s) (index i) steps t next h = good-not-refused h refl
+step-leads k off (one s) (member i) steps t next h = good-not-refused h refl
 step-leads k off (parts n stride x) (index i) steps t next h = go (ltb i n) refl h
   where
     go : (b : Bool) → ltb i n ≡ b → _>>=_ (cond b (good (target (i * stride) x)) (refused 12 k)) (λ u. walk (suc k) (off + u .offset) (u .shape) steps) ≡ good t → Leads off (parts n stride x) (index i ∷ steps) (t .offset) (t .shape)
     go true e g = part (ltb-true i n e) (next (off + i * stride) x g)
-    go false e g = refused-good 12 k t g
-step-leads k off (parts n stride x) (member i) steps t next h = refused-good 11 k t h
-step-leads k off (field offset x rest) (index i) steps t next h = refused-good 13 k t h
+    go false e g = good-not-refused g refl
+step-leads k off (parts n stride x) (member i) steps t next h = good-not-refused h refl
+step-leads k off (field offset x rest) (index i) steps t next h = good-not-refused h refl
 step-leads k off (field offset x rest) (member zero) steps t next h = first (next (off + offset) x h)
 step-leads k off (field offset x rest) (member (suc i)) steps t next h =
     later (step-leads k off rest (member i) steps t next h)
-step-leads k off (whole z) (index i) steps t next h = refused-good 13 k t h
-step-leads k off (whole z) (member i) steps t next h = refused-good 11 k t h
+step-leads k off (whole z) (index i) steps t next h = good-not-refused h refl
+step-leads k off (whole z) (member i) steps t next h = good-not-refused h refl
 
 -- A walk that finds a target leads there.
 pub walk-leads : (k off : ℕ) (x : Shape) (steps : List Step) (t : Target) → walk k off x steps ≡ good t → Leads off x steps (t .offset) (t .shape)
@@ -160,168 +159,3 @@ leads-apart (later {i = i} {steps = p} l) (later {i = j} {steps = q} m) sound =
 pub paths-apart : (k off : ℕ) (x : Shape) (p q : List Step) (a b : ℕ) (s u : Scalar) → Sound x → walk k off x p ≡ good (target a (one s)) → walk k off x q ≡ good (target b (one u)) → (p ≡ q) ⊎ Apart a (present (widthOf s)) b (present (widthOf u))
 paths-apart k off x p q a b s u sound g h =
     leads-apart (walk-leads k off x p (target a (one s)) g) (walk-leads k off x q (target b (one u)) h) sound
-
--- the place of a scalar s at a is in the list of a shape at off
-pub record PathPlace (x : Shape) (off a : ℕ) (s : Scalar) : Type 0 where
-  pub before : List Place
-  pub after : List Place
-  pub split : placesOf x off ≡ before ++ (wordPlaces s a ++ after)
-
--- a place of y is one of x, where the places of y stand among those of x
-wider : {x y : Shape} {off at a : ℕ} {s : Scalar} (before after : List Place) → placesOf x off ≡ before ++ (placesOf y at ++ after) → PathPlace y at a s → PathPlace x off a s
-wider {x} {y} {off} {at} {a} {s} before after e p = record {
-  before = before ++ p .before;
-  after = p .after ++ after;
-  split = rw (e, p .split) (simp append-assoc);
-}
-
-next-part : (at i stride : ℕ) → at + stride + i * stride ≡ at + suc i * stride
-next-part at i stride = omega (arith, suc-mul i stride)
-
--- what is made for a part stands in what is made for all of them
-repeated-split : (n i stride : ℕ) (f : ℕ → List Place) (at : ℕ) → i < n → (before : List Place) × (after : List Place) × (repeated n stride f at ≡ before ++ (f (at + i * stride) ++ after))
-unfolding repeated
-repeated-split zero i stride f at h = absurd (omega arith)
-repeated-split (suc n) zero stride f at h = ([], repeated n stride f (at + stride), rw (zero-mul, add-zero))
-repeated-split (suc n) (suc i) stride f at h =
-    let r = repeated-split n i stride f (at + stride) (omega arith) in
-    (f at ++ r .0, r .1, rw (r .2, append-assoc, next-part at i stride))
-
-leads-place : {off a : ℕ} {x : Shape} {steps : List Step} {s : Scalar} → Leads off x steps a (one s) → PathPlace x off a s
-unfolding placesOf wordPlaces
-leads-place here = record { before = []; after = []; split = refl }
-leads-place (part {off = off} {n = n} {stride = stride} {i = i} {x = x} h l) =
-    let r = repeated-split n i stride (λ p. placesOf x p) off h in
-    wider (r .0) (r .1) (r .2) (leads-place l)
-leads-place (first {off = off} {rest = rest} l) = wider [] (placesOf rest off) refl (leads-place l)
-leads-place (later {off = off} {offset = offset} {x = x} l) =
-    wider (placesOf x (off + offset)) [] (rw append-nil) (leads-place l)
-
--- A path to a scalar leads to a place of the list.
-pub path-place : (k off : ℕ) (x : Shape) (steps : List Step) (a : ℕ) (s : Scalar) → walk k off x steps ≡ good (target a (one s)) → PathPlace x off a s
-path-place k off x steps a s h = leads-place (walk-leads k off x steps (target a (one s)) h)
-
-repeated-member : {p : Place} (n stride : ℕ) (f : ℕ → List Place) (at : ℕ) → List·Memᴰ p (repeated n stride f at) → (i : ℕ) × (i < n) × List·Memᴰ p (f (at + i * stride))
-unfolding repeated
-repeated-member zero stride f at m = absurd (List·Memᴰ·not-nil m)
-repeated-member {p} (suc n) stride f at m =
-    ⊎-elim (λ (h : List·Memᴰ p (f at)). (0, omega arith, rw (zero-mul, add-zero) h))
-    (λ (h : List·Memᴰ p (repeated n stride f (at + stride))).
-    let r = repeated-member n stride f (at + stride) h in
-    (suc (r .0), omega (arith, r .1), rw (next-part at (r .0) stride) at (r .2))) (List·Memᴰ·append-cases (f at) m)
-
--- a path to a scalar that lies at p
-abbrev Found : ℕ → Shape → Place → Type 0
-Found off x p =
-    (s : Scalar) × (steps : List Step) × Leads off x steps (p .at) (one s) × (p .width ≡ present (widthOf s))
-
--- a path to a scalar among the members that are left of a struct begins with a member step
-one-later : {off a : ℕ} {rest : Shape} {steps : List Step} {s : Scalar} (lo offset : ℕ) (x : Shape) → From rest lo → Leads off rest steps a (one s) → (further : List Step) × Leads off (field offset x rest) further a (one s)
-unfolding From
-one-later lo offset x from here = absurd from
-one-later lo offset x from (part h l) = absurd from
-one-later lo offset x from (first {steps = steps} l) = (member 1 ∷ steps, later (first l))
-one-later lo offset x from (later {i = i} {steps = steps} l) = (member (suc (suc i)) ∷ steps, later (later l))
-
-found : (off : ℕ) (x : Shape) (p : Place) → Sound x → List·Memᴰ p (placesOf x off) → Found off x p
-unfolding Sound placesOf wordPlaces
-found off (one s) p sound m = rw (List·Memᴰ·eq-of-singleton m) (s, [], here, refl)
-found off (parts n stride x) p sound m =
-    let r = repeated-member n stride (λ at. placesOf x at) off m in
-    let f = found (off + r .0 * stride) x p (sound .0) (r .2) in
-    (f .0, index (r .0) ∷ f .1, part (r .1) (f .2), f .3)
-found off (field offset x rest) p sound m =
-    ⊎-elim
-    (λ (h : List·Memᴰ p (placesOf x (off + offset))).
-    let f = found (off + offset) x p (sound .0) h in
-    (f .0, member 0 ∷ f .1, first (f .2), f .3))
-    (λ (h : List·Memᴰ p (placesOf rest off)).
-    let f = found off rest p (sound .1) h in
-    let g = one-later (offset + spanOf x) offset x (sound .2) (f .2) in
-    (f .0, g .0, g .1, f .3)) (List·Memᴰ·append-cases (placesOf x (off + offset)) m)
-found off (whole z) p sound m = absurd (List·Memᴰ·not-nil m)
-
--- a path that leads to a scalar at the place p
-pub record PlacePath (x : Shape) (off : ℕ) (p : Place) : Type 0 where
-  pub scalar-is : Scalar
-  pub steps : List Step
-  pub leads : (k : ℕ) → walk k off x steps ≡ good (target (p .at) (one scalar-is))
-  pub width-is : p .width ≡ present (widthOf scalar-is)
-
--- Every place of a sound shape has a path that leads to it.
-pub place-path : (off : ℕ) (x : Shape) (p : Place) → Sound x → List·Memᴰ p (placesOf x off) → PlacePath x off p
-place-path off x p sound m =
-    let f = found off x p sound m in
-    record { scalar-is = f .0; steps = f .1; leads = λ k. leads-walk (f .2) k; width-is = f .3 }
-
--- the number of a part or of a member
-unfoldable pub number-of : Step → ℕ
-number-of (index i) = i
-number-of (member i) = i
-
--- the u32 that says a step
-unfoldable pub step-code : Step → ℕ
-step-code (index i) = i
-step-code (member i) = i + 2 ^ 31
-
--- A step whose number has 31 bits is read back from its code.
-pub stepOf-code : (s : Step) → number-of s < 2 ^ 31 → stepOf (step-code s) ≡ s
-unfolding number-of step-code stepOf
-stepOf-code (index i) h =
-    let b : i / 2 ^ 31 % 2 ≡ 0 = omega arith in
-    let r : i % 2 ^ 31 ≡ i = omega arith in
-    rw (b, r)
-stepOf-code (member i) h =
-    let b : (i + 2 ^ 31) / 2 ^ 31 % 2 ≡ 1 = omega arith in
-    let r : (i + 2 ^ 31) % 2 ^ 31 ≡ i = omega arith in
-    rw (b, r)
-
--- A number of 32 bits is the code of the step that it says.
-pub code-stepOf : (n : ℕ) → n < 2 ^ 32 → step-code (stepOf n) ≡ n
-unfolding step-code stepOf
-code-stepOf n h = go (eqb (n / 2 ^ 31 % 2) 1) refl
-  where
-    go : (b : Bool) → eqb (n / 2 ^ 31 % 2) 1 ≡ b → step-code (cond b (member (n % 2 ^ 31)) (index (n % 2 ^ 31))) ≡ n
-    go true e = omega (arith, eqb-true (n / 2 ^ 31 % 2) 1 e)
-    go false e =
-        let d : ¬ (n / 2 ^ 31 % 2 ≡ 1) = eqb-false (n / 2 ^ 31 % 2) 1 e in
-        omega arith
-
--- Numbers of 32 bits that say the same step are the same.
-pub stepOf-injective : (m n : ℕ) → m < 2 ^ 32 → n < 2 ^ 32 → stepOf m ≡ stepOf n → m ≡ n
-stepOf-injective m n g h e = cc (code-stepOf m g, code-stepOf n h)
-
--- how many members are left of a struct
-unfoldable pub members-left : Shape → ℕ
-members-left (one s) = 0
-members-left (parts n stride x) = 0
-members-left (field offset x rest) = suc (members-left rest)
-members-left (whole z) = 0
-
--- no part of the shape has more than `bound` parts or members
-unfoldable pub Small : ℕ → Shape → Type 0
-Small bound (one s) = Unit {0}
-Small bound (parts n stride x) = (n ≤ bound) × Small bound x
-Small bound (field offset x rest) = (suc (members-left rest) ≤ bound) × Small bound x × Small bound rest
-Small bound (whole z) = Unit {0}
-
--- every step has a number below `bound`
-unfoldable pub Below : ℕ → List Step → Type 0
-Below bound [] = Unit {0}
-Below bound (s ∷ steps) = (number-of s < bound) × Below bound steps
-
-member-below : {off a i : ℕ} {x y : Shape} {steps : List Step} → Leads off x (member i ∷ steps) a y → i < members-left x
-unfolding members-left
-member-below (first l) = omega arith
-member-below (later l) = omega (arith, member-below l)
-
-leads-below : {off a : ℕ} {x y : Shape} {steps : List Step} (bound : ℕ) → Leads off x steps a y → Small bound x → Below bound steps
-unfolding Small Below number-of
-leads-below bound here small = tt
-leads-below bound (part h l) small = (omega (arith, small .0), leads-below bound l (small .1))
-leads-below bound (first l) small = (omega (arith, small .0), leads-below bound l (small .1))
-leads-below bound (later l) small = (omega (arith, small .0, member-below l), leads-below bound l (small .2) .1)
-
--- The steps of a path that finds a target have numbers below the bound of the shape's counts.
-pub steps-below : (k off : ℕ) (x : Shape) (steps : List Step) (t : Target) (bound : ℕ) → Small bound x → walk k off x steps ≡ good t → Below bound steps
-steps-below k off x steps t bound small h = leads-below bound (walk-leads k off x steps t h) small

@@ -1,13 +1,12 @@
 -- Shapes that are laid out as they should be (specs/Place), and where their places lie.
 --
--- In order: what is asked of a shape (`Sound`); lists of places in order (`Ordered`); the places of a sound shape are in order, inside.
+-- In order: what is asked of a shape (`Sound`); multiples; lists of places in order (`Ordered`); the places of a sound shape are in order, inside.
 -- Assumes nothing.
-use Prim.Native.Nat.{ℕ, zero, suc, _+_, _*_, _%_, _<_, _≤_}
+use Prim.Native.Nat.{ℕ, zero, suc, _+_, _*_, _/_, _%_, _<_, _≤_}
 use mathlib.Core.List.{List, [], _∷_, _++_}
-use mathlib.Core.Path.{_≡_, refl}
+use mathlib.Core.Path.{_≡_}
 use native.Mathlib.Omega.{arith}
-use native.Mathlib.Nat.{suc-mul}
-use Rattle.wgsl.specs.Types.{Scalar}
+use native.Mathlib.Nat.{suc-mul, mul-assoc, mul-mod-left, div-add-mod'}
 use Rattle.wgsl.specs.Size.{present, widthOf}
 use Rattle.wgsl.specs.Place.{Shape, one, parts, field, whole, spanOf, Place, wordPlaces, repeated, placesOf}
 
@@ -31,6 +30,30 @@ Sound (one s) = 0 < present (widthOf s)
 Sound (parts n stride x) = Sound x × (spanOf x ≤ stride) × Divides x stride
 Sound (field offset x rest) = Sound x × Sound rest × From rest (offset + spanOf x) × Divides x offset
 Sound (whole z) = Unit {0}
+
+-- a multiple of a multiple is a multiple
+multiple-trans : (w a m : ℕ) → a % w ≡ 0 → m % a ≡ 0 → m % w ≡ 0
+multiple-trans w a m h k =
+    let e : a / w * w ≡ a = omega (arith, div-add-mod' a w) in
+    let f : m / a * a ≡ m = omega (arith, div-add-mod' m a) in
+    let g : m / a * (a / w) * w ≡ m = rw (mul-assoc (m / a) (a / w) w, e) f in
+    rw g at (mul-mod-left (m / a * (a / w)) w)
+
+-- What suits a number suits its multiples.
+pub divides-multiple : (x : Shape) (a m : ℕ) → Divides x a → m % a ≡ 0 → Divides x m
+unfolding Divides
+divides-multiple (one s) a m d h = multiple-trans (present (widthOf s)) a m d h
+divides-multiple (parts n stride x) a m d h = divides-multiple x a m d h
+divides-multiple (field offset x rest) a m d h = (divides-multiple x a m (d .0) h, divides-multiple rest a m (d .1) h)
+divides-multiple (whole z) a m d h = tt
+
+-- What begins at lo or later begins at anything lower or later.
+pub from-low : (x : Shape) (lo′ lo : ℕ) → lo′ ≤ lo → From x lo → From x lo′
+unfolding From
+from-low (one s) lo′ lo h f = f
+from-low (parts n stride x) lo′ lo h f = f
+from-low (field offset x rest) lo′ lo h f = omega arith
+from-low (whole z) lo′ lo h f = omega arith
 
 -- the places lie between lo and hi, each past the end of the one before
 unfoldable pub Ordered : List Place → ℕ → ℕ → Type 0

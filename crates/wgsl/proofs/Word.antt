@@ -2,11 +2,11 @@
 --
 -- In order: lengths; bytes that no place covers; words that fit; what is read back; one scalar changed; `written`.
 -- Assumes nothing.
-use Prim.Native.Nat.{ℕ, zero, suc, _+_, _-_, _^_, _<_, _≤_}
-use mathlib.Core.List.{List, [], _∷_, _++_, map}
-use mathlib.Core.Bool.{Bool, true, false, not}
-use mathlib.Core.Path.{_≡_, refl, ap, sym, _∙_}
-use mathlib.Core.Logic.{_⊎_, inl, inr, ⊎-elim}
+use Prim.Native.Nat.{ℕ, suc, _+_, _-_, _^_, _<_, _≤_}
+use mathlib.Core.List.{List, [], _∷_, _++_}
+use mathlib.Core.Bool.{not}
+use mathlib.Core.Path.{_≡_, refl, ap, _∙_}
+use mathlib.Core.Logic.{inl, inr}
 use native.Mathlib.Omega.{arith}
 use borrow.Author.Tests.{ltb-true, not-false, lt-ltb}
 use lib.Dec.{ltb}
@@ -14,8 +14,9 @@ use lib.ListN.{length, getD, drop, replicate, length-append, length-drop, length
 use lib.Seq.{getD-drop, getD-append-add}
 use Rattle.wgsl.specs.Number.{load, store}
 use Rattle.wgsl.specs.Types.{Ty}
-use Rattle.wgsl.specs.Said.{Said, good, _>>_, refuse}
+use Rattle.wgsl.specs.Said.{good, _>>_, refuse}
 use Rattle.wgsl.specs.Place.{Place, extentOf, places, storeWords, written, wordsRead, canHold, checkWords}
+use Rattle.wgsl.proofs.Said.{refuse-good}
 use Rattle.wgsl.proofs.Number.{Outside, length-store, store-other, load-same, load-store}
 use Rattle.wgsl.proofs.Shape.{Ordered, ordered-span}
 
@@ -71,18 +72,13 @@ Fit [] ws = Unit {0}
 Fit (p ∷ ps) [] = Unit {0}
 Fit (p ∷ ps) (w ∷ ws) = (w < 256 ^ p .width) × Fit ps ws
 
-passed : {A : Type 0} (number place : ℕ) (test : Bool) (rest : Said A) (a : A) → _>>_ (refuse number place test) rest ≡ good a → (test ≡ false) × (rest ≡ good a)
-unfolding _>>_ refuse
-passed number place true rest a e = let z : _≡_ {A = ℕ} 0 1 = cc in absurd (omega arith)
-passed number place false rest a e = (refl, e)
-
 -- Words that are not refused fit.
 pub checkWords-fit : (k : ℕ) (ps : List Place) (ws : List ℕ) → checkWords k ps ws ≡ good tt → Fit ps ws
 unfolding checkWords Fit canHold
 checkWords-fit k [] ws e = tt
 checkWords-fit k (p ∷ ps) [] e = tt
 checkWords-fit k (p ∷ ps) (w ∷ ws) e =
-    let c = passed 16 k (not (ltb w (256 ^ p .width))) (checkWords (suc k) ps ws) tt e in
+    let c = refuse-good 16 k (not (ltb w (256 ^ p .width))) (checkWords (suc k) ps ws) e in
     (ltb-true w (256 ^ p .width) (not-false _ (c .0)), checkWords-fit (suc k) ps ws (c .1))
 
 -- Words that fit are not refused.

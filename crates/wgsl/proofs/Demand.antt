@@ -1,0 +1,246 @@
+-- The customer's demand 3: scalars lie inside, at multiples of their size, and apart; and a set is read back alone.
+--
+-- In order: what the demand assumes; what follows for the entry and for a path; inside and at a multiple; apart; set, then read; the
+-- demand.
+-- Assumes nothing.
+use Prim.Native.Nat.{ℕ, suc, _+_, _%_, _^_, _<_, _≤_}
+use mathlib.Core.Bool.{true, false}
+use mathlib.Core.List.{List, [], _∷_, _++_, map, append-assoc}
+use mathlib.Core.Logic.{_⊎_, ⊎-map}
+use mathlib.Core.Option.{some}
+use mathlib.Core.Path.{_≡_, refl, ap, sym, _∙_}
+use native.Mathlib.Omega.{arith}
+use borrow.Author.Tests.{le-leb, le-ltb}
+use lib.ListN.{length, getD, drop, set, getElem?, length-append}
+use lib.Seq.{set-at}
+use Rattle.wgsl.specs.Round.{limit, withinLimit}
+use Rattle.wgsl.specs.Number.{load}
+use Rattle.wgsl.specs.Types.{Scalar, Ty, everywhere}
+use Rattle.wgsl.specs.Size.{present, widthOf, sizeOf, hasLayout, isPlain, isStorable}
+use Rattle.wgsl.specs.Said.{good, orRefuse}
+use Rattle.wgsl.specs.Place.{elementsBy, elementsIn, one, shapeOf, spanOf, Place, wordPlaces, places, wordCount, storeWords, wordsRead}
+use Rattle.wgsl.specs.Path.{walk, stepOf}
+use Rattle.wgsl.specs.Call.{entryOf, isShort, readCall, targetIn, viewCall, scalarAt, setCall}
+use Rattle.wgsl.proofs.Absent.{both-hold, present-is}
+use Rattle.wgsl.proofs.Said.{next-is, then-good, then-is, refuse-good, refuse-no}
+use Rattle.wgsl.proofs.Number.{Outside}
+use Rattle.wgsl.proofs.Shape.{Divides, Sound, Ordered}
+use Rattle.wgsl.proofs.Path.{target, target-inside, target-multiple, Apart, paths-apart}
+use Rattle.wgsl.proofs.PathPlace.{path-place}
+use Rattle.wgsl.proofs.Step.{stepOf-injective}
+use Rattle.wgsl.proofs.Word.{length-storeWords, Uncovered, Fit, storeWords-uncovered, fit-checkWords, length-wordsRead, wordsRead-append, wordsRead-middle}
+use Rattle.wgsl.proofs.Tail.{closed-tail, closed-extent, sized-closed}
+use Rattle.wgsl.proofs.Call.{Stored, laid-good, stored-is, entry-well-formed, entry-sound, entry-places, done, read-is}
+
+-- ---- what the demand assumes
+
+-- An accepted table, a storable entry of fixed size, and a buffer of at least that size and within the limit.
+pub record Given (f : List ℕ) (e : ℕ) (b : List ℕ) : Type 0 where
+  pub type : Ty
+  pub size : ℕ
+  pub entry : entryOf f e ≡ good type
+  pub storable : isStorable type ≡ true
+  pub sized : sizeOf type ≡ some size
+  pub room : size ≤ length b
+  pub within : length b ≤ limit
+
+-- The path leads to one scalar, s, at the offset a.
+pub record Leading (f : List ℕ) (e : ℕ) (b path : List ℕ) (a : ℕ) (s : Scalar) : Type 0 where
+  pub leads : viewCall f e path b ≡ good (record { offset = a; shape = one s })
+
+-- every number of the list has 32 bits
+unfoldable pub Words : List ℕ → Type 0
+Words [] = Unit {0}
+Words (w ∷ ws) = (w < 2 ^ 32) × Words ws
+
+-- numbers of 32 bits that say the same steps are the same
+steps-injective : (p q : List ℕ) → Words p → Words q → map stepOf p ≡ map stepOf q → p ≡ q
+unfolding Words
+steps-injective [] [] g h e = refl
+steps-injective [] (n ∷ q) g h e = let z : _≡_ {A = ℕ} 0 1 = cc in absurd (omega arith)
+steps-injective (m ∷ p) [] g h e = let z : _≡_ {A = ℕ} 0 1 = cc in absurd (omega arith)
+steps-injective (m ∷ p) (n ∷ q) g h e =
+    let first : m ≡ n = stepOf-injective m n (g .0) (h .0) (cc) in
+    let rest : p ≡ q = steps-injective p q (g .1) (h .1) (cc) in
+    cc
+
+-- ---- what follows for the entry and for a path
+
+-- the entry is laid out from 0 to its size, and no call about it is refused by 8, 17, 9, 10 or 15
+record Fixed (f : List ℕ) (e : ℕ) (b : List ℕ) (t : Ty) (size : ℕ) : Type 0 where
+  stored : Stored f e b t
+  not-short : isShort t b ≡ false
+  no-elements : elementsIn (length b) t ≡ 0
+  sound : Sound (shapeOf 0 t)
+  span : spanOf (shapeOf 0 t) ≡ size
+  divides : Divides (shapeOf 0 t) 0
+  ordered : Ordered (places 0 t) 0 size
+
+fixed : {f : List ℕ} {e : ℕ} {b : List ℕ} (c : List ℕ) (g : Given f e b) → length c ≡ length b → Fixed f e c (g .type) (g .size)
+unfolding isStorable withinLimit isShort elementsIn elementsBy
+fixed {f} {e} {b} c g q =
+    let t = g .type in
+    let layout = both-hold (hasLayout t) (everywhere isPlain t) (g .storable) .0 in
+    let closed = sized-closed t (g .size) (entry-well-formed f e t (g .entry)) (g .sized) in
+    let size : present (sizeOf t) ≡ g .size = ap present (g .sized) ∙ present-is (g .size) in
+    let x = entry-sound f e t (g .entry) layout 0 in
+    let takes = closed-extent 0 t closed ∙ size in
+    record {
+      stored =
+          record {
+            entry = g .entry;
+            within = le-leb (length c) limit (omega (arith, g .within));
+            layout = layout;
+            storable = g .storable;
+          };
+      not-short = rw closed (le-ltb (length c) (present (sizeOf t)) (omega (arith, g .room)));
+      no-elements = rw (closed-tail t closed);
+      sound = x .0;
+      span = x .1 ∙ takes;
+      divides = x .2;
+      ordered = rw takes at (entry-places f e t (g .entry) layout 0);
+    }
+
+module _ {f : List ℕ} {e : ℕ} {b : List ℕ} (g : Given f e b) where
+  -- the walk that a view makes
+  walks : {path : List ℕ} {a : ℕ} {s : Scalar} → Leading f e b path a s → walk 0 0 (shapeOf 0 (g .type)) (map stepOf path) ≡ good (target a (one s))
+  unfolding viewCall targetIn
+  walks {path} {a} {s} l =
+      let x = fixed b g refl in
+      let h = then-good _ _ (l .leads) in
+      let same : h .value ≡ g .type = cc (laid-good (h .first) .entry, g .entry) in
+      let w = refuse-good 15 0 _ _ (h .after) .1 in
+      ap (λ (n : ℕ). walk 0 0 (shapeOf n (g .type)) (map stepOf path)) (sym (x .no-elements))
+      ∙ ap (λ (t : Ty). walk 0 0 (shapeOf (elementsIn (length b) t) t) (map stepOf path)) (sym same)
+      ∙ w
+
+  -- ---- inside and at a multiple
+
+  -- A scalar that a path leads to lies inside the entry's size, at a multiple of its own size.
+  pub scalar-inside : {path : List ℕ} {a : ℕ} {s : Scalar} → Leading f e b path a s → (a + present (widthOf s) ≤ g .size) × (a % present (widthOf s) ≡ 0)
+  unfolding spanOf
+  scalar-inside {path} {a} {s} l =
+      let x = fixed b g refl in
+      let shape = shapeOf 0 (g .type) in
+      let i = target-inside 0 0 shape (map stepOf path) (target a (one s)) (x .sound) (walks l) in
+      (omega (arith, i .2, x .span), target-multiple 0 0 shape (map stepOf path) a s (x .sound) (x .divides) (walks l))
+
+  -- A scalar that a path leads to has a size.
+  pub scalar-sized : {path : List ℕ} {a : ℕ} {s : Scalar} → Leading f e b path a s → 0 < present (widthOf s)
+  unfolding Sound
+  scalar-sized {path} {a} {s} l =
+      target-inside 0 0 (shapeOf 0 (g .type)) (map stepOf path) (target a (one s)) (fixed b g refl .sound) (walks l) .0
+
+  -- ---- apart
+
+  -- Two paths to scalars are the same, or the scalars share no byte.
+  pub scalars-apart : {p q : List ℕ} {a c : ℕ} {s u : Scalar} → Leading f e b p a s → Leading f e b q c u → Words p → Words q → (p ≡ q) ⊎ Apart a (present (widthOf s)) c (present (widthOf u))
+  scalars-apart {p} {q} {a} {c} {s} {u} l m v w =
+      let x = shapeOf 0 (g .type) in
+      ⊎-map (λ (h : map stepOf p ≡ map stepOf q). steps-injective p q v w h) (λ h. h)
+      (paths-apart 0 0 x (map stepOf p) (map stepOf q) a c s u (fixed b g refl .sound) (walks l) (walks m))
+
+-- ---- set, then read
+
+-- The word w is set at a path to the scalar s at the offset a: the bytes outside that scalar stay, and a read into ws gives what it gave
+-- before, but w at the scalar's position.
+pub record SetThenRead {f : List ℕ} {e : ℕ} {b : List ℕ} (g : Given f e b) (path : List ℕ) (a : ℕ) (s : Scalar) (w : ℕ) (ws : List ℕ) : Type 0 where
+  pub b′ : List ℕ
+  pub set-is : setCall f e path w b ≡ good (record { value = a; contents = b′ })
+  pub length-same : length b′ ≡ length b
+  pub others-stay : (i : ℕ) → Outside a (present (widthOf s)) i → getD b′ i 0 ≡ getD b i 0
+  pub count : ℕ
+  pub old : List ℕ
+  pub read-before : readCall f e b ws ≡ good (record { value = count; contents = old })
+  pub position : ℕ
+  pub position-inside : position < count
+  pub position-is : getElem? (places 0 (g .type)) position ≡ some (record { at = a; width = present (widthOf s) })
+  pub read-after : readCall f e b′ ws ≡ good (record { value = count; contents = set old position w })
+
+element-seam : {A : Type 0} (front : List A) (x : A) (back : List A) → getElem? (front ++ (x ∷ back)) (length front) ≡ some x
+element-seam [] x back = refl
+element-seam (y ∷ front) x back = element-seam front x back
+
+-- the word w stored at the place of a scalar s is the one word that a read of the places around it finds changed
+one-changed : (before after : List Place) (s : Scalar) (a w : ℕ) (b rest : List ℕ) (hi : ℕ) → Ordered (before ++ (wordPlaces s a ++ after)) 0 hi → hi ≤ length b → w < 256 ^ present (widthOf s) → wordsRead (before ++ (wordPlaces s a ++ after)) (storeWords (wordPlaces s a) (w ∷ []) b) ++ rest ≡ set (wordsRead (before ++ (wordPlaces s a ++ after)) b ++ rest) (length before) w
+unfolding wordPlaces Fit wordsRead
+one-changed before after s a w b rest hi o room small =
+    let here = wordPlaces s a in
+    let x = load (present (widthOf s)) b a in
+    let front = wordsRead before b in
+    let back = wordsRead after b in
+    let new = wordsRead-middle before here after (w ∷ []) b 0 hi o room refl (small, tt) in
+    let was = wordsRead-append before (here ++ after) b in
+    ap (λ (l : List ℕ). l ++ rest) new
+    ∙ append-assoc front (w ∷ back) rest
+    ∙ sym (set-at front x (back ++ rest) w (length before) (length-wordsRead before b))
+    ∙ ap (λ (l : List ℕ). set l (length before) w) (sym (append-assoc front (x ∷ back) rest))
+    ∙ ap (λ (l : List ℕ). set (l ++ rest) (length before) w) (sym was)
+
+-- a set at a path to a scalar that can hold the word is not refused
+set-done : {f : List ℕ} {e : ℕ} {b path : List ℕ} {a : ℕ} {s : Scalar} (g : Given f e b) → Leading f e b path a s → (w : ℕ) → w < 256 ^ present (widthOf s) → setCall f e path w b ≡ good (done a (storeWords (wordPlaces s a) (w ∷ []) b))
+unfolding setCall targetIn scalarAt orRefuse wordPlaces Fit
+set-done {f} {e} {b} {path} {a} {s} g l w small =
+    let x = fixed b g refl in
+    let there = ap (λ (n : ℕ). walk 0 0 (shapeOf n (g .type)) (map stepOf path)) (x .no-elements) ∙ walks g l in
+    then-is _ (stored-is (x .stored))
+    ∙ then-is _ (refuse-no 15 0 (x .not-short) ∙ there)
+    ∙ then-is _ refl
+    ∙ next-is _ (fit-checkWords 0 (wordPlaces s a) (w ∷ []) (small, tt))
+
+-- A word that the scalar can hold, set at a path, is read back at the scalar's position, and nothing else changes.
+pub set-then-read : {f : List ℕ} {e : ℕ} {b path : List ℕ} {a : ℕ} {s : Scalar} (g : Given f e b) → Leading f e b path a s → (w : ℕ) → w < 256 ^ present (widthOf s) → (ws : List ℕ) → wordCount 0 (g .type) ≤ length ws → SetThenRead g path a s w ws
+unfolding wordPlaces places wordCount Uncovered
+set-then-read {f} {e} {b} {path} {a} {s} g l w small ws room =
+    let t = g .type in
+    let here = wordPlaces s a in
+    let b′ = storeWords here (w ∷ []) b in
+    let same = length-storeWords here (w ∷ []) b in
+    let x = fixed b g refl in
+    let x′ = fixed b′ g same in
+    let k = wordCount 0 t in
+    let p = path-place 0 0 (shapeOf 0 t) (map stepOf path) a s (walks g l) in
+    let o : Ordered (p .before ++ (here ++ p .after)) 0 (g .size) = rw (p .split) at (x .ordered) in
+    let rest = drop k ws in
+    let changed = one-changed (p .before) (p .after) s a w b rest (g .size) o (g .room) small in
+    let long : length (places 0 t) ≡ length (p .before) + suc (length (p .after)) =
+    ap length (p .split) ∙ length-append (p .before) (here ++ p .after) in
+    record {
+      b′ = b′;
+      set-is = set-done g l w small;
+      length-same = same;
+      others-stay = λ i u. storeWords-uncovered here (w ∷ []) b i (u, tt);
+      count = k;
+      old = wordsRead (places 0 t) b ++ rest;
+      read-before = read-is f e b ws t 0 (x .stored) (x .not-short) (x .no-elements) room;
+      position = length (p .before);
+      position-inside = omega arith;
+      position-is =
+          ap (λ (ps : List Place). getElem? ps (length (p .before))) (p .split)
+          ∙ element-seam (p .before) (record { at = a; width = present (widthOf s) }) (p .after);
+      read-after =
+          read-is f e b′ ws t 0 (x′ .stored) (x′ .not-short) (x′ .no-elements) room
+          ∙ ap (λ (l : List ℕ). good (done k l))
+          (ap (λ (ps : List Place). wordsRead ps b′ ++ rest) (p .split)
+          ∙ changed
+          ∙ ap (λ (ps : List Place). set (wordsRead ps b ++ rest) (length (p .before)) w) (sym (p .split)));
+    }
+
+-- ---- the demand
+
+-- What the demand asks of an entry and a buffer, in its order.
+pub record DemandThree {f : List ℕ} {e : ℕ} {b : List ℕ} (g : Given f e b) : Type 0 where
+  -- a valid path to a scalar lies inside, at a multiple of the scalar's size
+  pub inside : (path : List ℕ) (a : ℕ) (s : Scalar) → Leading f e b path a s → (a + present (widthOf s) ≤ g .size) × (a % present (widthOf s) ≡ 0)
+  -- different paths to scalars share no byte
+  pub apart : (p q : List ℕ) (a c : ℕ) (s u : Scalar) → Leading f e b p a s → Leading f e b q c u → Words p → Words q → (p ≡ q) ⊎ Apart a (present (widthOf s)) c (present (widthOf u))
+  -- what is set is read back, alone
+  pub set-read : (path : List ℕ) (a : ℕ) (s : Scalar) → Leading f e b path a s → (w : ℕ) → w < 256 ^ present (widthOf s) → (ws : List ℕ) → wordCount 0 (g .type) ≤ length ws → SetThenRead g path a s w ws
+
+-- Demand 3 is met: of every storable entry of fixed size in an accepted table, and every buffer that is long enough.
+pub demand-three : {f : List ℕ} {e : ℕ} {b : List ℕ} (g : Given f e b) → DemandThree g
+demand-three g = record {
+  inside = λ path a s l. scalar-inside g l;
+  apart = λ p q a c s u l m v w. scalars-apart g l m v w;
+  set-read = λ path a s l w small ws room. set-then-read g l w small ws room;
+}
