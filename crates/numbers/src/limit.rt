@@ -1,6 +1,6 @@
 // Numbers that are at most 4,294,967,295, or too large (document 01's refusal 7).
 ghost use mathlib.Core.Path.{_≡_};
-ghost use Prim.Native.Nat.{_*_, _<_};
+ghost use Prim.Native.Nat.{_+_, _*_, _<_};
 ghost use Rattle.wgsl.specs.Round.{up};
 ghost use Rattle.numbers.specs.Limit.{limited};
 
@@ -41,4 +41,11 @@ pub fn product(a: u32, b: u32) -> Limited
     ensures { λ r. ⌜ r ≡ limited (a * b) ⌝ }
 {
     within(wide32(a) * wide32(b))
+}
+
+// The sum of two numbers.
+pub fn sum(a: u32, b: u32) -> Limited
+    ensures { λ r. ⌜ r ≡ limited (a + b) ⌝ }
+{
+    within(wide32(a) + wide32(b))
 }

@@ -13,7 +13,7 @@ use borrow.Author.Tests.{leb-true}
 use Rattle.wgsl.specs.Round.{up}
 use Rattle.wgsl.specs.Types.{Ty, struct, Members, no-more, member, isRuntime, endsInRuntime, isOpen, everywhere, everyMember}
 use Rattle.wgsl.specs.Size.{both, givenOr, isPresent, present, startAfter, endAfter, sizeOf, alignOf, membersAlign, membersEnd}
-use Rattle.wgsl.specs.Rule.{isLast, membersAllowed, isWellFormed, atLeast, givenSizeFits, givenAlignFits, membersGivenFit}
+use Rattle.wgsl.specs.Rule.{isLast, memberAllowed, membersAllowed, isWellFormed, atLeast, givenSizeFits, givenAlignFits, membersGivenFit}
 use Rattle.wgsl.specs.Place.{Tail, tailAt, membersTail, tailOf, extentBy, extentOf}
 use Rattle.wgsl.proofs.Round.{up-not-below}
 use Rattle.wgsl.proofs.Absent.{both-hold, either-holds, true-not-false, some-not-none, present-some, some-present, present-is, both-some, given-present}
@@ -34,7 +34,7 @@ pub record Member (t : Ty) (size align : Option ℕ) (ms : Members) : Type 0 whe
   pub rest-fits : membersGivenFit ms ≡ true
 
 pub first-member : (t : Ty) (size align : Option ℕ) (ms : Members) → everyMember isWellFormed (member t size align ms) ≡ true → membersAllowed (member t size align ms) ≡ true → membersGivenFit (member t size align ms) ≡ true → Member t size align ms
-unfolding everyMember membersAllowed membersGivenFit
+unfolding everyMember memberAllowed membersAllowed membersGivenFit
 first-member t size align ms w ok g =
     let ws = both-hold (everywhere isWellFormed t) (everyMember isWellFormed ms) w in
     let oks = both-hold (isPresent (alignOf t) && (isPresent (sizeOf t) || (isLast ms && isRuntime t))) (membersAllowed ms) ok in

@@ -142,10 +142,12 @@ countOf no-more = 0
 countOf (member t size align ms) = suc (countOf ms)
 
 -- "A member type has size and alignment, except that the last may be a runtime array."
+unfoldable pub memberAllowed : Bool → Ty → Bool
+memberAllowed last t = isPresent (alignOf t) && (isPresent (sizeOf t) || (last && isRuntime t))
+
 unfoldable pub membersAllowed : Members → Bool
 membersAllowed no-more = true
-membersAllowed (member t size align ms) =
-    isPresent (alignOf t) && (isPresent (sizeOf t) || (isLast ms && isRuntime t)) && membersAllowed ms
+membersAllowed (member t size align ms) = memberAllowed (isLast ms) t && membersAllowed ms
 
 -- Refusal 5: what the table of kinds and the sentences after it say of a type's own numbers and of the types right below it.
 unfoldable pub isAllowed : Ty → Bool
