@@ -24,3 +24,4 @@ pub mod Call
 pub mod Demand
 pub mod Rank
 pub mod Case
+pub mod Claims
