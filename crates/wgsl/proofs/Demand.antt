@@ -66,17 +66,18 @@ steps-injective (m ∷ p) (n ∷ q) g h e =
 
 -- ---- what follows for the entry and for a path
 
--- the entry is laid out from 0 to its size, and no call about it is refused by 8, 17, 9, 10 or 15
-record Fixed (f : List ℕ) (e : ℕ) (b : List ℕ) (t : Ty) (size : ℕ) : Type 0 where
-  stored : Stored f e b t
-  not-short : isShort t b ≡ false
-  no-elements : elementsIn (length b) t ≡ 0
-  sound : Sound (shapeOf 0 t)
-  span : spanOf (shapeOf 0 t) ≡ size
-  divides : Divides (shapeOf 0 t) 0
-  ordered : Ordered (places 0 t) 0 size
+-- The entry is laid out from 0 to its size, and no call about it is refused by 8, 17, 9, 10 or 15.
+pub record Fixed (f : List ℕ) (e : ℕ) (b : List ℕ) (t : Ty) (size : ℕ) : Type 0 where
+  pub stored : Stored f e b t
+  pub not-short : isShort t b ≡ false
+  pub no-elements : elementsIn (length b) t ≡ 0
+  pub sound : Sound (shapeOf 0 t)
+  pub span : spanOf (shapeOf 0 t) ≡ size
+  pub divides : Divides (shapeOf 0 t) 0
+  pub ordered : Ordered (places 0 t) 0 size
 
-fixed : {f : List ℕ} {e : ℕ} {b : List ℕ} (c : List ℕ) (g : Given f e b) → length c ≡ length b → Fixed f e c (g .type) (g .size)
+-- An entry with a buffer as given is so laid out, in any buffer of that length.
+pub fixed : {f : List ℕ} {e : ℕ} {b : List ℕ} (c : List ℕ) (g : Given f e b) → length c ≡ length b → Fixed f e c (g .type) (g .size)
 unfolding isStorable withinLimit isShort elementsIn elementsBy
 fixed {f} {e} {b} c g q =
     let t = g .type in
@@ -102,8 +103,8 @@ fixed {f} {e} {b} c g q =
     }
 
 module _ {f : List ℕ} {e : ℕ} {b : List ℕ} (g : Given f e b) where
-  -- the walk that a view makes
-  walks : {path : List ℕ} {a : ℕ} {s : Scalar} → Leading f e b path a s → walk 0 0 (shapeOf 0 (g .type)) (map stepOf path) ≡ good (target a (one s))
+  -- A view that leads to a scalar walks there.
+  pub walks : {path : List ℕ} {a : ℕ} {s : Scalar} → Leading f e b path a s → walk 0 0 (shapeOf 0 (g .type)) (map stepOf path) ≡ good (target a (one s))
   unfolding viewCall targetIn
   walks {path} {a} {s} l =
       let x = fixed b g refl in

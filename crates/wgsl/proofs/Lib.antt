@@ -22,5 +22,7 @@ pub mod Index
 pub mod Elements
 pub mod Call
 pub mod Demand
+pub mod OnePath
 pub mod Rank
 pub mod Case
+pub mod Claims

@@ -1,0 +1,119 @@
+-- Each place of an entry has one path, and each path to a scalar leads to a place (specs/Place, specs/Path, specs/Call).
+--
+-- In order: the one path to a place of a shape; steps as numbers; the one path to a place of an entry; a path's place.
+-- Assumes nothing.
+use Prim.Native.Nat.{ℕ, _^_, _<_}
+use mathlib.Core.List.{List, [], _∷_, map, List·Memᴰ, List·Memᴰ·head, Memᴰ·append-right}
+use mathlib.Core.Logic.{_⊎_, inl, inr}
+use mathlib.Core.Path.{_≡_, refl, ap, _∙_}
+use native.Mathlib.Omega.{arith}
+use Rattle.wgsl.specs.Types.{Scalar}
+use Rattle.wgsl.specs.Size.{present, widthOf}
+use Rattle.wgsl.specs.Said.{good}
+use Rattle.wgsl.specs.Place.{Shape, one, shapeOf, Place, wordPlaces, places}
+use Rattle.wgsl.specs.Path.{Step, index, member, stepOf, walk}
+use Rattle.wgsl.specs.Call.{targetIn, viewCall}
+use Rattle.wgsl.proofs.Said.{then-is, refuse-no}
+use Rattle.wgsl.proofs.Shape.{Sound}
+use Rattle.wgsl.proofs.Path.{target, target-inside, Apart, paths-apart}
+use Rattle.wgsl.proofs.PathPlace.{path-place, PlacePath, place-path}
+use Rattle.wgsl.proofs.Step.{number-of, step-code, stepOf-code, Below, steps-below}
+use Rattle.wgsl.proofs.Tail.{sized-has}
+use Rattle.wgsl.proofs.Index.{entry-small}
+use Rattle.wgsl.proofs.Call.{laid-is, entry-well-formed}
+use Rattle.wgsl.proofs.Demand.{Given, Leading, Words, fixed, walks, scalar-sized, scalars-apart}
+
+-- ---- the one path to a place of a shape
+
+-- two stretches of bytes that begin at a are not apart, unless one is empty
+same-start : {A : Type 0} {p q : A} (a m n : ℕ) → 0 < m → 0 < n → (p ≡ q) ⊎ Apart a m a n → p ≡ q
+same-start a m n g h (inl e) = e
+same-start a m n g h (inr (inl l)) = absurd (omega arith)
+same-start a m n g h (inr (inr l)) = absurd (omega arith)
+
+-- Every path to a scalar at the place's offset has the steps of the path that was found.
+pub one-path : (off : ℕ) (x : Shape) (p : Place) → Sound x → (found : PlacePath x off p) → (q : List Step) (u : Scalar) → walk 0 off x q ≡ good (target (p .at) (one u)) → q ≡ found .steps
+unfolding Sound
+one-path off x p sound found q u h =
+    let s = found .scalar-is in
+    let a = p .at in
+    let g = found .leads 0 in
+    same-start a (present (widthOf u)) (present (widthOf s))
+    (target-inside 0 off x q (target a (one u)) sound h .0)
+    (target-inside 0 off x (found .steps) (target a (one s)) sound g .0)
+    (paths-apart 0 off x q (found .steps) a a u s sound h g)
+
+-- ---- steps as numbers
+
+code-word : (s : Step) → number-of s < 2 ^ 31 → step-code s < 2 ^ 32
+unfolding number-of step-code
+code-word (index i) h = omega arith
+code-word (member i) h = omega arith
+
+codes-words : (steps : List Step) → Below (2 ^ 31) steps → Words (map step-code steps)
+unfolding Below Words
+codes-words [] h = tt
+codes-words (s ∷ steps) h = (code-word s (h .0), codes-words steps (h .1))
+
+-- steps whose numbers have 31 bits are read back from their codes
+codes-read : (steps : List Step) → Below (2 ^ 31) steps → map stepOf (map step-code steps) ≡ steps
+unfolding Below
+codes-read [] h = refl
+codes-read (s ∷ steps) h = cc (stepOf-code s (h .0), codes-read steps (h .1))
+
+-- ---- the one path to a place of an entry
+
+-- A path, as numbers of 32 bits, that leads to the place p, and the only one that does.
+pub record OnePath {f : List ℕ} {e : ℕ} {b : List ℕ} (g : Given f e b) (p : Place) : Type 0 where
+  pub path : List ℕ
+  pub scalar-is : Scalar
+  pub numbers : Words path
+  pub leads : Leading f e b path (p .at) scalar-is
+  pub width-is : p .width ≡ present (widthOf scalar-is)
+  pub only : (q : List ℕ) (u : Scalar) → Words q → Leading f e b q (p .at) u → q ≡ path
+
+-- a view whose walk finds a scalar leads there
+walk-leading : {f : List ℕ} {e : ℕ} {b path : List ℕ} {a : ℕ} {s : Scalar} (g : Given f e b) → walk 0 0 (shapeOf 0 (g .type)) (map stepOf path) ≡ good (target a (one s)) → Leading f e b path a s
+unfolding viewCall targetIn
+walk-leading {b = b} {path = path} g h =
+    let x = fixed b g refl in
+    let stored = x .stored in
+    let laid = laid-is (record { entry = stored .entry; within = stored .within; layout = stored .layout }) in
+    let there = ap (λ (n : ℕ). walk 0 0 (shapeOf n (g .type)) (map stepOf path)) (x .no-elements) ∙ h in
+    record { leads = then-is _ laid ∙ refuse-no 15 0 (x .not-short) ∙ there }
+
+-- Every place of the entry has a path that leads to it, and no other path does.
+pub place-has-one-path : {f : List ℕ} {e : ℕ} {b : List ℕ} (g : Given f e b) (p : Place) → List·Memᴰ p (places 0 (g .type)) → OnePath g p
+unfolding places
+place-has-one-path {f} {e} {b} g p m =
+    let t = g .type in
+    let x = shapeOf 0 t in
+    let found = place-path 0 x p (fixed b g refl .sound) m in
+    let s = found .scalar-is in
+    let steps = found .steps in
+    let path = map step-code steps in
+    let well = entry-well-formed f e t (g .entry) in
+    let small = entry-small 0 t well (sized-has t (g .size) (g .sized)) (λ o. omega arith) in
+    let below = steps-below 0 0 x steps (target (p .at) (one s)) (2 ^ 31) small (found .leads 0) in
+    let numbers = codes-words steps below in
+    let there : Leading f e b path (p .at) s =
+    walk-leading g (ap (λ (l : List Step). walk 0 0 x l) (codes-read steps below) ∙ found .leads 0) in
+    record {
+      path = path;
+      scalar-is = s;
+      numbers = numbers;
+      leads = there;
+      width-is = found .width-is;
+      only = λ q u v l.
+          same-start (p .at) (present (widthOf u)) (present (widthOf s)) (scalar-sized g l) (scalar-sized g there)
+          (scalars-apart g l there v numbers);
+    }
+
+-- ---- a path's place
+
+-- Every path to a scalar leads to a place of the entry.
+pub path-has-place : {f : List ℕ} {e : ℕ} {b path : List ℕ} {a : ℕ} {s : Scalar} (g : Given f e b) → Leading f e b path a s → List·Memᴰ (record { at = a; width = present (widthOf s) }) (places 0 (g .type))
+unfolding places wordPlaces
+path-has-place {path = path} {a = a} {s = s} g l =
+    let r = path-place 0 0 (shapeOf 0 (g .type)) (map stepOf path) a s (walks g l) in
+    rw (r .split) (Memᴰ·append-right (r .before) (List·Memᴰ·head refl))
