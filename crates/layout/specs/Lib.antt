@@ -1,3 +1,3 @@
-pub mod Run
 pub mod Table
+pub mod Run
 pub mod Answer

@@ -1,21 +1,27 @@
 -- What the members so far of a struct come to, in the words of crates/wgsl.
 --
--- In order: one member more; where members end and what they hold; the verdict on them so far; members that more may follow.
+-- In order: one member more; where members end and what they hold; the verdict on them so far; what the code's functions ask: members
+-- that more may follow, one more that joins them, all members of a struct; where member entries lie; the lower entries.
 -- Definitions only. Assumes nothing.
-use Prim.Native.Nat.{ℕ, _+_, _*_, _≤_, _<_}
+use Prim.Native.Nat.{ℕ, _+_, _*_, _≤_}
 use mathlib.Core.Path.{_≡_}
 use mathlib.Core.Bool.{Bool, true, false, cond, _&&_}
-use mathlib.Core.List.{_∷_}
+use mathlib.Core.List.{List, _∷_}
 use mathlib.Core.Option.{Option, none, some}
-use Rattle.wgsl.specs.Types.{Ty, Members, no-more, member, endsInRuntime, everyMember}
+use lib.ListN.{length}
+use Rattle.wgsl.specs.Types.{Ty, Members, no-more, member, endsInRuntime, everywhere, everyMember}
 use Rattle.wgsl.specs.Size.{present, membersAlign, membersEnd, offsetsOf, withinLimits, isPlain}
-use Rattle.wgsl.specs.File.{MemberEntry, givenSize, givenAlign}
-use Rattle.wgsl.specs.Rule.{memberAllowed, membersGivenFit, isWellFormed}
+use Rattle.wgsl.specs.File.{Trailer, trailerOf, typeEntryLength, memberEntryLength, MemberEntry, givenSize, givenAlign, restIsZero}
+use Rattle.wgsl.specs.Rule.{countOf, memberAllowed, membersAllowed, givenSizeFits, givenAlignFits, membersGivenFit, isWellFormed}
 use Rattle.wgsl.specs.Place.{membersTail}
-use Rattle.kinds.specs.Value.{tailStride, tailOffset, fixedWords}
+use Rattle.kinds.specs.declared.value.Layout.{Layout}
+use Rattle.kinds.specs.Value.{tailStride, tailOffset, fixedWords, valueOf}
+use Rattle.layout.specs.Table.{Holds}
 use Rattle.layout.specs.declared.run.Ends.{Ends}
 use Rattle.layout.specs.declared.run.Run.{Run}
 use Rattle.layout.specs.declared.run.Run.the-variants.{Placed, Unfit, TooLarge}
+use Rattle.layout.specs.declared.run.Stepped.{Stepped}
+use Rattle.layout.specs.declared.run.Stepped.the-variants.{Next, Rule}
 
 -- members, and one more after them
 unfoldable pub after : Members → Ty → Option ℕ → Option ℕ → Members
@@ -51,25 +57,64 @@ unfoldable pub allSized : Members → Bool
 allSized no-more = true
 allSized (member t size align ms) = memberAllowed false t && allSized ms
 
--- members that passed the rules so far, and that more may follow
+-- members that passed rule 5 so far, and that more may follow
 pub record Going (ms : Members) : Type 0 where
   pub sized : allSized ms ≡ true
   pub well-formed : everyMember isWellFormed ms ≡ true
 
--- the verdict so far is that of such members
-pub record Begun (run : Run) : Type 0 where
-  pub members : Members
-  pub is : run ≡ runOf members
-  pub going : Going members
-
--- those that passed 6 and 7 too
-pub record BegunAt (p : Ends) : Type 0 where
-  pub members : Members
-  pub is : p ≡ endsOf members
-  pub going : Going members
-  pub given : membersGivenFit members ≡ true
-  pub fits : membersFit members ≡ true
-
 -- members, and one more of a member entry
 abbrev pub followed : Members → Ty → MemberEntry → Members
 followed ms t m = after ms t (givenSize m) (givenAlign m)
+
+-- members that end as p says and passed 6 and 7; and one more of type t, whose layout is l, that passes 5 and 6
+pub record Joins (p : Ends) (l : Layout) (m : MemberEntry) (ms : Members) (t : Ty) : Type 0 where
+  pub ends : p ≡ endsOf ms
+  pub layout : l ≡ valueOf t
+  pub going : Going ms
+  pub given : membersGivenFit ms ≡ true
+  pub fits : membersFit ms ≡ true
+  pub well-formed : everywhere isWellFormed t ≡ true
+  pub allowed : memberAllowed true t ≡ true
+  pub size-fits : givenSizeFits t (givenSize m) ≡ true
+  pub align-fits : givenAlignFits t (givenAlign m) ≡ true
+
+-- the verdict on members is `run`, and one more of type t, whose layout is l, comes
+pub record Meets (run : Run) (l : Layout) (ms : Members) (t : Ty) : Type 0 where
+  pub verdict : run ≡ runOf ms
+  pub layout : l ≡ valueOf t
+  pub going : Going ms
+  pub well-formed : everywhere isWellFormed t ≡ true
+
+-- what one more member comes to: 5, or the verdict on all
+unfoldable pub steppedTo : Bool → Members → Ty → MemberEntry → Stepped
+steppedTo last ms t m = cond (restIsZero m && memberAllowed last t) (Next (runOf (followed ms t m))) Rule
+
+-- all members of a struct, which passed 5
+pub record Complete (ms : Members) : Type 0 where
+  pub some-there : 1 ≤ countOf ms
+  pub few : countOf ms ≤ 1024
+  pub allowed : membersAllowed ms ≡ true
+  pub well-formed : everyMember isWellFormed ms ≡ true
+
+-- .. and 6 and 7, and end as p says
+pub record Ended (p : Ends) (ms : Members) : Type 0 where
+  pub ends : p ≡ endsOf ms
+  pub complete : Complete ms
+  pub given : membersGivenFit ms ≡ true
+  pub fits : membersFit ms ≡ true
+
+pub record Closes (run : Run) (ms : Members) : Type 0 where
+  pub verdict : run ≡ runOf ms
+  pub complete : Complete ms
+
+-- the byte where member entry m of a file begins
+unfoldable pub memberPlace : List ℕ → ℕ → ℕ
+memberPlace f m =
+    let r : Trailer = trailerOf f in
+    r .start + typeEntryLength * r .types + memberEntryLength (r .form) * m
+
+-- the table holds the layouts of the k lower entries, whose types are ts
+pub record Lower (ls : List Layout) (k : ℕ) (ts : List Ty) : Type 0 where
+  pub holds : Holds ls ts
+  pub count : length ts ≡ k
+  pub few : k ≤ 256

@@ -3,14 +3,13 @@ use file::fields::Member;
 use kinds::value::Layout;
 use numbers::power::is_power;
 ghost use mathlib.Core.Path.{_≡_};
-ghost use mathlib.Core.Bool.{_&&_};
+ghost use mathlib.Core.Bool.{true};
 ghost use Prim.Native.Nat.{_<_};
-ghost use Rattle.wgsl.specs.Types.{Ty};
+ghost use Rattle.wgsl.specs.Types.{Ty, everywhere};
 ghost use Rattle.wgsl.specs.File.{sizeIsGiven, alignIsGiven, givenSize, givenAlign, restIsZero};
-ghost use Rattle.wgsl.specs.Rule.{givenSizeFits, givenAlignFits};
+ghost use Rattle.wgsl.specs.Rule.{memberAllowed, givenSizeFits, givenAlignFits, isWellFormed};
 ghost use Rattle.file.specs.Fields.{memberIs};
 ghost use Rattle.kinds.specs.Value.{valueOf};
-ghost use Rattle.layout.specs.Run.{memberAllowed};
 
 // "Flag bit 0 says a size is given"
 pub fn size_given(m: Member) -> bool
@@ -46,7 +45,7 @@ pub fn rest_is_zero(m: Member) -> bool
 
 // "A member type has size and alignment, except that the last may be a runtime array."
 pub fn is_allowed(l: Layout, last: bool) -> bool
-    ensures { λ r. ⌜ ((t : Ty) → l ≡ valueOf t → r ≡ memberAllowed t last) ⌝ }
+    ensures { λ r. ⌜ ((t : Ty) → l ≡ valueOf t → everywhere isWellFormed t ≡ true → r ≡ memberAllowed last t) ⌝ }
 {
     if l.align == 0 {
         return false;
@@ -62,7 +61,7 @@ pub fn is_allowed(l: Layout, last: bool) -> bool
 
 // "A given size is at least the type's size and never stands on a runtime array."
 pub fn size_fits(m: Member, l: Layout) -> bool
-    ensures { λ r. ⌜ ((t : Ty) → l ≡ valueOf t → r ≡ givenSizeFits t (givenSize (memberIs m))) ⌝ }
+    ensures { λ r. ⌜ ((t : Ty) → l ≡ valueOf t → everywhere isWellFormed t ≡ true → r ≡ givenSizeFits t (givenSize (memberIs m))) ⌝ }
 {
     if !size_given(m) {
         return true;
@@ -76,7 +75,7 @@ pub fn size_fits(m: Member, l: Layout) -> bool
 // "A given align is a power of two and a multiple of the type's alignment."
 pub fn align_fits(m: Member, l: Layout) -> bool
     requires { ⌜ 0 < l .align ⌝ }
-    ensures { λ r. ⌜ ((t : Ty) → l ≡ valueOf t → r ≡ givenAlignFits t (givenAlign (memberIs m))) ⌝ }
+    ensures { λ r. ⌜ ((t : Ty) → l ≡ valueOf t → everywhere isWellFormed t ≡ true → r ≡ givenAlignFits t (givenAlign (memberIs m))) ⌝ }
 {
     if !align_given(m) {
         return true;

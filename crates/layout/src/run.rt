@@ -15,6 +15,18 @@ use kinds::value::Made;
 use numbers::limit::Limited;
 use numbers::limit::round_up;
 use numbers::limit::sum;
+ghost use mathlib.Core.Path.{_≡_};
+ghost use mathlib.Core.Bool.{Bool};
+ghost use mathlib.Core.List.{List};
+ghost use mathlib.Core.Option.{some};
+ghost use Prim.Native.Nat.{ℕ, _+_, _*_, _≤_, max};
+ghost use lib.ListN.{length};
+ghost use Rattle.wgsl.specs.Types.{Ty, Members, struct};
+ghost use Rattle.wgsl.specs.File.{trailerOf};
+ghost use Rattle.wgsl.specs.Rule.{andThen, membersFrom, structMade};
+ghost use Rattle.file.specs.Fields.{entryIs, memberIs};
+ghost use Rattle.kinds.specs.Value.{verdictOn, madeOf};
+ghost use Rattle.layout.specs.Run.{runOf, followed, Joins, Meets, steppedTo, Ended, Closes, memberPlace, Lower};
 
 // Where the members so far end, and what they hold.
 pub struct Ends {
@@ -41,12 +53,17 @@ pub enum Stepped {
     Rule,
 }
 
-fn larger(a: u32, b: u32) -> u32 {
+fn larger(a: u32, b: u32) -> u32
+    ensures { λ r. ⌜ r ≡ max a b ⌝ }
+{
     if a < b { b } else { a }
 }
 
 // One more member, whose size and align fit, after those that end as `p` says.
-fn place(p: Ends, l: Layout, m: Member) -> Run {
+fn place(p: Ends, l: Layout, m: Member) -> Run
+    requires { ⌜ ((ms : Members) × (t : Ty) × Joins p l (memberIs m) ms t) ⌝ }
+    ensures { λ r. ⌜ ((ms : Members) (t : Ty) → Joins p l (memberIs m) ms t → r ≡ runOf (followed ms t (memberIs m))) ⌝ }
+{
     let mut align = l.align;
     if align_given(m) {
         align = m.align;
@@ -86,7 +103,10 @@ fn place(p: Ends, l: Layout, m: Member) -> Run {
 }
 
 // One more member.
-fn step(run: Run, l: Layout, m: Member, last: bool) -> Stepped {
+fn step(run: Run, l: Layout, m: Member, last: bool) -> Stepped
+    requires { ⌜ ((ms : Members) × (t : Ty) × Meets run l ms t) ⌝ }
+    ensures { λ r. ⌜ ((ms : Members) (t : Ty) → Meets run l ms t → r ≡ steppedTo last ms t (memberIs m)) ⌝ }
+{
     if !rest_is_zero(m) {
         return Stepped::Rule;
     }
@@ -106,17 +126,11 @@ fn step(run: Run, l: Layout, m: Member, last: bool) -> Stepped {
     }
 }
 
-// Past the last member.
-fn finish(run: Run) -> Made {
-    match run {
-        Run::Placed(p) => whole(p),
-        Run::Unfit => Made::Given,
-        Run::TooLarge => Made::Large,
-    }
-}
-
 // The struct whose members end as `p` says.
-fn whole(p: Ends) -> Made {
+fn whole(p: Ends) -> Made
+    requires { ⌜ ((ms : Members) × Ended p ms) ⌝ }
+    ensures { λ r. ⌜ ((k : ℕ) (ms : Members) → Ended p ms → r ≡ verdictOn (struct k ms)) ⌝ }
+{
     if p.opens {
         return Made::Laid(Layout {
             kind: 12,
@@ -144,8 +158,24 @@ fn whole(p: Ends) -> Made {
     })
 }
 
+// Past the last member.
+fn finish(run: Run) -> Made
+    requires { ⌜ ((ms : Members) × Closes run ms) ⌝ }
+    ensures { λ r. ⌜ ((k : ℕ) (ms : Members) → Closes run ms → r ≡ verdictOn (struct k ms)) ⌝ }
+{
+    match run {
+        Run::Placed(p) => whole(p),
+        Run::Unfit => Made::Given,
+        Run::TooLarge => Made::Large,
+    }
+}
+
 // The members of a struct, `count` of them from byte `at` on, over the layouts of the `k` lower entries.
-fn run_members(f: &[u8], at: usize, ls: [Layout; 256], k: usize, count: usize) -> Made {
+fn run_members(f: &[u8], at: usize, ls: [Layout; 256], k: usize, count: usize) -> Made
+    requires inside { ⌜ (at + 12 * count ≤ length (now f)) × (1 ≤ count) × (count ≤ 1024) ⌝ }
+    requires lower { ⌜ ((ts : List Ty) × Lower ls k ts) ⌝ }
+    ensures { λ r. ⌜ ((ts : List Ty) (first : ℕ) → Lower ls k ts → at ≡ memberPlace (now (f .entry)) first → r ≡ madeOf (andThen (membersFrom (now (f .entry)) ts count first) (λ ms. some (struct k ms)))) ⌝ }
+{
     let mut run = Run::Placed(Ends {
         end: 0,
         align: 1,
@@ -178,7 +208,11 @@ fn run_members(f: &[u8], at: usize, ls: [Layout; 256], k: usize, count: usize) -
 }
 
 // "12 struct: reference = first member, count = members, 1 to 1,024, all within M"
-pub fn struct_entry(f: &[u8], base: usize, members: usize, e: Entry, ls: [Layout; 256], k: usize) -> Made {
+pub fn struct_entry(f: &[u8], base: usize, members: usize, e: Entry, ls: [Layout; 256], k: usize) -> Made
+    requires inside { ⌜ (base + 12 * members ≤ length (now f)) × (members ≤ 1024) ⌝ }
+    requires lower { ⌜ ((ts : List Ty) × Lower ls k ts) ⌝ }
+    ensures { λ r. ⌜ ((ts : List Ty) → Lower ls k ts → base ≡ memberPlace (now (f .entry)) 0 → members ≡ trailerOf (now (f .entry)) .members → r ≡ madeOf (structMade (now (f .entry)) ts k (entryIs e))) ⌝ }
+{
     if !zeros(e.columns, e.rows, 0, 0) {
         return Made::Rule;
     }
