@@ -79,7 +79,7 @@ runtime-tail n o (struct k ms) e = true-not-false e refl
 
 absent-after : (align size : Option ℕ) → endAfter none align size ≡ none
 unfolding endAfter startAfter both
-absent-after align size = rw (both-none up align)
+absent-after align size = ap (λ (start : Option ℕ). both _+_ start size) (both-none _ align)
 
 -- Past an absent end everything is absent.
 pub absent-end : (ms : Members) → membersEnd none ms ≡ none
