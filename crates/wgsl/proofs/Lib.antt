@@ -7,6 +7,7 @@ pub mod Passed
 pub mod Said
 pub mod Align
 pub mod Accepted
+pub mod Fields
 pub mod Shape
 pub mod Path
 pub mod PathPlace
