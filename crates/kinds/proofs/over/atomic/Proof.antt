@@ -11,10 +11,10 @@ returns : tie.Need-returns
 returns c t is = sym (atomic-used t _ is _ (denied (unused-three _ _ _ (c .before .zeros .ensures)) (c .if1 .taken)))
 
 returns-2 : tie.Need-returns-2
-returns-2 c t is = sym (atomic-low t _ is _ (c .if2 .taken))
+returns-2 c t is = sym (atomic-low t _ is _ (omega arith))
 
 returns-3 : tie.Need-returns-3
-returns-3 c t is = sym (atomic-high t _ is _ (c .if3 .taken))
+returns-3 c t is = sym (atomic-high t _ is _ (omega arith))
 
 returns-4 : tie.Need-returns-4
 returns-4 c t is =

@@ -12,25 +12,25 @@ returns : tie.Need-returns
 returns c t is = sym (matrix-used t _ is _ (denied (unused-one _ (c .before .zeros .ensures)) (c .if1 .taken)))
 
 returns-2 : tie.Need-returns-2
-returns-2 c t is = sym (matrix-low t _ is _ (c .if2 .taken))
+returns-2 c t is = sym (matrix-low t _ is _ (omega arith))
 
 returns-3 : tie.Need-returns-3
-returns-3 c t is = sym (matrix-over t _ is _ (c .if3 .taken))
+returns-3 c t is = sym (matrix-over t _ is _ (omega arith))
 
 returns-4 : tie.Need-returns-4
-returns-4 c t is = sym (matrix-int t _ is _ (c .if4 .taken))
+returns-4 c t is = sym (matrix-int t _ is _ (omega arith))
 
 returns-5 : tie.Need-returns-5
-returns-5 c t is = sym (columns-low t _ is _ (c .if5 .taken))
+returns-5 c t is = sym (columns-low t _ is _ (omega arith))
 
 returns-6 : tie.Need-returns-6
-returns-6 c t is = sym (columns-high t _ is _ (c .if6 .taken))
+returns-6 c t is = sym (columns-high t _ is _ (omega arith))
 
 returns-7 : tie.Need-returns-7
-returns-7 c t is = sym (rows-low t _ is _ (omega arith) (omega arith) (c .if7 .taken))
+returns-7 c t is = sym (rows-low t _ is _ (omega arith) (omega arith) (omega arith))
 
 returns-8 : tie.Need-returns-8
-returns-8 c t is = sym (rows-high t _ is _ (omega arith) (omega arith) (c .if8 .taken))
+returns-8 c t is = sym (rows-high t _ is _ (omega arith) (omega arith) (omega arith))
 
 returns-9 : tie.Need-returns-9
 returns-9 c t is =
@@ -39,7 +39,7 @@ returns-9 c t is =
     let z = k .before .before .before in
     sym (matrix-absent t _ is _ (omega arith) (omega arith)
     (granted (unused-one _ (z .before .zeros .ensures)) (z .if1 .left)) (omega arith) (omega arith) (k .if4 .left)
-    (omega arith) (omega arith) _ (a .ensures .0) (a .ensures .1) (c .if9 .taken))
+    (omega arith) (omega arith) _ (a .ensures .0) (a .ensures .1) (omega arith))
 
 mul-t10 : tie.Need-mul-t10
 mul-t10 c = times-fits _ _ (omega arith) (omega arith)

@@ -12,13 +12,13 @@ returns : tie.Need-returns
 returns c t is = sym (vector-used t _ is _ (denied (unused-two _ _ (c .before .zeros .ensures)) (c .if1 .taken)))
 
 returns-2 : tie.Need-returns-2
-returns-2 c t is = sym (vector-over t _ is _ (c .if2 .taken))
+returns-2 c t is = sym (vector-over t _ is _ (omega arith))
 
 returns-3 : tie.Need-returns-3
-returns-3 c t is = sym (vector-low t _ is _ (c .if3 .taken))
+returns-3 c t is = sym (vector-low t _ is _ (omega arith))
 
 returns-4 : tie.Need-returns-4
-returns-4 c t is = sym (vector-high t _ is _ (c .if4 .taken))
+returns-4 c t is = sym (vector-high t _ is _ (omega arith))
 
 mul-t9 : tie.Need-mul-t9
 mul-t9 c = times-fits _ _ (omega arith) (omega arith)
@@ -29,7 +29,7 @@ returns-5 c t is =
     let w = c .before .before .scalar-size in
     let z = c .before .before .before .before .before .before in
     sym (vector-absent t _ is _ (granted (unused-two _ _ (z .before .zeros .ensures)) (z .if1 .left)) (omega arith)
-    (omega arith) (omega arith) _ _ (w .ensures .0) (a .ensures .0) (a .ensures .1) (c .if5 .taken))
+    (omega arith) (omega arith) _ _ (w .ensures .0) (a .ensures .0) (a .ensures .1) (omega arith))
 
 mul-t11 : tie.Need-mul-t11
 mul-t11 c = times-fits _ _ (omega arith) (omega arith)

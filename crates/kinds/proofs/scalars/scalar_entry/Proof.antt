@@ -13,7 +13,7 @@ returns c = sym (scalar-used _ (denied (c .before .zeros .ensures) (c .if1 .take
 returns-2 : tie.Need-returns-2
 returns-2 c =
     sym (scalar-absent _ (granted (c .before .before .before .before .zeros .ensures) (c .before .before .before .if1 .left))
-    (omega arith) _ (c .before .before .scalar-size .ensures .0) (c .if2 .taken))
+    (omega arith) _ (c .before .before .scalar-size .ensures .0) (omega arith))
 
 returns-3 : tie.Need-returns-3
 returns-3 c =
