@@ -1,68 +1,49 @@
+-- Each answer is a law of `Vector`, over what `scalar_size` and `vector_align` ensure.
+use mathlib.Core.Path.{sym}
+use native.Mathlib.Omega.{arith}
+use Rattle.kinds.proofs.Zero.{unused-two, denied, granted}
+use Rattle.kinds.proofs.Align.{times-fits}
+use Rattle.kinds.proofs.Vector.{vector-used, vector-over, vector-low, vector-high, vector-absent, vector-laid}
 use borrow.Author.Needs.{needs}
 use Rattle.kinds.proofs.over.vector.Statement.{statement}
 use Rattle.kinds.proofs.over.vector.Tie as tie
-use Rattle.kinds.proofs.over.vector.Reads as reads
-use Rattle.kinds.proofs.over.vector.Lts as lts
-use Rattle.kinds.proofs.scalars.scalar_size.Reads as scalar-size-reads
-use Rattle.kinds.proofs.scalars.vector_align.Reads as vector-align-reads
-use Rattle.kinds.proofs.scalars.zeros.Reads as zeros-reads
 
--- src/over.rt:25:9
-zeros-requires : tie.Need-zeros-requires
-zeros-requires c κs = search needs
-
--- src/over.rt:26:9
 returns : tie.Need-returns
-returns c = ?
+returns c t is = sym (vector-used t _ is _ (denied (unused-two _ _ (c .before .zeros .ensures)) (c .if1 .taken)))
 
--- src/over.rt:29:9
 returns-2 : tie.Need-returns-2
-returns-2 c = ?
+returns-2 c t is = sym (vector-over t _ is _ (omega arith))
 
--- src/over.rt:32:9
 returns-3 : tie.Need-returns-3
-returns-3 c = ?
+returns-3 c t is = sym (vector-low t _ is _ (omega arith))
 
--- src/over.rt:35:9
 returns-4 : tie.Need-returns-4
-returns-4 c = ?
+returns-4 c t is = sym (vector-high t _ is _ (omega arith))
 
--- src/over.rt:37:9
-scalar-size-requires : tie.Need-scalar-size-requires
-scalar-size-requires c κs = search needs
-
--- src/over.rt:38:9
-vector-align-requires : tie.Need-vector-align-requires
-vector-align-requires c κs = search needs
-
--- src/over.rt:42:19
 mul-t9 : tie.Need-mul-t9
-mul-t9 c = ?
+mul-t9 c = times-fits _ _ (omega arith) (omega arith)
 
--- src/over.rt:40:9
 returns-5 : tie.Need-returns-5
-returns-5 c = ?
+returns-5 c t is =
+    let a = c .before .vector-align in
+    let w = c .before .before .scalar-size in
+    let z = c .before .before .before .before .before .before in
+    sym (vector-absent t _ is _ (granted (unused-two _ _ (z .before .zeros .ensures)) (z .if1 .left)) (omega arith)
+    (omega arith) (omega arith) _ _ (w .ensures .0) (a .ensures .0) (a .ensures .1) (omega arith))
 
--- src/over.rt:53:15
 mul-t11 : tie.Need-mul-t11
-mul-t11 c = ?
+mul-t11 c = times-fits _ _ (omega arith) (omega arith)
 
--- src/over.rt:19:1
 returns-6 : tie.Need-returns-6
-returns-6 c = ?
+returns-6 c t is =
+    let a = c .before .vector-align in
+    let w = c .before .before .scalar-size in
+    let z = c .before .before .before .before .before .before in
+    sym (vector-laid t _ is _ (granted (unused-two _ _ (z .before .zeros .ensures)) (z .if1 .left)) (omega arith)
+    (omega arith) (omega arith) _ _ (w .ensures .0) (a .ensures .0) (a .ensures .1) (c .if5 .left))
 
 pub vector-spec : {M : Type 1} → statement M
 vector-spec =
-    tie.close
-    (tie.spec
-    zeros-requires
-    returns
-    returns-2
-    returns-3
-    returns-4
-    scalar-size-requires
-    vector-align-requires
-    mul-t9
-    returns-5
-    mul-t11
-    returns-6)
+    tie.close (tie.spec
+    (λ c κs. search needs) returns returns-2 returns-3 returns-4 (λ c κs. search needs) (λ c κs. search needs) mul-t9
+    returns-5 mul-t11 returns-6)

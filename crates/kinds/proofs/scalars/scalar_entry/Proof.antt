@@ -1,37 +1,26 @@
+-- Each answer is a law of `Scalar`, over what `scalar_size` and `is_stored` ensure.
+use mathlib.Core.Path.{sym}
+use native.Mathlib.Omega.{arith}
+use Rattle.kinds.proofs.Zero.{denied, granted}
+use Rattle.kinds.proofs.Scalar.{scalar-used, scalar-absent, scalar-laid}
 use borrow.Author.Needs.{needs}
 use Rattle.kinds.proofs.scalars.scalar_entry.Statement.{statement}
 use Rattle.kinds.proofs.scalars.scalar_entry.Tie as tie
-use Rattle.kinds.proofs.scalars.scalar_entry.Reads as reads
-use Rattle.kinds.proofs.scalars.scalar_entry.Lts as lts
-use Rattle.kinds.proofs.scalars.is_stored.Reads as is-stored-reads
-use Rattle.kinds.proofs.scalars.scalar_size.Reads as scalar-size-reads
-use Rattle.kinds.proofs.scalars.zeros.Reads as zeros-reads
 
--- src/scalars.rt:77:9
-zeros-requires : tie.Need-zeros-requires
-zeros-requires c κs = search needs
-
--- src/scalars.rt:78:9
 returns : tie.Need-returns
-returns c = ?
+returns c = sym (scalar-used _ (denied (c .before .zeros .ensures) (c .if1 .taken)))
 
--- src/scalars.rt:80:9
-scalar-size-requires : tie.Need-scalar-size-requires
-scalar-size-requires c κs = search needs
-
--- src/scalars.rt:81:9
-is-stored-requires : tie.Need-is-stored-requires
-is-stored-requires c κs = search needs
-
--- src/scalars.rt:83:9
 returns-2 : tie.Need-returns-2
-returns-2 c = ?
+returns-2 c =
+    sym (scalar-absent _ (granted (c .before .before .before .before .zeros .ensures) (c .before .before .before .if1 .left))
+    (omega arith) _ (c .before .before .scalar-size .ensures .0) (omega arith))
 
--- src/scalars.rt:72:1
 returns-3 : tie.Need-returns-3
-returns-3 c = ?
+returns-3 c =
+    sym (scalar-laid _ (granted (c .before .before .before .before .zeros .ensures) (c .before .before .before .if1 .left))
+    (omega arith) _ (c .before .before .scalar-size .ensures .0) _ (c .before .is-stored .ensures) (c .if2 .left))
 
 pub scalar-entry-spec : {M : Type 1} → statement M
 scalar-entry-spec =
-    tie.close
-    (tie.spec zeros-requires returns scalar-size-requires is-stored-requires returns-2 returns-3)
+    tie.close (tie.spec
+    (λ c κs. search needs) returns (λ c κs. search needs) (λ c κs. search needs) returns-2 returns-3)
