@@ -27,3 +27,12 @@ unused-fourth a b c d e f g = rw (eq-eqb a 0 e, eq-eqb b 0 f, eq-eqb c 0 g) (las
     last : (x : mathlib.Core.Bool.Bool) → mathlib.Core.Bool._&&_ x true ≡ x
     last true = refl
     last false = refl
+
+-- Zeros that are handed in beside the fields tell nothing.
+pub unused-two : (a b : ℕ) → unused (a ∷ b ∷ 0 ∷ 0 ∷ []) ≡ unused (a ∷ b ∷ [])
+unfolding unused
+unused-two a b = refl
+
+pub unused-three : (a b c : ℕ) → unused (a ∷ b ∷ c ∷ 0 ∷ []) ≡ unused (a ∷ b ∷ c ∷ [])
+unfolding unused
+unused-three a b c = refl
