@@ -10,8 +10,9 @@ use numbers::limit::product;
 use numbers::limit::round_up;
 ghost use mathlib.Core.Path.{_≡_};
 ghost use mathlib.Core.Option.{some};
-ghost use Rattle.wgsl.specs.Types.{Ty};
-ghost use Rattle.wgsl.specs.Rule.{vectorMade, matrixMade, arrayMade, runtimeMade, atomicMade, overMade};
+ghost use mathlib.Core.Bool.{true};
+ghost use Rattle.wgsl.specs.Types.{Ty, everywhere};
+ghost use Rattle.wgsl.specs.Rule.{isWellFormed, vectorMade, matrixMade, arrayMade, runtimeMade, atomicMade, overMade};
 ghost use Rattle.file.specs.Fields.{entryIs};
 ghost use Rattle.kinds.specs.Value.{madeOf, Known, valueOf};
 
@@ -120,7 +121,7 @@ pub fn matrix(e: Entry, l: Layout) -> Made
 // "9 array: reference, count at least 1"; an array's element isn't open.
 pub fn array(e: Entry, l: Layout) -> Made
     requires { ⌜ Known l ⌝ }
-    ensures { λ r. ⌜ ((t : Ty) → l ≡ valueOf t → r ≡ madeOf (arrayMade (some t) (entryIs e))) ⌝ }
+    ensures { λ r. ⌜ ((t : Ty) → l ≡ valueOf t → everywhere isWellFormed t ≡ true → r ≡ madeOf (arrayMade (some t) (entryIs e))) ⌝ }
 {
     let count = e.count;
     if !zeros(e.columns, e.rows, 0, 0) {
@@ -133,6 +134,7 @@ pub fn array(e: Entry, l: Layout) -> Made
         return Made::Rule;
     }
     let align = l.align;
+    let element = l.size;
     let words = l.words;
     if align == 0 {
         return Made::Laid(Layout {
@@ -146,7 +148,7 @@ pub fn array(e: Entry, l: Layout) -> Made
             storable: false,
         });
     }
-    let Limited::Is(stride) = round_up(align, l.size) else {
+    let Limited::Is(stride) = round_up(align, element) else {
         return Made::Large;
     };
     let Limited::Is(size) = product(count, stride) else {
@@ -167,7 +169,7 @@ pub fn array(e: Entry, l: Layout) -> Made
 // "10 runtime array: reference"; its element isn't open, and has size and alignment.
 pub fn runtime(e: Entry, l: Layout) -> Made
     requires { ⌜ Known l ⌝ }
-    ensures { λ r. ⌜ ((t : Ty) → l ≡ valueOf t → r ≡ madeOf (runtimeMade (some t) (entryIs e))) ⌝ }
+    ensures { λ r. ⌜ ((t : Ty) → l ≡ valueOf t → everywhere isWellFormed t ≡ true → r ≡ madeOf (runtimeMade (some t) (entryIs e))) ⌝ }
 {
     if !zeros(e.columns, e.rows, e.count, 0) {
         return Made::Rule;
@@ -224,7 +226,7 @@ pub fn atomic(e: Entry, l: Layout) -> Made
 // An entry of a kind 7 to 11.
 pub fn over_entry(e: Entry, l: Layout) -> Made
     requires { ⌜ Known l ⌝ }
-    ensures { λ r. ⌜ ((t : Ty) → l ≡ valueOf t → r ≡ madeOf (overMade (some t) (entryIs e))) ⌝ }
+    ensures { λ r. ⌜ ((t : Ty) → l ≡ valueOf t → everywhere isWellFormed t ≡ true → r ≡ madeOf (overMade (some t) (entryIs e))) ⌝ }
 {
     let kind = e.kind;
     if kind == 7 {

@@ -208,7 +208,14 @@ fn run_members(f: &[u8], at: usize, ls: [Layout; 256], k: usize, count: usize) -
 }
 
 // "12 struct: reference = first member, count = members, 1 to 1,024, all within M"
-pub fn struct_entry(f: &[u8], base: usize, members: usize, e: Entry, ls: [Layout; 256], k: usize) -> Made
+pub fn struct_entry(
+    f: &[u8],
+    base: usize,
+    members: usize,
+    e: Entry,
+    ls: [Layout; 256],
+    k: usize,
+) -> Made
     requires inside { ⌜ (base + 12 * members ≤ length (now f)) × (members ≤ 1024) ⌝ }
     requires lower { ⌜ ((ts : List Ty) × Lower ls k ts) ⌝ }
     ensures { λ r. ⌜ ((ts : List Ty) → Lower ls k ts → base ≡ memberPlace (now (f .entry)) 0 → members ≡ trailerOf (now (f .entry)) .members → r ≡ madeOf (structMade (now (f .entry)) ts k (entryIs e))) ⌝ }

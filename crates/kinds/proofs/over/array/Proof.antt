@@ -1,88 +1,80 @@
+-- Each answer is a law of `Arrays`, at the element's numbers (`element` of `Presence`); the words fit by what is required of l.
+use mathlib.Core.Bool.{true, false}
+use mathlib.Core.List.{[], _∷_}
+use mathlib.Core.Path.{_≡_, sym, _∙_}
+use native.Mathlib.Omega.{arith}
+use borrow.Author.Tests.{not-true, not-false}
+use Rattle.wgsl.specs.Types.{Ty, everywhere}
+use Rattle.wgsl.specs.Rule.{unused, isWellFormed}
+use Rattle.kinds.specs.Value.{valueOf}
+use Rattle.kinds.proofs.Zero.{unused-two, denied, granted}
+use Rattle.kinds.proofs.Presence.{opens-is, unaligned, Element, element}
+use Rattle.kinds.proofs.Arrays.{array-used, array-empty, array-open, array-unaligned, array-large, array-apart, array-words, array-laid}
 use borrow.Author.Needs.{needs}
 use Rattle.kinds.proofs.over.array.Statement.{statement}
 use Rattle.kinds.proofs.over.array.Tie as tie
-use Rattle.kinds.proofs.over.array.Reads as reads
-use Rattle.kinds.proofs.over.array.Lts as lts
-use Rattle.kinds.proofs.scalars.zeros.Reads as zeros-reads
-use Rattle.numbers.proofs.limit.product.Reads as product-reads
-use Rattle.numbers.proofs.limit.round_up.Reads as round-up-reads
 
--- src/over.rt:126:9
-zeros-requires : tie.Need-zeros-requires
-zeros-requires c κs = search needs
+-- the fields that the kind doesn't use are zero
+free : (c : tie.Else1) → let e = c .before .before .args .e in unused (e .columns ∷ e .rows ∷ []) ≡ true
+free c = granted (unused-two _ _ (c .before .zeros .ensures)) (c .if1 .left)
 
--- src/over.rt:127:9
+-- the element has size and alignment
+known : (c : tie.Else4) (t : Ty) → let l = c .before .before .before .before .before .args .l in l ≡ valueOf t → everywhere isWellFormed t ≡ true → Element t l
+known c t is w = element t _ is w (c .before .if3 .left) (omega arith)
+
 returns : tie.Need-returns
-returns c = ?
+returns c t is w =
+    sym (array-used _ t (denied (unused-two _ _ (c .before .zeros .ensures)) (c .if1 .taken)))
 
--- src/over.rt:130:9
 returns-2 : tie.Need-returns-2
-returns-2 c = ?
+returns-2 c t is w = sym (array-empty _ t (free (c .before)) (omega arith))
 
--- src/over.rt:133:9
 returns-3 : tie.Need-returns-3
-returns-3 c = ?
+returns-3 c t is w =
+    sym (array-open _ t (free (c .before .before)) (omega arith) (opens-is t _ is true (c .if3 .taken)))
 
--- src/over.rt:138:9
 returns-4 : tie.Need-returns-4
-returns-4 c = ?
+returns-4 c t is w =
+    sym (array-unaligned _ t (free (c .before .before .before)) (omega arith)
+    (opens-is t _ is false (c .before .if3 .left)) (unaligned t _ is w (c .if4 .taken)))
 
--- src/over.rt:149:31
-round-up-requires : tie.Need-round-up-requires
-round-up-requires c κs = search needs
-
--- src/over.rt:149:21
-enum-known-stride : tie.Need-enum-known-stride
-enum-known-stride c = search needs
-
--- src/over.rt:150:9
-enum-told : tie.Need-enum-told
-enum-told c = search needs
-
--- src/over.rt:150:9
 returns-5 : tie.Need-returns-5
-returns-5 c = ?
+returns-5 c t is w =
+    let r = c .before .before in
+    sym (array-apart _ t (free (r .before .before .before .before)) (omega arith) _ (known (r .before) t is w)
+    (sym (r .round-up .ensures) ∙ c .enum-told .given .1))
 
--- src/over.rt:152:29
-product-requires : tie.Need-product-requires
-product-requires c κs = search needs
-
--- src/over.rt:152:21
-enum-known-size : tie.Need-enum-known-size
-enum-known-size c = search needs
-
--- src/over.rt:153:9
-enum-told-2 : tie.Need-enum-told-2
-enum-told-2 c = search needs
-
--- src/over.rt:153:9
 returns-6 : tie.Need-returns-6
-returns-6 c = ?
+returns-6 c t is w =
+    let p = c .before .before in
+    let s = p .before .before in
+    let r = s .before .before in
+    sym (array-large _ t (free (r .before .before .before .before)) (omega arith) _ (known (r .before) t is w) _
+    (sym (r .round-up .ensures) ∙ s .stride .given .1) (sym (p .product .ensures) ∙ c .enum-told2 .given .1))
 
--- src/over.rt:161:16
-mul-t13 : tie.Need-mul-t13
-mul-t13 c = ?
+mul-t14 : tie.Need-mul-t14
+mul-t14 c =
+    let p = c .before .before .before in
+    let s = p .before .before in
+    let r = s .before .before in
+    let k = r .before .before .before .before .before .before .pre in
+    omega (
+      arith,
+      array-words _ _ (known (r .before) (k .type) (k .is) (k .well-formed)) _ _ _
+          (sym (r .round-up .ensures) ∙ s .stride .given .1) (sym (p .product .ensures) ∙ c .before .size .given .1),
+    )
 
--- src/over.rt:121:1
 returns-7 : tie.Need-returns-7
-returns-7 c = ?
+returns-7 c t is w =
+    let p = c .before .before .before in
+    let s = p .before .before in
+    let r = s .before .before in
+    sym (array-laid _ t (free (r .before .before .before .before)) (omega arith) _ (known (r .before) t is w) _
+    (sym (r .round-up .ensures) ∙ s .stride .given .1) _ (sym (p .product .ensures) ∙ c .before .size .given .1))
 
 pub array-spec : {M : Type 1} → statement M
 array-spec =
-    tie.close
-    (tie.spec
-    zeros-requires
-    returns
-    returns-2
-    returns-3
-    returns-4
-    round-up-requires
-    enum-known-stride
-    enum-told
-    returns-5
-    product-requires
-    enum-known-size
-    enum-told-2
-    returns-6
-    mul-t13
+    tie.close (tie.spec
+    (λ c κs. search needs) returns returns-2 returns-3 returns-4 (λ c κs. search needs) (λ c. search needs)
+    (λ c. search needs) returns-5 (λ c κs. search needs) (λ c. search needs) (λ c. search needs) returns-6 mul-t14
     returns-7)
