@@ -4,8 +4,13 @@ use crate::table::layouts;
 use file::refusal::Refusal;
 use kinds::value::Layout;
 ghost use mathlib.Core.Path.{_≡_};
-ghost use Rattle.wgsl.specs.Call.{checkOf, sizeCall, alignCall, minSizeCall, layoutCall};
-ghost use Rattle.layout.specs.Answer.{saidNumber, saidAnswer};
+ghost use Rattle.wgsl.specs.Types.{Ty};
+ghost use Rattle.wgsl.specs.Size.{present, minSizeOf};
+ghost use Rattle.wgsl.specs.Said.{orRefuse};
+ghost use Rattle.wgsl.specs.Call.{entryOf, checkOf, sizeCall, alignCall, minSizeCall, layoutCall};
+ghost use Rattle.kinds.specs.Value.{valueOf};
+ghost use Rattle.layout.specs.Table.{valued};
+ghost use Rattle.layout.specs.Answer.{marked, saidFound, saidNumber, maybeOf, saidAnswer};
 
 // A number, or a refusal.
 pub enum Number {
@@ -50,7 +55,9 @@ pub fn check(file: &[u8]) -> Number
 }
 
 // The layout of entry `entry`.
-fn find(file: &[u8], entry: u32) -> Found {
+fn find(file: &[u8], entry: u32) -> Found
+    ensures { λ r. ⌜ saidFound r ≡ valued (entryOf (now (file .entry)) entry) ⌝ }
+{
     let t = layouts(file);
     let answer = t.answer;
     match answer {
@@ -66,21 +73,27 @@ fn find(file: &[u8], entry: u32) -> Found {
 }
 
 // A number of a layout asked alone: 0 stands for an absent one.
-fn alone(n: u32) -> Number {
+fn alone(n: u32) -> Number
+    ensures { λ r. ⌜ saidNumber r ≡ orRefuse 9 0 (marked n) ⌝ }
+{
     if n == 0 {
         return Number::Refused(Refusal::Absent);
     }
     Number::Is(n)
 }
 
-fn marked(n: u32) -> Maybe {
+fn mark(n: u32) -> Maybe
+    ensures { λ r. ⌜ maybeOf r ≡ marked n ⌝ }
+{
     if n == 0 {
         return Maybe::Absent;
     }
     Maybe::Is(n)
 }
 
-fn least(l: Layout) -> u32 {
+fn least(l: Layout) -> u32
+    ensures { λ r. ⌜ ((t : Ty) → l ≡ valueOf t → r ≡ present (minSizeOf t)) ⌝ }
+{
     if l.kind == 10 {
         return l.stride;
     }
@@ -127,9 +140,9 @@ pub fn layout(file: &[u8], entry: u32) -> Answer
 {
     match find(file, entry) {
         Found::Is(l) => Answer::Is(Sizes {
-            size: marked(l.size),
-            align: marked(l.align),
-            min: marked(least(l)),
+            size: mark(l.size),
+            align: mark(l.align),
+            min: mark(least(l)),
         }),
         Found::Refused(r) => Answer::Refused(r),
     }

@@ -13,16 +13,15 @@ use kinds::scalars::zeros;
 use kinds::value::Layout;
 use kinds::value::Made;
 ghost use mathlib.Core.Path.{_≡_};
-ghost use mathlib.Core.List.{List};
-ghost use mathlib.Core.Bool.{true};
-ghost use mathlib.Core.Option.{some, none};
-ghost use lib.ListN.{length, replicate};
+ghost use mathlib.Core.Option.{Option};
+ghost use lib.ListN.{replicate};
 ghost use Rattle.wgsl.specs.Types.{Ty};
 ghost use Rattle.wgsl.specs.Said.{good};
 ghost use Rattle.wgsl.specs.File.{checkTrailer};
 ghost use Rattle.wgsl.specs.Rule.{typesOf};
-ghost use Rattle.file.specs.Fields.{trailerIs};
-ghost use Rattle.layout.specs.Table.{blankLayout, layoutsOf, acceptedTrailer, saidChecked};
+ghost use Rattle.file.specs.Fields.{trailerIs, entryIs};
+ghost use Rattle.kinds.specs.Value.{madeOf};
+ghost use Rattle.layout.specs.Table.{blankLayout, layoutsOf, acceptedTrailer, saidChecked, Referred, plainMade};
 
 pub enum Checked {
     Types(Trailer),
@@ -51,7 +50,10 @@ pub fn blank() -> Layout
 }
 
 // An entry that is no struct, over the layout of the one that it refers to, if that is lower.
-fn plain_entry(e: Entry, l: Layout, lower: bool) -> Made {
+fn plain_entry(e: Entry, l: Layout, lower: bool) -> Made
+    requires { ⌜ ((below : Option Ty) × Referred l lower below) ⌝ }
+    ensures { λ r. ⌜ ((below : Option Ty) → Referred l lower below → r ≡ madeOf (plainMade below (entryIs e))) ⌝ }
+{
     let kind = e.kind;
     if kind <= 6 {
         return scalar_entry(e);
