@@ -2,7 +2,7 @@
 -- Definitions only. Assumes nothing.
 use Prim.Native.Nat.{ℕ}
 use Rattle.file.specs.declared.refusal.Refusal.{Refusal}
-use Rattle.file.specs.declared.refusal.Refusal.the-variants.{Short, Form, Counts, Length, Rule, Given, Large, Missing, Absent}
+use Rattle.file.specs.declared.refusal.Refusal.the-variants.{Short, Form, Counts, Length, Rule, Given, Large, Missing, Absent, NoRank}
 
 abbrev pub numberOf : Refusal → ℕ
 numberOf Short = 1
@@ -14,6 +14,7 @@ numberOf (Given entry) = 6
 numberOf (Large entry) = 7
 numberOf Missing = 8
 numberOf Absent = 9
+numberOf NoRank = 18
 
 abbrev pub placeOf : Refusal → ℕ
 placeOf Short = 0
@@ -25,3 +26,4 @@ placeOf (Given entry) = entry
 placeOf (Large entry) = entry
 placeOf Missing = 0
 placeOf Absent = 0
+placeOf NoRank = 0

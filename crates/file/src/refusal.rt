@@ -14,4 +14,6 @@ pub enum Refusal {
     Missing,
     // 9: a number that is absent, or no layout
     Absent,
+    // 18: no rank, no common type, or an empty list
+    NoRank,
 }
