@@ -1,39 +1,32 @@
+-- Each verdict on the members is one law of `Wholes`.
+use mathlib.Core.Path.{_≡_, sym, subst}
 use borrow.Author.Needs.{needs}
+use Rattle.wgsl.specs.Types.{Members}
+use Rattle.layout.specs.declared.run.Run.{Run}
+use Rattle.layout.specs.Run.{Closes}
+use Rattle.layout.proofs.Wholes.{closes-placed, closes-unfit, closes-past}
 use Rattle.layout.proofs.run.finish.Statement.{statement}
 use Rattle.layout.proofs.run.finish.Tie as tie
-use Rattle.layout.proofs.run.finish.Reads as reads
-use Rattle.layout.proofs.run.finish.Lts as lts
-use Rattle.layout.proofs.run.whole.Reads as whole-reads
 
--- src/run.rt:167:21
-enum-known-run : tie.Need-enum-known-run
-enum-known-run c = search needs
+-- the run is the one that the arm names
+is : {r s : Run} (ms : Members) → r ≡ s → Closes r ms → Closes s ms
+is ms e c = subst (λ (x : Run). Closes x ms) e c
 
--- src/run.rt:167:27
 whole-requires : tie.Need-whole-requires
-whole-requires c κs = ?
+whole-requires c κs =
+    let a = c .before .before .before in
+    (a .pre .0, closes-placed _ (a .pre .0) (is (a .pre .0) (c .before .run .given .1) (a .pre .1)))
 
--- src/run.rt:168:23
-enum-told : tie.Need-enum-told
-enum-told c = search needs
-
--- src/run.rt:169:26
-enum-told-2 : tie.Need-enum-told-2
-enum-told-2 c = search needs
-
--- src/run.rt:162:1
 returns : tie.Need-returns
-returns c = ?
+returns c k ms e = c .whole .ensures k ms (closes-placed _ ms (is ms (c .before .before .run .given .1) e))
 
--- src/run.rt:162:1
 returns-2 : tie.Need-returns-2
-returns-2 c = ?
+returns-2 c k ms e = sym (closes-unfit k ms (is ms (c .enum-told .given .1) e))
 
--- src/run.rt:162:1
 returns-3 : tie.Need-returns-3
-returns-3 c = ?
+returns-3 c k ms e = sym (closes-past k ms (is ms (c .enum-told2 .given .1) e))
 
 pub finish-spec : {M : Type 1} → statement M
 finish-spec =
-    tie.close
-    (tie.spec enum-known-run whole-requires enum-told enum-told-2 returns returns-2 returns-3)
+    tie.close (tie.spec
+    (λ c. search needs) whole-requires (λ c. search needs) (λ c. search needs) returns returns-2 returns-3)

@@ -1,34 +1,25 @@
+-- Each way out is one law of `Wholes`; the alignment of complete members is above 0.
+use mathlib.Core.Path.{sym, _∙_}
 use borrow.Author.Needs.{needs}
+use Rattle.layout.proofs.Wholes.{ended-positive, ended-opens, ended-closes, ended-past}
 use Rattle.layout.proofs.run.whole.Statement.{statement}
 use Rattle.layout.proofs.run.whole.Tie as tie
-use Rattle.layout.proofs.run.whole.Reads as reads
-use Rattle.layout.proofs.run.whole.Lts as lts
-use Rattle.numbers.proofs.limit.round_up.Reads as round-up-reads
 
--- src/run.rt:135:9
 returns : tie.Need-returns
-returns c = ?
+returns c k ms e = sym (ended-opens k _ ms e (c .if1 .taken))
 
--- src/run.rt:146:29
 round-up-requires : tie.Need-round-up-requires
-round-up-requires c κs = ?
+round-up-requires c κs = ended-positive _ (c .before .pre .0) (c .before .pre .1)
 
--- src/run.rt:146:21
-enum-known-size : tie.Need-enum-known-size
-enum-known-size c = search needs
-
--- src/run.rt:147:9
-enum-told : tie.Need-enum-told
-enum-told c = search needs
-
--- src/run.rt:147:9
 returns-2 : tie.Need-returns-2
-returns-2 c = ?
+returns-2 c k ms e =
+    sym (ended-past k _ ms e (c .before .before .before .if1 .left)
+    (sym (c .enum-told .given .1) ∙ c .before .before .round-up .ensures))
 
--- src/run.rt:130:1
 returns-3 : tie.Need-returns-3
-returns-3 c = ?
+returns-3 c k ms e =
+    sym (ended-closes k _ ms _ e (c .before .before .before .before .if1 .left)
+    (sym (c .before .size .given .1) ∙ c .before .before .before .round-up .ensures))
 
 pub whole-spec : {M : Type 1} → statement M
-whole-spec =
-    tie.close (tie.spec returns round-up-requires enum-known-size enum-told returns-2 returns-3)
+whole-spec = tie.close (tie.spec returns round-up-requires (λ c. search needs) (λ c. search needs) returns-2 returns-3)
