@@ -1,131 +1,52 @@
-use Prim.Native.Nat.{ℕ, _<_}
+-- The measure is the number: a tenth of it is put first, in at most nine digits, then its last digit.
+use Prim.Native.Nat.{ℕ, _/_, _<_}
+use native.Mathlib.Omega.{arith}
+use denote.Ref.{now}
+use borrow.Author.Needs.{needs}
 use borrow.Fn.Kinds.{In}
 use borrow.Fn.PlainCycle.{Measures, is, falls, and}
-use Rattle.text.proofs.put_decimal.Reads as put-decimal
-use Rattle.text.proofs.put_decimal.Kinds as put-decimal-kinds
-use Rattle.text.proofs.+put_decimal.Lts-put_decimal as put-decimal-lts
+use Rattle.text.proofs.Decimals.{decimal-length-nine}
+use Rattle.text.proofs.Puts.{put-digit, put-last}
+use Rattle.text.proofs.put_decimal.Reads as reads
+use Rattle.text.proofs.put_decimal.Kinds as kinds
+use Rattle.text.proofs.+put_decimal.Lts-put_decimal as lts
 use Rattle.text.proofs.+put_decimal.{statement}
 use Rattle.text.proofs.+put_decimal.Tie.{close}
 
-abbrev μ-put-decimal : Measures 1 put-decimal-kinds.ps ℕ
-μ-put-decimal κs a = ?
+abbrev μ-put-decimal : Measures 1 kinds.ps ℕ
+μ-put-decimal κs a = a .1 .1 .0
 
-abbrev put-decimal-at : ℕ → In 1 put-decimal-kinds.ps
-put-decimal-at t =
-    and 1 put-decimal-kinds.ps (is 1 put-decimal-kinds.ps μ-put-decimal t) put-decimal.Pre
+-- what it is given at the measure t, and what the call of itself asks below t
+abbrev given : ℕ → In 1 kinds.ps
+given t = and 1 kinds.ps (is 1 kinds.ps μ-put-decimal t) reads.Pre
 
-abbrev put-decimal-below : ℕ → In 1 put-decimal-kinds.ps
-put-decimal-below t =
-    and 1 put-decimal-kinds.ps (falls 1 put-decimal-kinds.ps _<_ μ-put-decimal t) put-decimal.Pre
+abbrev asked : ℕ → In 1 kinds.ps
+asked t = and 1 kinds.ps (falls 1 kinds.ps _<_ μ-put-decimal t) reads.Pre
 
--- src/lib.rt:29:20
-put-decimal-add-out : (t : ℕ) → put-decimal-lts.Need-add-out (
-  put-decimal-below t,
-  put-decimal.Post,
-) (put-decimal-at t) put-decimal.Post
-put-decimal-add-out t c = ?
+module _ (t : ℕ) where
+  returns : lts.Need-returns (asked t, reads.Post) (given t) reads.Post
+  returns c =
+      let a = c .before .before .args in
+      put-digit (now (a .out)) (a .at) (a .n) (c .if1 .taken)
 
--- src/lib.rt:29:19
-put-decimal-cast-out : (t : ℕ) → put-decimal-lts.Need-cast-out (
-  put-decimal-below t,
-  put-decimal.Post,
-) (put-decimal-at t) put-decimal.Post
-put-decimal-cast-out t c = ?
+  slice-write-out-2 : lts.Need-slice-write-out-2 (asked t, reads.Post) (given t) reads.Post
+  slice-write-out-2 c =
+      let n = c .before .before .before .before .before .before .args .n in
+      omega (arith, decimal-length-nine (n / 10) (omega arith))
 
--- src/lib.rt:29:9
-put-decimal-slice-write-out : (t : ℕ) → put-decimal-lts.Need-slice-write-out (
-  put-decimal-below t,
-  put-decimal.Post,
-) (put-decimal-at t) put-decimal.Post
-put-decimal-slice-write-out t c = ?
+  add-result-2 : lts.Need-add-result-2 (asked t, reads.Post) (given t) reads.Post
+  add-result-2 c =
+      let n = c .before .before .before .before .before .before .args .n in
+      omega (arith, decimal-length-nine (n / 10) (omega arith))
 
--- src/lib.rt:30:16
-put-decimal-add-result : (t : ℕ) → put-decimal-lts.Need-add-result (
-  put-decimal-below t,
-  put-decimal.Post,
-) (put-decimal-at t) put-decimal.Post
-put-decimal-add-result t c = ?
-
--- src/lib.rt:30:9
-put-decimal-same-length : (t : ℕ) → put-decimal-lts.Need-same-length (
-  put-decimal-below t,
-  put-decimal.Post,
-) (put-decimal-at t) put-decimal.Post
-put-decimal-same-length t c = ?
-
--- src/lib.rt:30:9
-put-decimal-returns : (t : ℕ) → put-decimal-lts.Need-returns (
-  put-decimal-below t,
-  put-decimal.Post,
-) (put-decimal-at t) put-decimal.Post
-put-decimal-returns t c = ?
-
--- src/lib.rt:32:9
-put-decimal-put-decimal-requires : (t : ℕ) → put-decimal-lts.Need-put-decimal-requires (
-  put-decimal-below t,
-  put-decimal.Post,
-) (put-decimal-at t) put-decimal.Post
-put-decimal-put-decimal-requires t c κs = ?
-
--- src/lib.rt:33:18
-put-decimal-add-out-2 : (t : ℕ) → put-decimal-lts.Need-add-out-2 (
-  put-decimal-below t,
-  put-decimal.Post,
-) (put-decimal-at t) put-decimal.Post
-put-decimal-add-out-2 t c = ?
-
--- src/lib.rt:33:17
-put-decimal-cast-out-2 : (t : ℕ) → put-decimal-lts.Need-cast-out-2 (
-  put-decimal-below t,
-  put-decimal.Post,
-) (put-decimal-at t) put-decimal.Post
-put-decimal-cast-out-2 t c = ?
-
--- src/lib.rt:33:5
-put-decimal-slice-write-out-2 : (t : ℕ) → put-decimal-lts.Need-slice-write-out-2 (
-  put-decimal-below t,
-  put-decimal.Post,
-) (put-decimal-at t) put-decimal.Post
-put-decimal-slice-write-out-2 t c = ?
-
--- src/lib.rt:34:5
-put-decimal-add-result-2 : (t : ℕ) → put-decimal-lts.Need-add-result-2 (
-  put-decimal-below t,
-  put-decimal.Post,
-) (put-decimal-at t) put-decimal.Post
-put-decimal-add-result-2 t c = ?
-
--- src/lib.rt:24:1
-put-decimal-same-length-2 : (t : ℕ) → put-decimal-lts.Need-same-length-2 (
-  put-decimal-below t,
-  put-decimal.Post,
-) (put-decimal-at t) put-decimal.Post
-put-decimal-same-length-2 t c = ?
-
--- src/lib.rt:24:1
-put-decimal-returns-2 : (t : ℕ) → put-decimal-lts.Need-returns-2 (
-  put-decimal-below t,
-  put-decimal.Post,
-) (put-decimal-at t) put-decimal.Post
-put-decimal-returns-2 t c = ?
+  returns-2 : lts.Need-returns-2 (asked t, reads.Post) (given t) reads.Post
+  returns-2 c =
+      let s = c .before .before .before .before .before .before in
+      put-last (s .args .n) (omega arith) (s .fits .n .fits) (c .before .before .put-decimal .ensures)
 
 pub +put-decimal-spec : {M : Type 1} → statement M
-+put-decimal-spec = close μ-put-decimal λ t. put-decimal-lts.spec (
-  put-decimal-below t,
-  put-decimal.Post,
-)
-    (put-decimal-at t)
-    put-decimal.Post
-    (put-decimal-add-out t)
-    (put-decimal-cast-out t)
-    (put-decimal-slice-write-out t)
-    (put-decimal-add-result t)
-    (put-decimal-same-length t)
-    (put-decimal-returns t)
-    (put-decimal-put-decimal-requires t)
-    (put-decimal-add-out-2 t)
-    (put-decimal-cast-out-2 t)
-    (put-decimal-slice-write-out-2 t)
-    (put-decimal-add-result-2 t)
-    (put-decimal-same-length-2 t)
-    (put-decimal-returns-2 t)
++put-decimal-spec =
+    close μ-put-decimal λ t. lts.spec (asked t, reads.Post) (given t) reads.Post
+    (λ c. search needs) (λ c. search needs) (λ c. search needs) (λ c. search needs) (λ c. search needs) (returns t)
+    (λ c κs. search needs) (λ c. search needs) (λ c. search needs) (slice-write-out-2 t) (add-result-2 t)
+    (λ c. search needs) (returns-2 t)

@@ -1,67 +1,44 @@
+-- What is left to store gives, from here, what the whole gives from the start (`Puts`).
+use mathlib.Core.Path.{_≡_, refl, sym, _∙_}
+use Prim.Native.Nat.{_≤_, _+_, _-_}
+use native.Mathlib.Omega.{arith}
+use lib.ListN.{length, drop, length-set}
+use lib.Seq.{sets}
+use denote.Ref.{now}
+use borrow.Author.Needs.{needs}
+use Rattle.text.proofs.Puts.{left-all, left-more, left-none}
 use Rattle.text.proofs.put.Statement.{statement}
 use Rattle.text.proofs.put.Tie as tie
-use Rattle.text.proofs.put.Reads as reads
-use Rattle.text.proofs.put.Lts as lts
 
 abbrev Inv-loop : tie.InvT-loop
-Inv-loop out₀ at text n i₀ out i = ?
+Inv-loop out₀ at text n i₀ out i =
+    (sets out (at + i) (drop i text) ≡ sets out₀ at text) × (i ≤ length text) × (n ≡ length text)
+    × (length out ≡ length out₀)
 
 abbrev μ-loop : tie.MeasureT-loop
-μ-loop out₀ at text n i₀ out i = ?
+μ-loop out₀ at text n i₀ out i = length text - i
 
--- src/lib.rt:16:5
 loop-holds : tie.Need-loop-holds Inv-loop μ-loop
-loop-holds c = ?
+loop-holds c = (left-all (now (c .args .out)) (c .args .at) (now (c .args .text)), omega arith, refl, refl)
 
--- src/lib.rt:17:23
-shared-slice-read-out : tie.Need-shared-slice-read-out Inv-loop μ-loop
-shared-slice-read-out c = ?
-
--- src/lib.rt:17:13
-add-out : tie.Need-add-out Inv-loop μ-loop
-add-out c = ?
-
--- src/lib.rt:17:9
-slice-write-out : tie.Need-slice-write-out Inv-loop μ-loop
-slice-write-out c = ?
-
--- src/lib.rt:18:9
-add-i : tie.Need-add-i Inv-loop μ-loop
-add-i c = ?
-
--- src/lib.rt:16:5
-loop-less : tie.Need-loop-less Inv-loop μ-loop
-loop-less c = ?
-
--- src/lib.rt:16:5
 loop-again : tie.Need-loop-again Inv-loop μ-loop
-loop-again c = ?
+loop-again c =
+    let l = c .before .before .loop in
+    let a = c .before .before .before .args in
+    let left = left-more (l .out) (a .at) (now (a .text)) (l .i) (omega arith) in
+    (left ∙ l .inv .0, omega arith, l .inv .2, simp length-set (omega arith))
 
--- src/lib.rt:20:5
-add-result : tie.Need-add-result Inv-loop μ-loop
-add-result c = ?
-
--- src/lib.rt:10:1
-same-length : tie.Need-same-length Inv-loop μ-loop
-same-length c = ?
-
--- src/lib.rt:10:1
 returns : tie.Need-returns Inv-loop μ-loop
-returns c = ?
+returns c =
+    let l = c .before .loop in
+    let a = c .before .before .args in
+    record {
+      next = refl;
+      bytes = sym (left-none (l .out) (a .at) (now (a .text)) (l .i) (omega arith)) ∙ l .inv .0;
+    }
 
 pub put-spec : {M : Type 1} → statement M
 put-spec =
-    tie.close
-    (tie.spec
-    Inv-loop
-    μ-loop
-    loop-holds
-    shared-slice-read-out
-    add-out
-    slice-write-out
-    add-i
-    loop-less
-    loop-again
-    add-result
-    same-length
-    returns)
+    tie.close (tie.spec
+    Inv-loop μ-loop loop-holds (λ c. search needs) (λ c. search needs) (λ c. search needs) (λ c. search needs)
+    (λ c. search needs) loop-again (λ c. search needs) (λ c. search needs) returns)
