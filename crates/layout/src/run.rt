@@ -16,7 +16,7 @@ use numbers::limit::Limited;
 use numbers::limit::round_up;
 use numbers::limit::sum;
 ghost use mathlib.Core.Path.{_≡_};
-ghost use mathlib.Core.Bool.{Bool};
+ghost use mathlib.Core.Bool.{Bool, cond, _&&_};
 ghost use mathlib.Core.List.{List};
 ghost use mathlib.Core.Option.{some};
 ghost use Prim.Native.Nat.{ℕ, _+_, _*_, _≤_, max};
@@ -59,24 +59,31 @@ fn larger(a: u32, b: u32) -> u32
     if a < b { b } else { a }
 }
 
+// What is given, or else the type's own.
+fn chosen(given: bool, a: u32, own: u32) -> u32
+    ensures { λ r. ⌜ r ≡ cond given a own ⌝ }
+{
+    if given { a } else { own }
+}
+
+fn both(a: bool, b: bool) -> bool
+    ensures { λ r. ⌜ r ≡ (a && b) ⌝ }
+{
+    if a { b } else { false }
+}
+
 // One more member, whose size and align fit, after those that end as `p` says.
 fn place(p: Ends, l: Layout, m: Member) -> Run
     requires { ⌜ ((ms : Members) × (t : Ty) × Joins p l (memberIs m) ms t) ⌝ }
     ensures { λ r. ⌜ ((ms : Members) (t : Ty) → Joins p l (memberIs m) ms t → r ≡ runOf (followed ms t (memberIs m))) ⌝ }
 {
-    let mut align = l.align;
-    if align_given(m) {
-        align = m.align;
-    }
-    let mut size = l.size;
-    if size_given(m) {
-        size = m.size;
-    }
+    let align = chosen(align_given(m), m.align, l.align);
+    let size = chosen(size_given(m), m.size, l.size);
     let Limited::Is(start) = round_up(align, p.end) else {
         return Run::TooLarge;
     };
     let most = larger(p.align, align);
-    let storable = p.storable && l.storable;
+    let storable = both(p.storable, l.storable);
     if l.opens {
         return Run::Placed(Ends {
             end: 0,

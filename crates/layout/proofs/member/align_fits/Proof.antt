@@ -1,36 +1,29 @@
+-- Each answer is a law of `Fitting`.
+use mathlib.Core.Path.{sym, _∙_}
 use borrow.Author.Needs.{needs}
+use borrow.Author.Tests.{not-true, not-false}
+use Rattle.layout.proofs.Fitting.{align-not-given, align-no-power, align-multiple}
 use Rattle.layout.proofs.member.align_fits.Statement.{statement}
 use Rattle.layout.proofs.member.align_fits.Tie as tie
-use Rattle.layout.proofs.member.align_fits.Reads as reads
-use Rattle.layout.proofs.member.align_fits.Lts as lts
-use Rattle.layout.proofs.member.align_given.Reads as align-given-reads
-use Rattle.numbers.proofs.power.is_power.Reads as is-power-reads
 
--- src/member.rt:80:9
-align-given-requires : tie.Need-align-given-requires
-align-given-requires c κs = search needs
-
--- src/member.rt:81:9
 returns : tie.Need-returns
-returns c = ?
+returns c t is w = sym (align-not-given t _ (sym (c .before .align-given .ensures) ∙ not-true _ (c .if1 .taken)))
 
--- src/member.rt:83:9
-is-power-requires : tie.Need-is-power-requires
-is-power-requires c κs = search needs
-
--- src/member.rt:84:9
 returns-2 : tie.Need-returns-2
-returns-2 c = ?
+returns-2 c t is w =
+    let b = c .before .before in
+    sym (align-no-power t _ (sym (b .before .align-given .ensures) ∙ not-false _ (b .if1 .left))
+    (sym (c .before .is-power .ensures) ∙ not-true _ (c .if2 .taken)))
 
--- src/member.rt:86:5
-rem-result : tie.Need-rem-result
-rem-result c = search needs
-
--- src/member.rt:76:1
 returns-3 : tie.Need-returns-3
-returns-3 c = ?
+returns-3 c t is w =
+    let p = c .before .before in
+    let b = p .before .before in
+    sym (align-multiple _ t is w _ (b .before .before .pre)
+    (sym (b .before .align-given .ensures) ∙ not-false _ (b .if1 .left))
+    (sym (p .before .is-power .ensures) ∙ not-false _ (p .if2 .left)))
 
 pub align-fits-spec : {M : Type 1} → statement M
 align-fits-spec =
-    tie.close
-    (tie.spec align-given-requires returns is-power-requires returns-2 rem-result returns-3)
+    tie.close (tie.spec
+    (λ c κs. search needs) returns (λ c κs. search needs) returns-2 (λ c. search needs) returns-3)

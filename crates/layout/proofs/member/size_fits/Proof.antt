@@ -1,25 +1,25 @@
+-- Each answer is a law of `Fitting`.
+use mathlib.Core.Path.{sym, _∙_}
 use borrow.Author.Needs.{needs}
+use borrow.Author.Tests.{not-true, not-false}
+use Rattle.layout.proofs.Fitting.{size-not-given, size-not-on-runtime, size-at-least}
 use Rattle.layout.proofs.member.size_fits.Statement.{statement}
 use Rattle.layout.proofs.member.size_fits.Tie as tie
-use Rattle.layout.proofs.member.size_fits.Reads as reads
-use Rattle.layout.proofs.member.size_fits.Lts as lts
-use Rattle.layout.proofs.member.size_given.Reads as size-given-reads
 
--- src/member.rt:66:9
-size-given-requires : tie.Need-size-given-requires
-size-given-requires c κs = search needs
-
--- src/member.rt:67:9
 returns : tie.Need-returns
-returns c = ?
+returns c t is w = sym (size-not-given t _ (sym (c .before .size-given .ensures) ∙ not-true _ (c .if1 .taken)))
 
--- src/member.rt:70:9
 returns-2 : tie.Need-returns-2
-returns-2 c = ?
+returns-2 c t is w =
+    let b = c .before .before in
+    sym (size-not-on-runtime _ t is w _ (sym (b .before .size-given .ensures) ∙ not-false _ (b .if1 .left))
+    (c .if2 .taken))
 
--- src/member.rt:63:1
 returns-3 : tie.Need-returns-3
-returns-3 c = ?
+returns-3 c t is w =
+    let b = c .before .before .before .before in
+    sym (size-at-least _ t is w _ (sym (b .before .size-given .ensures) ∙ not-false _ (b .if1 .left))
+    (c .before .before .if2 .left))
 
 pub size-fits-spec : {M : Type 1} → statement M
-size-fits-spec = tie.close (tie.spec size-given-requires returns returns-2 returns-3)
+size-fits-spec = tie.close (tie.spec (λ c κs. search needs) returns returns-2 returns-3)

@@ -1,85 +1,80 @@
+-- Each answer is a law of `Joinings`, at the alignment and the size that the member gets.
+use mathlib.Core.Bool.{cond}
+use mathlib.Core.Path.{_≡_, sym, _∙_}
+use Rattle.wgsl.specs.File.{sizeIsGiven, alignIsGiven}
+use Rattle.file.specs.Fields.{memberIs}
+use Rattle.layout.proofs.Joinings.{align-above, joins-past, joins-open, joins-end-past, joins-closed, joins-words}
 use borrow.Author.Needs.{needs}
 use Rattle.layout.proofs.run.place.Statement.{statement}
 use Rattle.layout.proofs.run.place.Tie as tie
-use Rattle.layout.proofs.run.place.Reads as reads
-use Rattle.layout.proofs.run.place.Lts as lts
-use Rattle.layout.proofs.member.align_given.Reads as align-given-reads
-use Rattle.layout.proofs.member.size_given.Reads as size-given-reads
-use Rattle.layout.proofs.run.larger.Reads as larger-reads
-use Rattle.numbers.proofs.limit.round_up.Reads as round-up-reads
-use Rattle.numbers.proofs.limit.sum.Reads as sum-reads
 
--- src/run.rt:68:8
-align-given-requires : tie.Need-align-given-requires
-align-given-requires c κs = search needs
+align-is : (c : tie.After-chosen2) →
+    let a = c .before .before .before .before .args in
+    c .before .before .chosen .result ≡ cond (alignIsGiven (memberIs (a .m))) (a .m .align) (a .l .align)
+align-is c = rw (← c .before .before .before .align-given .ensures) (c .before .before .chosen .ensures)
 
--- src/run.rt:72:8
-size-given-requires : tie.Need-size-given-requires
-size-given-requires c κs = search needs
+size-is : (c : tie.After-chosen2) →
+    let a = c .before .before .before .before .args in
+    c .chosen2 .result ≡ cond (sizeIsGiven (memberIs (a .m))) (a .m .size) (a .l .size)
+size-is c = rw (← c .before .size-given .ensures) (c .chosen2 .ensures)
 
--- src/run.rt:75:30
 round-up-requires : tie.Need-round-up-requires
-round-up-requires c κs = ?
+round-up-requires c κs =
+    let j = c .before .before .before .before .pre in
+    align-above _ _ _ (j .0) (j .1) (j .2) _ (align-is c)
 
--- src/run.rt:75:21
-enum-known-start : tie.Need-enum-known-start
-enum-known-start c = search needs
-
--- src/run.rt:76:9
-enum-told : tie.Need-enum-told
-enum-told c = search needs
-
--- src/run.rt:76:9
 returns : tie.Need-returns
-returns c = ?
+returns c ms t j =
+    let r = c .before .before in
+    sym (joins-past _ _ _ ms t j _ (align-is (r .before)) (sym (r .round-up .ensures) ∙ c .enum-told .given .1))
 
--- src/run.rt:78:9
-larger-requires : tie.Need-larger-requires
-larger-requires c κs = search needs
-
--- src/run.rt:81:9
 returns-2 : tie.Need-returns-2
-returns-2 c = ?
+returns-2 c ms t j =
+    let b = c .before in
+    let s = b .before .before .before in
+    let r = s .before .before in
+    sym (joins-open _ _ _ ms t j _ (align-is (r .before)) _ (sym (r .round-up .ensures) ∙ s .start .given .1) _
+    (b .before .larger .ensures) _ (b .both .ensures) (c .if1 .taken))
 
--- src/run.rt:91:28
-sum-requires : tie.Need-sum-requires
-sum-requires c κs = search needs
-
--- src/run.rt:91:21
-enum-known-end : tie.Need-enum-known-end
-enum-known-end c = search needs
-
--- src/run.rt:92:9
-enum-told-2 : tie.Need-enum-told-2
-enum-told-2 c = search needs
-
--- src/run.rt:92:9
 returns-3 : tie.Need-returns-3
-returns-3 c = ?
+returns-3 c ms t j =
+    let e = c .before .before in
+    let b = e .before .before in
+    let s = b .before .before .before in
+    let r = s .before .before in
+    sym (joins-end-past _ _ _ ms t j _ (align-is (r .before)) _ (sym (r .round-up .ensures) ∙ s .start .given .1) _
+    (b .before .larger .ensures) _ (b .both .ensures) (e .before .if1 .left) _ (size-is (r .before))
+    (sym (e .sum .ensures) ∙ c .enum-told2 .given .1))
 
--- src/run.rt:99:16
-add-t17 : tie.Need-add-t17
-add-t17 c = ?
+add-t14 : tie.Need-add-t14
+add-t14 c =
+    let x = c .before .before .before in
+    let e = x .before .before in
+    let b = e .before .before in
+    let s = b .before .before .before in
+    let r = s .before .before in
+    let j = r .before .before .before .before .before .pre in
+    record {
+      fits =
+          joins-words _ _ _ (j .0) (j .1) (j .2) _ (align-is (r .before)) _ (sym (r .round-up .ensures) ∙ s .start .given .1) _
+          (b .before .larger .ensures) _ (b .both .ensures) (e .before .if1 .left) _ (size-is (r .before)) _
+          (sym (e .sum .ensures) ∙ x .end .given .1);
+    }
 
--- src/run.rt:63:1
 returns-4 : tie.Need-returns-4
-returns-4 c = ?
+returns-4 c ms t j =
+    let x = c .before .before .before in
+    let e = x .before .before in
+    let b = e .before .before in
+    let s = b .before .before .before in
+    let r = s .before .before in
+    sym (joins-closed _ _ _ ms t j _ (align-is (r .before)) _ (sym (r .round-up .ensures) ∙ s .start .given .1) _
+    (b .before .larger .ensures) _ (b .both .ensures) (e .before .if1 .left) _ (size-is (r .before)) _
+    (sym (e .sum .ensures) ∙ x .end .given .1))
 
 pub place-spec : {M : Type 1} → statement M
 place-spec =
-    tie.close
-    (tie.spec
-    align-given-requires
-    size-given-requires
-    round-up-requires
-    enum-known-start
-    enum-told
-    returns
-    larger-requires
-    returns-2
-    sum-requires
-    enum-known-end
-    enum-told-2
-    returns-3
-    add-t17
-    returns-4)
+    tie.close (tie.spec
+    (λ c κs. search needs) (λ c κs. search needs) (λ c κs. search needs) (λ c κs. search needs) round-up-requires (λ c.
+    search needs) (λ c. search needs) returns (λ c κs. search needs) (λ c κs. search needs) returns-2 (λ c κs. search
+    needs) (λ c. search needs) (λ c. search needs) returns-3 add-t14 returns-4)
