@@ -61,6 +61,11 @@ valueOf t =
       storable = isStorable t;
     }
 
+-- what stands where there is no entry
+abbrev pub blankLayout : Layout
+blankLayout =
+    record { kind = 0; size = 0; align = 0; stride = 0; offset = 0; words = 0; opens = false; storable = false }
+
 -- 5, 6 or 7, or the layout
 unfoldable pub verdictOn : Ty → Made
 verdictOn t = cond (isAllowed t) (cond (givenFits t) (cond (fitsLimit t) (Laid (valueOf t)) Large) Given) Rule

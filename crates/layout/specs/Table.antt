@@ -1,6 +1,6 @@
 -- What the table promises: the layouts of all entries of an accepted file, in the words of crates/wgsl.
 --
--- In order: a table whose first entries hold the layouts of types; what the whole table says; an entry that is no struct.
+-- In order: what the whole table says; an entry that is no struct; an entry's layout.
 -- Definitions only. Assumes nothing.
 use Prim.Native.Nat.{ℕ, _-_}
 use mathlib.Core.Path.{_≡_}
@@ -17,19 +17,9 @@ use Rattle.wgsl.specs.Rule.{scalarMade, overMade, isWellFormed, typesOf}
 use Rattle.file.specs.Refusal.{numberOf, placeOf}
 use Rattle.file.specs.Fields.{trailerIs}
 use Rattle.kinds.specs.declared.value.Layout.{Layout}
-use Rattle.kinds.specs.Value.{valueOf}
+use Rattle.kinds.specs.Value.{valueOf, blankLayout}
 use Rattle.layout.specs.declared.table.Checked.{Checked}
 use Rattle.layout.specs.declared.table.Checked.the-variants.{Types, Refused}
-
--- the first entries of the table hold the layouts of these types, which the file's rules leave
-pub record Holds (ls : List Layout) (ts : List Ty) : Type 0 where
-  pub first : take (length ts) ls ≡ map valueOf ts
-  pub well-formed : (k : ℕ) (t : Ty) → getElem? ts k ≡ some t → everywhere isWellFormed t ≡ true
-
--- what stands past the entries
-abbrev pub blankLayout : Layout
-blankLayout =
-    record { kind = 0; size = 0; align = 0; stride = 0; offset = 0; words = 0; opens = false; storable = false }
 
 -- "A table of 256 layouts": those of the types, and blanks past them; blank where the file is refused
 unfoldable pub layoutsOf : Said (List Ty) → List Layout

@@ -1,5 +1,4 @@
 // The table of 256 layouts, worked out upward from entry 0.
-use crate::run::struct_entry;
 use file::fields::Entry;
 use file::fields::entry_at;
 use file::refusal::Refusal;
@@ -12,6 +11,7 @@ use kinds::scalars::scalar_entry;
 use kinds::scalars::zeros;
 use kinds::value::Layout;
 use kinds::value::Made;
+use structs::struct_entry;
 ghost use mathlib.Core.Path.{_≡_};
 ghost use mathlib.Core.Option.{Option};
 ghost use lib.ListN.{replicate};
@@ -20,8 +20,8 @@ ghost use Rattle.wgsl.specs.Said.{good};
 ghost use Rattle.wgsl.specs.File.{checkTrailer};
 ghost use Rattle.wgsl.specs.Rule.{typesOf};
 ghost use Rattle.file.specs.Fields.{trailerIs, entryIs};
-ghost use Rattle.kinds.specs.Value.{madeOf};
-ghost use Rattle.layout.specs.Table.{blankLayout, layoutsOf, acceptedTrailer, saidChecked, Referred, plainMade};
+ghost use Rattle.kinds.specs.Value.{madeOf, blankLayout};
+ghost use Rattle.layout.specs.Table.{layoutsOf, acceptedTrailer, saidChecked, Referred, plainMade};
 
 pub enum Checked {
     Types(Trailer),
