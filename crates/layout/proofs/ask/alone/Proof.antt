@@ -1,15 +1,16 @@
+-- 0 is no number of a type: `marked` tells it from one.
+use Rattle.wgsl.specs.Said.{orRefuse}
+use Rattle.layout.proofs.Asks.{marked-zero, marked-other}
 use Rattle.layout.proofs.ask.alone.Statement.{statement}
 use Rattle.layout.proofs.ask.alone.Tie as tie
-use Rattle.layout.proofs.ask.alone.Reads as reads
-use Rattle.layout.proofs.ask.alone.Lts as lts
 
--- src/ask.rt:80:9
 returns : tie.Need-returns
-returns c = ?
+unfolding orRefuse
+returns c = rw (marked-zero _ (c .if1 .taken))
 
--- src/ask.rt:76:1
 returns-2 : tie.Need-returns-2
-returns-2 c = ?
+unfolding orRefuse
+returns-2 c = rw (marked-other _ (c .if1 .left))
 
 pub alone-spec : {M : Type 1} → statement M
 alone-spec = tie.close (tie.spec returns returns-2)

@@ -1,30 +1,18 @@
+-- Each answer is a law of `Asks`, over what `layouts` ensures of its answer.
+use Rattle.layout.proofs.Asks.{check-types, check-refused}
 use borrow.Author.Needs.{needs}
 use Rattle.layout.proofs.ask.check.Statement.{statement}
 use Rattle.layout.proofs.ask.check.Tie as tie
-use Rattle.layout.proofs.ask.check.Reads as reads
-use Rattle.layout.proofs.ask.check.Lts as lts
-use Rattle.layout.proofs.table.layouts.Reads as layouts-reads
 
--- src/ask.rt:49:9
-layouts-requires : tie.Need-layouts-requires
-layouts-requires c κs = search needs
-
--- src/ask.rt:52:24
-enum-known-answer : tie.Need-enum-known-answer
-enum-known-answer c = search needs
-
--- src/ask.rt:53:26
-enum-known-answer-2 : tie.Need-enum-known-answer-2
-enum-known-answer-2 c = search needs
-
--- src/ask.rt:46:1
 returns : tie.Need-returns
-returns c = ?
+returns c =
+    let t = c .before .before .before .layouts in
+    check-types _ (t .result .answer) (t .ensures .0) _ (c .before .answer .given .1)
 
--- src/ask.rt:46:1
 returns-2 : tie.Need-returns-2
-returns-2 c = ?
+returns-2 c =
+    let t = c .before .before .before .layouts in
+    check-refused _ (t .result .answer) (t .ensures .0) _ (c .before .answer2 .given .1)
 
 pub check-spec : {M : Type 1} → statement M
-check-spec =
-    tie.close (tie.spec layouts-requires enum-known-answer enum-known-answer-2 returns returns-2)
+check-spec = tie.close (tie.spec (λ c κs. search needs) (λ c. search needs) (λ c. search needs) returns returns-2)

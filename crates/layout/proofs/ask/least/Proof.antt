@@ -1,15 +1,13 @@
+-- Each answer is a law of `Asks`: kind 10 is a runtime array's.
+use Rattle.layout.proofs.Asks.{least-stride, least-size}
 use Rattle.layout.proofs.ask.least.Statement.{statement}
 use Rattle.layout.proofs.ask.least.Tie as tie
-use Rattle.layout.proofs.ask.least.Reads as reads
-use Rattle.layout.proofs.ask.least.Lts as lts
 
--- src/ask.rt:98:9
 returns : tie.Need-returns
-returns c = ?
+returns c t is = least-stride _ t is (c .if1 .taken)
 
--- src/ask.rt:94:1
 returns-2 : tie.Need-returns-2
-returns-2 c = ?
+returns-2 c t is = least-size _ t is (c .if1 .left)
 
 pub least-spec : {M : Type 1} → statement M
 least-spec = tie.close (tie.spec returns returns-2)

@@ -1,48 +1,24 @@
+-- Each answer is a law of `Asks`, over what `find`, `least` and `alone` ensure.
+use Rattle.wgsl.specs.Call.{minSizeCall}
+use Rattle.layout.proofs.Asks.{ask-refused, ask-min-size}
 use borrow.Author.Needs.{needs}
 use Rattle.layout.proofs.ask.min_size.Statement.{statement}
 use Rattle.layout.proofs.ask.min_size.Tie as tie
-use Rattle.layout.proofs.ask.min_size.Reads as reads
-use Rattle.layout.proofs.ask.min_size.Lts as lts
-use Rattle.layout.proofs.ask.alone.Reads as alone-reads
-use Rattle.layout.proofs.ask.find.Reads as find-reads
-use Rattle.layout.proofs.ask.least.Reads as least-reads
 
--- src/ask.rt:130:11
-find-requires : tie.Need-find-requires
-find-requires c κs = search needs
-
--- src/ask.rt:131:19
-enum-known-l : tie.Need-enum-known-l
-enum-known-l c = search needs
-
--- src/ask.rt:131:31
-least-requires : tie.Need-least-requires
-least-requires c κs = search needs
-
--- src/ask.rt:131:25
-alone-requires : tie.Need-alone-requires
-alone-requires c κs = search needs
-
--- src/ask.rt:132:24
-enum-known-r : tie.Need-enum-known-r
-enum-known-r c = search needs
-
--- src/ask.rt:127:1
 returns : tie.Need-returns
-returns c = ?
+returns c =
+    let found = c .before .before .before .before .before .find in
+    ask-min-size _ _ (found .result) (found .ensures) _ (c .before .before .before .l .given .1) _
+    (c .before .least .ensures) (c .alone .ensures)
 
--- src/ask.rt:127:1
 returns-2 : tie.Need-returns-2
-returns-2 c = ?
+unfolding minSizeCall
+returns-2 c =
+    let found = c .before .before .before .find in
+    ask-refused _ _ (found .result) (found .ensures) _ _ (c .before .r .given .1)
 
 pub min-size-spec : {M : Type 1} → statement M
 min-size-spec =
-    tie.close
-    (tie.spec
-    find-requires
-    enum-known-l
-    least-requires
-    alone-requires
-    enum-known-r
-    returns
+    tie.close (tie.spec
+    (λ c κs. search needs) (λ c. search needs) (λ c κs. search needs) (λ c κs. search needs) (λ c. search needs) returns
     returns-2)

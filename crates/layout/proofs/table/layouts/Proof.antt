@@ -1,48 +1,23 @@
+-- A refusal of the trailer is the file's; a good one is handed on, since `check_trailer` says what `checkTrailer` does.
+use mathlib.Core.Path.{sym, ap, _∙_}
+use Rattle.file.specs.Fields.{saidTrailer}
+use Rattle.layout.proofs.Fills.{types-refused, refuses}
 use borrow.Author.Needs.{needs}
 use Rattle.layout.proofs.table.layouts.Statement.{statement}
 use Rattle.layout.proofs.table.layouts.Tie as tie
-use Rattle.layout.proofs.table.layouts.Reads as reads
-use Rattle.layout.proofs.table.layouts.Lts as lts
-use Rattle.file.proofs.trailer.check_trailer.Reads as check-trailer-reads
-use Rattle.layout.proofs.table.fill.Reads as fill-reads
-use Rattle.layout.proofs.table.refused.Reads as refused-reads
 
--- src/table.rt:132:11
-check-trailer-requires : tie.Need-check-trailer-requires
-check-trailer-requires c κs = search needs
-
--- src/table.rt:133:25
-enum-known-t : tie.Need-enum-known-t
-enum-known-t c = search needs
-
--- src/table.rt:133:31
 fill-requires : tie.Need-fill-requires
-fill-requires c κs = ?
+fill-requires c κs =
+    sym (c .before .before .before .check-trailer .ensures) ∙ ap saidTrailer (c .before .t .given .1)
 
--- src/table.rt:134:28
-enum-known-r : tie.Need-enum-known-r
-enum-known-r c = search needs
-
--- src/table.rt:134:34
-refused-requires : tie.Need-refused-requires
-refused-requires c κs = search needs
-
--- src/table.rt:128:1
-returns : tie.Need-returns
-returns c = search needs
-
--- src/table.rt:128:1
 returns-2 : tie.Need-returns-2
-returns-2 c = ?
+returns-2 c =
+    let said = c .before .before .before .before .check-trailer .ensures in
+    refuses _ (c .refused .ensures .0) (c .refused .ensures .1)
+    (types-refused _ (sym said ∙ ap saidTrailer (c .before .before .r .given .1)))
 
 pub layouts-spec : {M : Type 1} → statement M
 layouts-spec =
-    tie.close
-    (tie.spec
-    check-trailer-requires
-    enum-known-t
-    fill-requires
-    enum-known-r
-    refused-requires
-    returns
-    returns-2)
+    tie.close (tie.spec
+    (λ c κs. search needs) (λ c. search needs) fill-requires (λ c. search needs) (λ c κs. search needs)
+    (λ c. search needs) returns-2)
