@@ -75,7 +75,10 @@ pub fn list(file: &[u8], out: &mut [u8]) -> usize
     let t = layouts(file);
     let answer = t.answer;
     match answer {
-        Checked::Types(trailer) => put_entries(out, t.layouts, trailer.types),
+        Checked::Types(trailer) => {
+            let ls = t.layouts;
+            put_entries(out, ls, trailer.types)
+        }
         Checked::Refused(r) => put_refused(out, 0, number(r), place(r)),
     }
 }
