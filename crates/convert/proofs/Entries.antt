@@ -1,6 +1,7 @@
 -- Entries of an accepted file: where they lie, what they refer to, the kind of their types (crates/wgsl, proofs/Accepted, proofs/Fields).
 --
--- In order: lists read by number; an entry of an accepted file; kinds 7 to 12, one by one; the entry that an entry refers to.
+-- In order: lists read by number; an entry of an accepted file; what its fields say of its type, kind by kind; the kind that its type
+-- begins with; the entry that it refers to; the kind of a scalar.
 -- Assumes nothing.
 use Prim.Native.Nat.{ℕ, zero, suc, _+_, _-_, _*_, _<_, _≤_}
 use mathlib.Core.Bool.{Bool, true, false}

@@ -3,3 +3,4 @@ pub mod Folds
 pub mod Outlines
 pub mod Pairs
 pub mod Scalars
+pub mod Questions
