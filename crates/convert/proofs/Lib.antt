@@ -1,0 +1,6 @@
+pub mod Entries
+pub mod Folds
+pub mod Outlines
+pub mod Pairs
+pub mod Scalars
+pub mod Questions

@@ -1,0 +1,81 @@
+// The rank of one entry's type to another's.
+use crate::scalar::Ranked;
+use crate::scalar::scalar_rank;
+use file::fields::Entry;
+use file::fields::entry_at;
+use file::trailer::wide;
+ghost use mathlib.Core.Path.{_≡_};
+ghost use mathlib.Core.List.{List};
+ghost use mathlib.Core.Option.{some};
+ghost use Prim.Native.Nat.{_+_, _*_, _≤_};
+ghost use lib.ListN.{length, getElem?};
+ghost use Rattle.wgsl.specs.Types.{Ty};
+ghost use Rattle.wgsl.specs.Said.{good};
+ghost use Rattle.wgsl.specs.File.{trailerOf, typeEntryAt};
+ghost use Rattle.wgsl.specs.Rule.{typesOf};
+ghost use Rattle.wgsl.specs.Rank.{rankOf};
+ghost use Rattle.file.specs.Fields.{entryIs};
+ghost use Rattle.convert.specs.Ranked.{rankIs, Pair};
+
+// Type entry `k`, where the entries begin at `start`.
+fn entry_of(f: &[u8], start: usize, k: usize) -> Entry
+    requires { ⌜ (start ≡ trailerOf (now f) .start) × (start + 12 * k + 12 ≤ length (now f)) ⌝ }
+    ensures { λ r. ⌜ entryIs r ≡ typeEntryAt (now (f .entry)) k ⌝ }
+{
+    entry_at(f, start + 12 * k)
+}
+
+// The rank of entry `a` to entry `b` of an accepted file whose entries begin at `start`. Walks both types down by their references.
+pub fn entry_rank(f: &[u8], start: usize, a: usize, b: usize) -> Ranked
+    requires { ⌜ ((ts : List Ty) × Pair (now f) ts start a b) ⌝ }
+    ensures { λ r. ⌜ ((ts : List Ty) (s t : Ty) → typesOf (now (f .entry)) ≡ good ts → getElem? ts a ≡ some s → getElem? ts b ≡ some t → rankIs r ≡ rankOf s t) ⌝ }
+{
+    let x = entry_of(f, start, a);
+    let y = entry_of(f, start, b);
+    if x.kind <= 6 {
+        if y.kind <= 6 {
+            return scalar_rank(x.kind, y.kind);
+        }
+        return Ranked::No;
+    }
+    if x.kind != y.kind {
+        return Ranked::No;
+    }
+    // "structs by entry number"
+    if x.kind == 12 {
+        if a == b {
+            return Ranked::Is(0);
+        }
+        return Ranked::No;
+    }
+    let p = wide(x.reference);
+    let q = wide(y.reference);
+    if x.kind == 9 {
+        if x.count != y.count {
+            return Ranked::No;
+        }
+        return entry_rank(f, start, p, q);
+    }
+    if x.kind == 10 {
+        return entry_rank(f, start, p, q);
+    }
+    let u = entry_of(f, start, p);
+    let v = entry_of(f, start, q);
+    // atomics convert to nothing else
+    if x.kind == 11 {
+        if u.kind == v.kind {
+            return Ranked::Is(0);
+        }
+        return Ranked::No;
+    }
+    if x.rows != y.rows {
+        return Ranked::No;
+    }
+    if x.kind == 7 {
+        return scalar_rank(u.kind, v.kind);
+    }
+    if x.columns != y.columns {
+        return Ranked::No;
+    }
+    scalar_rank(u.kind, v.kind)
+}

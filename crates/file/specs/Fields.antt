@@ -1,0 +1,32 @@
+-- What the code's records of a file's fields say, in the words of crates/wgsl.
+-- Definitions only. Assumes nothing.
+use Rattle.wgsl.specs.Said.{Said, good, refused}
+use Rattle.wgsl.specs.File as wgsl
+use Rattle.file.specs.declared.trailer.Trailer.{Trailer}
+use Rattle.file.specs.declared.trailer.Trailered.{Trailered}
+use Rattle.file.specs.declared.trailer.Trailered.the-variants.{Good, Refused}
+use Rattle.file.specs.declared.fields.Entry.{Entry}
+use Rattle.file.specs.declared.fields.Member.{Member}
+use Rattle.file.specs.Refusal.{numberOf, placeOf}
+
+abbrev pub trailerIs : Trailer → wgsl.Trailer
+trailerIs t = record { types = t .types; members = t .members; start = t .start; form = t .form }
+
+abbrev pub saidTrailer : Trailered → Said wgsl.Trailer
+saidTrailer (Good t) = good (trailerIs t)
+saidTrailer (Refused r) = refused (numberOf r) (placeOf r)
+
+abbrev pub entryIs : Entry → wgsl.TypeEntry
+entryIs e =
+    record {
+      kind = e .kind;
+      columns = e .columns;
+      rows = e .rows;
+      zero3 = e .zero3;
+      reference = e .reference;
+      zero6 = e .zero6;
+      count = e .count;
+    }
+
+abbrev pub memberIs : Member → wgsl.MemberEntry
+memberIs m = record { type = m .ty; flags = m .flags; size = m .size; align = m .align }

@@ -1,0 +1,252 @@
+-- What the check and the four questions say (crates/wgsl, specs/Call), read from the table's answer and from a layout in it.
+--
+-- In order: 0 for an absent number; minimum sizes; entries of the table; what the table's answer tells; what the layout of an entry
+-- tells; the three numbers asked alone; all three at once.
+-- Assumes nothing.
+use Prim.Native.Nat.{ℕ, zero, suc, _<_, _≤_}
+use mathlib.Core.Bool.{true}
+use mathlib.Core.List.{List, [], _∷_, _++_, map}
+use mathlib.Core.Option.{Option, none, some}
+use mathlib.Core.Path.{_≡_, refl, sym, ap, _∙_}
+use native.Mathlib.Omega.{arith}
+use borrow.Author.Tests.{eq-eqb, ne-eqb}
+use lib.ListN.{length, getD, getElem?}
+use Rattle.wgsl.specs.Types.{Scalar, bool, i32, u32, f32, f16, abstractInt, abstractFloat, Ty, scalar, vector, matrix, array, runtime, atomic, struct, everywhere}
+use Rattle.wgsl.specs.Size.{present, sizeOf, alignOf, minSizeOf}
+use Rattle.wgsl.specs.Said.{Said, good, refused, _>>=_, orRefuse}
+use Rattle.wgsl.specs.File.{trailerOf}
+use Rattle.wgsl.specs.Rule.{isWellFormed, typesOf}
+use Rattle.wgsl.specs.Rank.{kindOf}
+use Rattle.wgsl.specs.Call.{checkOf, entryOf, sizeCall, alignCall, minSizeCall, layoutOf, layoutCall}
+use Rattle.wgsl.proofs.Said.{good-not-refused, then-good, then-cases, then-is, then-refused}
+use Rattle.wgsl.proofs.Accepted.{accepted}
+use Rattle.wgsl.proofs.Passed.{runtime-passed}
+use Rattle.wgsl.proofs.Entry.{size-positive, align-positive, stride-positive}
+use Rattle.wgsl.proofs.Call.{entry-well-formed}
+use Rattle.file.specs.Refusal.{numberOf, placeOf}
+use Rattle.file.specs.declared.refusal.Refusal.{Refusal}
+use Rattle.file.specs.declared.trailer.Trailer.{Trailer}
+use Rattle.kinds.specs.Value.{kindOfType, elementStride, valueOf}
+use Rattle.kinds.specs.declared.value.Layout.{Layout}
+use Rattle.layout.specs.Table.{layoutsOf, acceptedTrailer, saidChecked, valued}
+use Rattle.layout.specs.Answer.{marked, saidFound}
+use Rattle.layout.specs.declared.table.Checked.{Checked}
+use Rattle.layout.specs.declared.table.Checked.the-variants.{Types, Refused}
+use Rattle.layout.specs.declared.ask.Found.{Found}
+
+-- ---- 0 for an absent number
+
+pub marked-zero : (n : ℕ) → n ≡ 0 → marked n ≡ none
+unfolding marked
+marked-zero n h = rw (eq-eqb n 0 h)
+
+pub marked-other : (n : ℕ) → (n ≡ 0 → ⊥) → marked n ≡ some n
+unfolding marked
+marked-other n h = rw (ne-eqb n 0 h)
+
+-- A number that is above 0 where it is present is told by its mark.
+marked-present : (o : Option ℕ) → ((n : ℕ) → o ≡ some n → 1 ≤ n) → marked (present o) ≡ o
+unfolding present
+marked-present none h = marked-zero 0 refl
+marked-present (some n) h = let l : 1 ≤ n = h n refl in marked-other n (λ z. omega arith)
+
+-- a question whose answer is above 0 where it is present
+abbrev Positive : (Ty → Option ℕ) → Type 0
+Positive ask = (t : Ty) (n : ℕ) → everywhere isWellFormed t ≡ true → ask t ≡ some n → 1 ≤ n
+
+-- The mark of its number is its answer.
+marked-is : (ask : Ty → Option ℕ) → Positive ask → (t : Ty) → everywhere isWellFormed t ≡ true → {n : ℕ} → n ≡ present (ask t) → marked n ≡ ask t
+marked-is ask p t w e = rw e (marked-present (ask t) (λ n h. p t n w h))
+
+-- ---- minimum sizes
+
+scalar-kind : (s : Scalar) → kindOf s ≤ 6
+unfolding kindOf
+scalar-kind bool = omega arith
+scalar-kind i32 = omega arith
+scalar-kind u32 = omega arith
+scalar-kind f32 = omega arith
+scalar-kind f16 = omega arith
+scalar-kind abstractInt = omega arith
+scalar-kind abstractFloat = omega arith
+
+runtime-least : (t : Ty) → kindOfType t ≡ 10 → present (elementStride t) ≡ present (minSizeOf t)
+unfolding kindOfType elementStride minSizeOf
+runtime-least (scalar s) h = absurd (omega (arith, scalar-kind s))
+runtime-least (vector n s) h = absurd (omega arith)
+runtime-least (matrix c r s) h = absurd (omega arith)
+runtime-least (array n t) h = absurd (omega arith)
+runtime-least (runtime t) h = refl
+runtime-least (atomic s) h = absurd (omega arith)
+runtime-least (struct k ms) h = absurd (omega arith)
+
+other-least : (t : Ty) → (kindOfType t ≡ 10 → ⊥) → sizeOf t ≡ minSizeOf t
+unfolding kindOfType minSizeOf
+other-least (scalar s) h = refl
+other-least (vector n s) h = refl
+other-least (matrix c r s) h = refl
+other-least (array n t) h = refl
+other-least (runtime t) h = absurd (h refl)
+other-least (atomic s) h = refl
+other-least (struct k ms) h = refl
+
+module _ (l : Layout) (t : Ty) (is : l ≡ valueOf t) where
+  -- "its minimum size is one stride"
+  pub least-stride : l .kind ≡ 10 → l .stride ≡ present (minSizeOf t)
+  unfolding valueOf
+  least-stride h = ap (λ (x : Layout). x .stride) is ∙ runtime-least t (sym (ap (λ (x : Layout). x .kind) is) ∙ h)
+
+  -- "any other type's is its size"
+  pub least-size : (l .kind ≡ 10 → ⊥) → l .size ≡ present (minSizeOf t)
+  unfolding valueOf
+  least-size h =
+      ap (λ (x : Layout). x .size) is
+      ∙ ap present (other-least t (λ e. h (ap (λ (x : Layout). x .kind) is ∙ e)))
+
+sizes-positive : Positive sizeOf
+sizes-positive t n w e = omega (arith, size-positive t n w e)
+
+-- Every minimum size of a well-formed type is above 0.
+least-positive : Positive minSizeOf
+unfolding minSizeOf
+least-positive (scalar s) n w e = sizes-positive (scalar s) n w e
+least-positive (vector k s) n w e = sizes-positive (vector k s) n w e
+least-positive (matrix c r s) n w e = sizes-positive (matrix c r s) n w e
+least-positive (array k t) n w e = sizes-positive (array k t) n w e
+least-positive (runtime t) n w e = omega (arith, stride-positive t n (runtime-passed t w .below) e)
+least-positive (atomic s) n w e = sizes-positive (atomic s) n w e
+least-positive (struct k ms) n w e = sizes-positive (struct k ms) n w e
+
+-- ---- entries of the table
+
+table-there : (ts : List Ty) (rest : List Layout) (e : ℕ) (d : Layout) → e < length ts → good (getD (map valueOf ts ++ rest) e d) ≡ valued (orRefuse 8 0 (getElem? ts e))
+unfolding valued orRefuse
+table-there [] rest e d h = absurd (omega arith)
+table-there (t ∷ ts) rest zero d h = refl
+table-there (t ∷ ts) rest (suc e) d h = table-there ts rest e d (omega arith)
+
+table-past : (ts : List Ty) (e : ℕ) → length ts ≤ e → refused 8 0 ≡ valued (orRefuse 8 0 (getElem? ts e))
+unfolding valued orRefuse
+table-past [] e h = refl
+table-past (t ∷ ts) zero h = absurd (omega arith)
+table-past (t ∷ ts) (suc e) h = table-past ts e (omega arith)
+
+valued-refused : (s : Said Ty) (number place : ℕ) → s ≡ refused number place → refused number place ≡ valued s
+unfolding valued
+valued-refused s number place h = rw h
+
+-- ---- what the table's answer tells
+
+-- the file is accepted, ts are its types, and so many are told
+record Taken (f : List ℕ) (types : ℕ) : Type 0 where
+  ts : List Ty
+  taken : typesOf f ≡ good ts
+  count : length ts ≡ types
+  few : types ≤ 256
+
+module _ (f : List ℕ) (a : Checked) (says : saidChecked a ≡ acceptedTrailer f) where
+  told : (t : Trailer) → a ≡ Types t → Taken f (t .types)
+  unfolding acceptedTrailer
+  told t is =
+      let x = then-good _ _ (sym says ∙ ap saidChecked is) in
+      let y = accepted f (x .value) (x .first) in
+      let z : trailerOf f .types ≡ t .types = cc (x .after) in
+      record { ts = x .value; taken = x .first; count = y .count ∙ z; few = omega (arith, y .types-high) }
+
+  -- A file that the table refuses has no types.
+  told-refused : (r : Refusal) → a ≡ Refused r → typesOf f ≡ refused (numberOf r) (placeOf r)
+  unfolding acceptedTrailer
+  told-refused r is =
+      then-cases _ _ (sym says ∙ ap saidChecked is) (λ h. h) (λ h. good-not-refused refl (h .after))
+
+  -- "check: how many entries the file has"
+  pub check-types : (t : Trailer) → a ≡ Types t → good (t .types) ≡ checkOf f
+  unfolding checkOf
+  check-types t is = let x = told t is in sym (then-is _ (x .taken) ∙ ap good (x .count))
+
+  pub check-refused : (r : Refusal) → a ≡ Refused r → refused (numberOf r) (placeOf r) ≡ checkOf f
+  unfolding checkOf
+  check-refused r is = sym (then-refused _ (told-refused r is))
+
+  module _ (e : ℕ) where
+    -- The table has room for every entry.
+    pub found-inside : (t : Trailer) → a ≡ Types t → e < t .types → e < 256
+    found-inside t is h = let x = told t is in omega (arith, x .few)
+
+    -- An entry's layout stands in the table.
+    pub found-there : (t : Trailer) → a ≡ Types t → e < t .types → (ls : List Layout) (d : Layout) → ls ≡ layoutsOf (typesOf f) → good (getD ls e d) ≡ valued (entryOf f e)
+    unfolding entryOf layoutsOf _>>=_
+    found-there t is h ls d same =
+        let x = told t is in
+        let low : e < length (x .ts) = omega (arith, x .count) in
+        rw (same, x .taken) (table-there (x .ts) _ e d low)
+
+    -- 8: "entry number not below T"
+    pub found-missing : (t : Trailer) → a ≡ Types t → t .types ≤ e → refused 8 0 ≡ valued (entryOf f e)
+    unfolding entryOf
+    found-missing t is h =
+        let x = told t is in
+        let high : length (x .ts) ≤ e = omega (arith, x .count) in
+        rw (then-is _ (x .taken)) (table-past (x .ts) e high)
+
+    pub found-refused : (r : Refusal) → a ≡ Refused r → refused (numberOf r) (placeOf r) ≡ valued (entryOf f e)
+    unfolding entryOf
+    found-refused r is = valued-refused _ _ _ (then-refused _ (told-refused r is))
+
+-- ---- what the layout of an entry tells
+
+valued-good : (s : Said Ty) (l : Layout) → valued s ≡ good l → (t : Ty) × (s ≡ good t) × (l ≡ valueOf t)
+unfolding valued
+valued-good (good t) l e = (t, refl, cc)
+valued-good (refused number place) l e = good-not-refused e refl
+
+refused-valued : (s : Said Ty) (number place : ℕ) → valued s ≡ refused number place → s ≡ refused number place
+unfolding valued
+refused-valued (good t) number place e = good-not-refused refl e
+refused-valued (refused n p) number place e =
+    let a : n ≡ number = cc in
+    let b : p ≡ place = cc in
+    rw (a, b)
+
+module _ (f : List ℕ) (e : ℕ) (a : Found) (says : saidFound a ≡ valued (entryOf f e)) where
+  -- A question about an entry that is refused is refused so.
+  pub ask-refused : {B : Type 0} (rest : Ty → Said B) (r : Refusal) → a ≡ Found.Refused r → refused (numberOf r) (placeOf r) ≡ _>>=_ (entryOf f e) rest
+  ask-refused rest r is = sym (then-refused rest (refused-valued _ _ _ (sym says ∙ ap saidFound is)))
+
+  module _ (l : Layout) (is : a ≡ Found.Is l) where
+    -- Any question that the layout of a well-formed type answers, its entry answers.
+    ask-is : {B : Type 0} (rest : Ty → Said B) (s : Said B) → ((t : Ty) → l ≡ valueOf t → everywhere isWellFormed t ≡ true → s ≡ rest t) → s ≡ _>>=_ (entryOf f e) rest
+    ask-is rest s h =
+        let x = valued-good (entryOf f e) l (sym says ∙ ap saidFound is) in
+        h (x .0) (x .2) (entry-well-formed f e (x .0) (x .1)) ∙ sym (then-is rest (x .1))
+
+    -- A number asked alone.
+    ask-number : (ask : Ty → Option ℕ) → Positive ask → (n : ℕ) → ((t : Ty) → l ≡ valueOf t → n ≡ present (ask t)) → {s : Said ℕ} → s ≡ orRefuse 9 0 (marked n) → s ≡ _>>=_ (entryOf f e) (λ t. orRefuse 9 0 (ask t))
+    ask-number ask p n same h = ask-is _ _ (λ t v w. h ∙ ap (orRefuse 9 0) (marked-is ask p t w (same t v)))
+
+    pub ask-size : {s : Said ℕ} → s ≡ orRefuse 9 0 (marked (l .size)) → s ≡ sizeCall f e
+    unfolding sizeCall valueOf
+    ask-size h = ask-number sizeOf sizes-positive (l .size) (λ t v. ap (λ (x : Layout). x .size) v) h
+
+    pub ask-align : {s : Said ℕ} → s ≡ orRefuse 9 0 (marked (l .align)) → s ≡ alignCall f e
+    unfolding alignCall valueOf
+    ask-align h = ask-number alignOf align-positive (l .align) (λ t v. ap (λ (x : Layout). x .align) v) h
+
+    module _ (least : ℕ) (same : (t : Ty) → l ≡ valueOf t → least ≡ present (minSizeOf t)) where
+      pub ask-min-size : {s : Said ℕ} → s ≡ orRefuse 9 0 (marked least) → s ≡ minSizeCall f e
+      unfolding minSizeCall
+      ask-min-size h = ask-number minSizeOf least-positive least same h
+
+      -- "(the layout answer marks it absent instead)"
+      pub ask-layout : {size align min : Option ℕ} → size ≡ marked (l .size) → align ≡ marked (l .align) → min ≡ marked least → good (record { size = size; align = align; minSize = min }) ≡ layoutCall f e
+      unfolding layoutCall layoutOf valueOf
+      ask-layout p q r =
+          ask-is _ _ (λ t v w.
+          rw (
+            p,
+            q,
+            r,
+            marked-is sizeOf sizes-positive t w (ap (λ (x : Layout). x .size) v),
+            marked-is alignOf align-positive t w (ap (λ (x : Layout). x .align) v),
+            marked-is minSizeOf least-positive t w (same t v),
+          ))

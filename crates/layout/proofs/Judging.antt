@@ -1,0 +1,189 @@
+-- What becomes of entry k of a file: the verdict that the code works out (`madeOf` of crates/kinds) is that of crates/wgsl.
+--
+-- In order: a good trailer, and where entries and members lie; the kinds of an entry; an entry that is no struct; the verdict; the
+-- entries up to one that is refused or laid out.
+-- Assumes nothing.
+use Prim.Native.Nat.{ℕ, zero, suc, _+_, _-_, _*_, _<_, _≤_}
+use mathlib.Core.Bool.{Bool, true, false, not, cond, _&&_}
+use mathlib.Core.List.{List, [], _∷_, _++_}
+use mathlib.Core.Option.{Option, none, some}
+use mathlib.Core.Path.{_≡_, refl, sym, ap, _∙_}
+use native.Mathlib.Omega.{arith}
+use borrow.Author.Tests.{le-leb, lt-leb, ne-eqb, eqb-true, not-false}
+use lib.Dec.{eqb}
+use lib.ListN.{length}
+use Rattle.wgsl.specs.Types.{Ty}
+use Rattle.wgsl.specs.Size.{fitsLimit}
+use Rattle.wgsl.specs.Said.{Said, good, refused, _>>=_, _>>_, refuse, orRefuse}
+use Rattle.wgsl.specs.File.{Trailer, trailerOf, trailerLength, lengthBy, typeEntryLength, memberEntryLength, TypeEntry, typeEntryAt, typeEntryFrom, between, checkTrailer}
+use Rattle.wgsl.specs.Rule.{when, unused, lower, scalarMade, overMade, vectorMade, matrixMade, arrayMade, runtimeMade, atomicMade, andThen, structMade, typeMade, typeOfEntry, isAllowed, givenFits, judged, typesBelow, typesOf}
+use Rattle.wgsl.proofs.Absent.{both-hold, between-true}
+use Rattle.wgsl.proofs.Said.{good-not-refused, then-is, then-refused, refuse-good}
+use Rattle.kinds.specs.Value.{valueOf, verdictOn, madeOf}
+use Rattle.kinds.specs.declared.value.Layout.{Layout}
+use Rattle.kinds.specs.declared.value.Made.{Made}
+use Rattle.kinds.specs.declared.value.Made.the-variants.{Laid, Rule, Given, Large}
+use Rattle.layout.specs.Table.{plainMade, valued}
+use Rattle.structs.specs.Run.{memberPlace}
+
+-- ---- a good trailer
+
+pub record Trailed (f : List ℕ) (r : Trailer) : Type 0 where
+  pub is : r ≡ trailerOf f
+  pub low : 1 ≤ r .types
+  pub high : r .types ≤ 256
+  pub few : r .members ≤ 1024
+  pub long : length f ≡ r .start + (12 * r .types + 12 * r .members) + 10
+
+pub trailed : (f : List ℕ) (r : Trailer) → checkTrailer f ≡ good r → Trailed f r
+unfolding checkTrailer trailerLength lengthBy typeEntryLength memberEntryLength
+trailed f r e =
+    let s = trailerOf f in
+    let one = refuse-good 1 0 _ _ e in
+    let two = refuse-good 2 0 _ _ (one .1) in
+    let three = refuse-good 3 0 _ _ (two .1) in
+    let four = refuse-good 4 0 _ _ (three .1) in
+    let is : r ≡ s = cc (four .1) in
+    let types = between 1 256 (s .types) in
+    let members = between 0 1024 (s .members) in
+    let ranges = both-hold types members (not-false (types && members) (three .0)) in
+    let range = between-true 1 256 (s .types) (ranges .0) in
+    record {
+      is = is;
+      low = rw is (range .0);
+      high = rw is (range .1);
+      few = rw is (between-true 0 1024 (s .members) (ranges .1) .1);
+      long = rw is (eqb-true (length f) (lengthBy s) (not-false (eqb (length f) (lengthBy s)) (four .0)));
+    }
+
+-- The types of a file whose trailer is good.
+pub types-of : (f : List ℕ) (r : Trailer) → checkTrailer f ≡ good r → typesOf f ≡ typesBelow f (r .types)
+unfolding typesOf
+types-of f r e = then-is _ e
+
+-- Where the entries and the members lie.
+module _ {f : List ℕ} {r : Trailer} {start : ℕ} (t : Trailed f r) (at : start ≡ r .start) where
+  pub entry-is : {e : TypeEntry} (k : ℕ) → e ≡ typeEntryFrom f (start + 12 * k) → e ≡ typeEntryAt f k
+  unfolding typeEntryAt typeEntryLength
+  entry-is k h = rw (← t .is, ← at) h
+
+  pub base-is : {types : ℕ} → types ≡ r .types → start + 12 * types ≡ memberPlace f 0
+  unfolding memberPlace typeEntryLength memberEntryLength
+  base-is h = rw (← t .is, ← at, ← h) (omega arith)
+
+  pub members-are : {members : ℕ} → members ≡ r .members → members ≡ trailerOf f .members
+  members-are h = rw (← t .is) h
+
+-- ---- the kinds of an entry
+
+module _ (f : List ℕ) (ts : List Ty) (k : ℕ) {e : TypeEntry} (is : e ≡ typeEntryAt f k) where
+  pub entry-used : unused (e .zero3 ∷ e .zero6 ∷ []) ≡ false → Rule ≡ madeOf (typeOfEntry f ts k)
+  unfolding typeOfEntry when madeOf
+  entry-used h = rw (← is, h)
+
+  module _ (zeros : unused (e .zero3 ∷ e .zero6 ∷ []) ≡ true) where
+    pub entry-struct : e .kind ≡ 12 → madeOf (structMade f ts k e) ≡ madeOf (typeOfEntry f ts k)
+    unfolding typeOfEntry when typeMade
+    entry-struct h = rw (← is, zeros, h)
+
+    pub entry-plain : {r : ℕ} → r ≡ e .reference → (e .kind ≡ 12 → ⊥) → madeOf (plainMade (lower ts r) e) ≡ madeOf (typeOfEntry f ts k)
+    unfolding typeOfEntry when typeMade plainMade
+    entry-plain q h = rw (← is, zeros, q, ne-eqb (e .kind) 12 h)
+
+-- ---- an entry that is no struct
+
+pub plain-scalar : (below : Option Ty) (e : TypeEntry) → e .kind ≤ 6 → madeOf (scalarMade e) ≡ madeOf (plainMade below e)
+unfolding plainMade
+plain-scalar below e h = rw (le-leb (e .kind) 6 h)
+
+pub plain-over : (below : Option Ty) (e : TypeEntry) → 6 < e .kind → madeOf (overMade below e) ≡ madeOf (plainMade below e)
+unfolding plainMade
+plain-over below e h = rw (lt-leb (e .kind) 6 h)
+
+when-none : {A : Type 0} (test : Bool) → _≡_ {A = Option A} (when test none) none
+unfolding when
+when-none true = refl
+when-none false = refl
+
+-- Over a type that is not there nothing is made.
+pub over-missing : (e : TypeEntry) → overMade none e ≡ none
+unfolding overMade vectorMade matrixMade arrayMade runtimeMade atomicMade andThen
+over-missing e =
+    simp when-none (chosen (eqb (e .kind) 7) (eqb (e .kind) 8) (eqb (e .kind) 9) (eqb (e .kind) 10) (eqb (e .kind) 11))
+  where
+    chosen : (a b c d g : Bool) → _≡_ {A = Option Ty} (cond a none (cond b none (cond c none (cond d none (cond g none none))))) none
+    chosen true b c d g = refl
+    chosen false true c d g = refl
+    chosen false false true d g = refl
+    chosen false false false true g = refl
+    chosen false false false false true = refl
+    chosen false false false false false = refl
+
+pub plain-missing : (e : TypeEntry) → 6 < e .kind → Rule ≡ madeOf (plainMade none e)
+unfolding madeOf plainMade
+plain-missing e h = rw (lt-leb (e .kind) 6 h, over-missing e)
+
+-- ---- the verdict
+
+-- what the verdict on entry k says
+unfoldable pub says : ℕ → Made → Said Layout
+says k (Laid l) = good l
+says k Rule = refused 5 k
+says k Given = refused 6 k
+says k Large = refused 7 k
+
+steps : (k : ℕ) (t : Ty) (a b c : Bool) → valued (_>>_ (refuse 5 k (not a)) (_>>_ (refuse 6 k (not b)) (_>>_ (refuse 7 k (not c)) (good t)))) ≡ says k (cond a (cond b (cond c (Laid (valueOf t)) Large) Given) Rule)
+unfolding valued says _>>_ refuse
+steps k t true true true = refl
+steps k t true true false = refl
+steps k t true false c = refl
+steps k t false b c = refl
+
+-- "in it 5 before 6 before 7"
+judged-says : (f : List ℕ) (ts : List Ty) (k : ℕ) → valued (judged f ts k) ≡ says k (madeOf (typeOfEntry f ts k))
+unfolding judged _>>=_ orRefuse valued says madeOf verdictOn
+judged-says f ts k = go (typeOfEntry f ts k)
+  where
+    go : (o : Option Ty) → valued (_>>=_ (orRefuse 5 k o) (λ t. _>>_ (refuse 5 k (not (isAllowed t))) (_>>_ (refuse 6 k (not (givenFits t))) (_>>_ (refuse 7 k (not (fitsLimit t))) (good t))))) ≡ says k (madeOf o)
+    go (some t) = steps k t (isAllowed t) (givenFits t) (fitsLimit t)
+    go none = refl
+
+valued-refused : {number place : ℕ} (s : Said Ty) → valued s ≡ refused number place → s ≡ refused number place
+unfolding valued
+valued-refused (good t) e = good-not-refused refl e
+valued-refused (refused number place) e = cc
+
+valued-good : {l : Layout} (s : Said Ty) → valued s ≡ good l → (t : Ty) × (s ≡ good t) × (l ≡ valueOf t)
+unfolding valued
+valued-good (good t) e = (t, refl, cc)
+valued-good (refused number place) e = good-not-refused e refl
+
+-- ---- the entries up to a bad one
+
+-- A refusal stays.
+refused-next : {number place : ℕ} (f : List ℕ) (k : ℕ) → typesBelow f k ≡ refused number place → typesBelow f (suc k) ≡ refused number place
+unfolding typesBelow
+refused-next f k e = then-refused _ e
+
+refused-more : {number place : ℕ} (f : List ℕ) (k d : ℕ) → typesBelow f k ≡ refused number place → typesBelow f (k + d) ≡ refused number place
+refused-more f k zero e = rw (let z : k + 0 ≡ k = omega arith in z) e
+refused-more f k (suc d) e =
+    rw (let z : k + suc d ≡ suc (k + d) = omega arith in z) (refused-next f (k + d) (refused-more f k d e))
+
+module _ {ts : List Ty} {m : Made} (f : List ℕ) (k : ℕ) (below : typesBelow f k ≡ good ts) (made : m ≡ madeOf (typeOfEntry f ts k)) where
+  -- The types up to an entry that is refused.
+  pub entry-refused : {number place : ℕ} (n : ℕ) → says k m ≡ refused number place → k < n → typesBelow f n ≡ refused number place
+  unfolding typesBelow
+  entry-refused {number} {place} n e h =
+      let bad : judged f ts k ≡ refused number place =
+      valued-refused (judged f ts k) (judged-says f ts k ∙ ap (says k) (sym made) ∙ e) in
+      let next : typesBelow f (suc k) ≡ refused number place = then-is _ below ∙ then-refused _ bad in
+      let z : n ≡ suc k + (n - suc k) = omega arith in
+      rw z (refused-more f (suc k) (n - suc k) next)
+
+  -- The types up to an entry that has a layout.
+  pub entry-laid : (l : Layout) → m ≡ Laid l → (t : Ty) × (typesBelow f (suc k) ≡ good (ts ++ (t ∷ []))) × (l ≡ valueOf t)
+  unfolding typesBelow says
+  entry-laid l e =
+      let v = valued-good (judged f ts k) (judged-says f ts k ∙ ap (says k) (sym made ∙ e)) in
+      (v .0, then-is _ below ∙ then-is _ (v .1), v .2)

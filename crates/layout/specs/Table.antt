@@ -1,0 +1,51 @@
+-- What the table promises: the layouts of all entries of an accepted file, in the words of crates/wgsl.
+--
+-- In order: what the whole table says; an entry that is no struct; an entry's layout.
+-- Definitions only. Assumes nothing.
+use Prim.Native.Nat.{ℕ, _-_}
+use mathlib.Core.Path.{_≡_}
+use mathlib.Core.Bool.{Bool, false, true, cond}
+use mathlib.Core.List.{List, _++_, map}
+use mathlib.Core.Option.{Option, none, some}
+use lib.Dec.{leb}
+use lib.ListN.{length, take, getElem?, replicate}
+use Rattle.wgsl.specs.Types.{Ty, everywhere}
+use Rattle.wgsl.specs.Said.{Said, good, refused, _>>=_}
+use Rattle.wgsl.specs.File as wgsl
+use Rattle.wgsl.specs.File.{trailerOf, TypeEntry}
+use Rattle.wgsl.specs.Rule.{scalarMade, overMade, isWellFormed, typesOf}
+use Rattle.file.specs.Refusal.{numberOf, placeOf}
+use Rattle.file.specs.Fields.{trailerIs}
+use Rattle.kinds.specs.declared.value.Layout.{Layout}
+use Rattle.kinds.specs.Value.{valueOf, blankLayout}
+use Rattle.layout.specs.declared.table.Checked.{Checked}
+use Rattle.layout.specs.declared.table.Checked.the-variants.{Types, Refused}
+
+-- "A table of 256 layouts": those of the types, and blanks past them; blank where the file is refused
+unfoldable pub layoutsOf : Said (List Ty) → List Layout
+layoutsOf (good ts) = map valueOf ts ++ replicate (256 - length ts) blankLayout
+layoutsOf (refused number place) = replicate 256 blankLayout
+
+-- the trailer of an accepted file
+unfoldable pub acceptedTrailer : List ℕ → Said wgsl.Trailer
+acceptedTrailer f = do
+  ts ← typesOf f
+  good (trailerOf f)
+
+abbrev pub saidChecked : Checked → Said wgsl.Trailer
+saidChecked (Types t) = good (trailerIs t)
+saidChecked (Refused r) = refused (numberOf r) (placeOf r)
+
+-- the type that a reference leads to, if it is that of a lower entry, and its layout
+pub record Referred (l : Layout) (lower : Bool) (below : Option Ty) : Type 0 where
+  pub there : lower ≡ true → (t : Ty) × (below ≡ some t) × (l ≡ valueOf t) × (everywhere isWellFormed t ≡ true)
+  pub not-there : lower ≡ false → below ≡ none
+
+-- what an entry that is no struct makes
+unfoldable pub plainMade : Option Ty → TypeEntry → Option Ty
+plainMade below e = cond (leb (e .kind) 6) (scalarMade e) (overMade below e)
+
+-- an entry's layout, or the refusal
+unfoldable pub valued : Said Ty → Said Layout
+valued (good t) = good (valueOf t)
+valued (refused number place) = refused number place

@@ -1,0 +1,149 @@
+// The check and the four questions of document 01.
+use crate::table::Checked;
+use crate::table::layouts;
+use file::refusal::Refusal;
+use kinds::value::Layout;
+ghost use mathlib.Core.Path.{_≡_};
+ghost use Rattle.wgsl.specs.Types.{Ty};
+ghost use Rattle.wgsl.specs.Size.{present, minSizeOf};
+ghost use Rattle.wgsl.specs.Said.{orRefuse};
+ghost use Rattle.wgsl.specs.Call.{entryOf, checkOf, sizeCall, alignCall, minSizeCall, layoutCall};
+ghost use Rattle.kinds.specs.Value.{valueOf};
+ghost use Rattle.layout.specs.Table.{valued};
+ghost use Rattle.layout.specs.Answer.{marked, saidFound, saidNumber, maybeOf, saidAnswer};
+
+// A number, or a refusal.
+pub enum Number {
+    Is(u32),
+    Refused(Refusal),
+}
+
+// A number that may be absent.
+pub enum Maybe {
+    Absent,
+    Is(u32),
+}
+
+pub struct Sizes {
+    pub size: Maybe,
+    pub align: Maybe,
+    pub min: Maybe,
+}
+
+pub enum Answer {
+    Is(Sizes),
+    Refused(Refusal),
+}
+
+// What the table holds of an entry, or a refusal 1 to 8.
+pub enum Found {
+    Is(Layout),
+    Refused(Refusal),
+}
+
+// How many entries an accepted file has.
+// Refuses 1 to 7.
+pub fn check(file: &[u8]) -> Number
+    ensures { λ r. ⌜ saidNumber r ≡ checkOf (now (file .entry)) ⌝ }
+{
+    let t = layouts(file);
+    let answer = t.answer;
+    match answer {
+        Checked::Types(trailer) => Number::Is(trailer.types),
+        Checked::Refused(r) => Number::Refused(r),
+    }
+}
+
+// The layout of entry `entry`.
+fn find(file: &[u8], entry: u32) -> Found
+    ensures { λ r. ⌜ saidFound r ≡ valued (entryOf (now (file .entry)) entry) ⌝ }
+{
+    let t = layouts(file);
+    let answer = t.answer;
+    match answer {
+        Checked::Types(trailer) => {
+            if entry < trailer.types {
+                let at = entry as usize;
+                return Found::Is(t.layouts[at]);
+            }
+            Found::Refused(Refusal::Missing)
+        }
+        Checked::Refused(r) => Found::Refused(r),
+    }
+}
+
+// A number of a layout asked alone: 0 stands for an absent one.
+fn alone(n: u32) -> Number
+    ensures { λ r. ⌜ saidNumber r ≡ orRefuse 9 0 (marked n) ⌝ }
+{
+    if n == 0 {
+        return Number::Refused(Refusal::Absent);
+    }
+    Number::Is(n)
+}
+
+fn mark(n: u32) -> Maybe
+    ensures { λ r. ⌜ maybeOf r ≡ marked n ⌝ }
+{
+    if n == 0 {
+        return Maybe::Absent;
+    }
+    Maybe::Is(n)
+}
+
+fn least(l: Layout) -> u32
+    ensures { λ r. ⌜ ((t : Ty) → l ≡ valueOf t → r ≡ present (minSizeOf t)) ⌝ }
+{
+    if l.kind == 10 {
+        return l.stride;
+    }
+    l.size
+}
+
+// The size of an entry's type.
+// Refuses 1 to 7 (file), 8, 9 (it has none).
+pub fn size(file: &[u8], entry: u32) -> Number
+    ensures { λ r. ⌜ saidNumber r ≡ sizeCall (now (file .entry)) entry ⌝ }
+{
+    match find(file, entry) {
+        Found::Is(l) => alone(l.size),
+        Found::Refused(r) => Number::Refused(r),
+    }
+}
+
+// The alignment of an entry's type.
+// Refuses 1 to 7 (file), 8, 9 (it has none).
+pub fn align(file: &[u8], entry: u32) -> Number
+    ensures { λ r. ⌜ saidNumber r ≡ alignCall (now (file .entry)) entry ⌝ }
+{
+    match find(file, entry) {
+        Found::Is(l) => alone(l.align),
+        Found::Refused(r) => Number::Refused(r),
+    }
+}
+
+// The minimum size of an entry's type: of a runtime array one stride, of any other its size.
+// Refuses 1 to 7 (file), 8, 9 (it has none).
+pub fn min_size(file: &[u8], entry: u32) -> Number
+    ensures { λ r. ⌜ saidNumber r ≡ minSizeCall (now (file .entry)) entry ⌝ }
+{
+    match find(file, entry) {
+        Found::Is(l) => alone(least(l)),
+        Found::Refused(r) => Number::Refused(r),
+    }
+}
+
+// All three numbers of an entry's type, absent ones marked.
+// Refuses 1 to 7 (file), 8.
+pub fn layout(file: &[u8], entry: u32) -> Answer
+    ensures { λ r. ⌜ saidAnswer r ≡ layoutCall (now (file .entry)) entry ⌝ }
+{
+    match find(file, entry) {
+        Found::Is(l) => Answer::Is(Sizes {
+            size: mark(l.size),
+            align: mark(l.align),
+            min: mark(least(l)),
+        }),
+        Found::Refused(r) => Answer::Refused(r),
+    }
+}

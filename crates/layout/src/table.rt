@@ -1,0 +1,136 @@
+// The table of 256 layouts, worked out upward from entry 0.
+use file::fields::Entry;
+use file::fields::entry_at;
+use file::refusal::Refusal;
+use file::trailer::Trailer;
+use file::trailer::Trailered;
+use file::trailer::check_trailer;
+use file::trailer::wide;
+use kinds::over::over_entry;
+use kinds::scalars::scalar_entry;
+use kinds::scalars::zeros;
+use kinds::value::Layout;
+use kinds::value::Made;
+use structs::struct_entry;
+ghost use mathlib.Core.Path.{_≡_};
+ghost use mathlib.Core.Option.{Option};
+ghost use lib.ListN.{replicate};
+ghost use Rattle.wgsl.specs.Types.{Ty};
+ghost use Rattle.wgsl.specs.Said.{good};
+ghost use Rattle.wgsl.specs.File.{checkTrailer};
+ghost use Rattle.wgsl.specs.Rule.{typesOf};
+ghost use Rattle.file.specs.Fields.{trailerIs, entryIs};
+ghost use Rattle.kinds.specs.Value.{madeOf, blankLayout};
+ghost use Rattle.layout.specs.Table.{layoutsOf, acceptedTrailer, saidChecked, Referred, plainMade};
+
+pub enum Checked {
+    Types(Trailer),
+    Refused(Refusal),
+}
+
+// The layouts of a file's entries, or its refusal.
+pub struct Table {
+    pub answer: Checked,
+    pub layouts: [Layout; 256],
+}
+
+pub fn blank() -> Layout
+    ensures { λ r. ⌜ r ≡ blankLayout ⌝ }
+{
+    Layout {
+        kind: 0,
+        size: 0,
+        align: 0,
+        stride: 0,
+        offset: 0,
+        words: 0,
+        opens: false,
+        storable: false,
+    }
+}
+
+// An entry that is no struct, over the layout of the one that it refers to, if that is lower.
+fn plain_entry(e: Entry, l: Layout, lower: bool) -> Made
+    requires { ⌜ ((below : Option Ty) × Referred l lower below) ⌝ }
+    ensures { λ r. ⌜ ((below : Option Ty) → Referred l lower below → r ≡ madeOf (plainMade below (entryIs e))) ⌝ }
+{
+    let kind = e.kind;
+    if kind <= 6 {
+        return scalar_entry(e);
+    }
+    if !lower {
+        return Made::Rule;
+    }
+    over_entry(e, l)
+}
+
+// A table with a refusal holds no layout.
+fn refused(r: Refusal) -> Table
+    ensures answer { λ s. ⌜ s .answer ≡ Checked.Refused r ⌝ }
+    ensures layouts { λ s. ⌜ s .layouts ≡ replicate 256 blankLayout ⌝ }
+{
+    Table {
+        answer: Checked::Refused(r),
+        layouts: [blank(); 256],
+    }
+}
+
+// The layouts of the entries of a file whose trailer is good.
+fn fill(f: &[u8], t: Trailer) -> Table
+    requires { ⌜ checkTrailer (now f) ≡ good (trailerIs t) ⌝ }
+    ensures answer { λ r. ⌜ saidChecked (r .answer) ≡ acceptedTrailer (now (f .entry)) ⌝ }
+    ensures layouts { λ r. ⌜ r .layouts ≡ layoutsOf (typesOf (now (f .entry))) ⌝ }
+{
+    let types = wide(t.types);
+    let members = wide(t.members);
+    let start = wide(t.start);
+    let base = start + 12 * types;
+    let mut ls = [blank(); 256];
+    let mut k: usize = 0;
+    while k < types {
+        let e = entry_at(f, start + 12 * k);
+        let made = if !zeros(e.zero3, e.zero6, 0, 0) {
+            Made::Rule
+        } else if e.kind == 12 {
+            struct_entry(f, base, members, e, ls, k)
+        } else {
+            let r = wide(e.reference);
+            if r < k {
+                plain_entry(e, ls[r], true)
+            } else {
+                plain_entry(e, blank(), false)
+            }
+        };
+        match made {
+            Made::Laid(l) => {
+                ls[k] = l;
+            }
+            Made::Rule => {
+                return refused(Refusal::Rule(k));
+            }
+            Made::Given => {
+                return refused(Refusal::Given(k));
+            }
+            Made::Large => {
+                return refused(Refusal::Large(k));
+            }
+        }
+        k += 1;
+    }
+    Table {
+        answer: Checked::Types(t),
+        layouts: ls,
+    }
+}
+
+// The layouts of a file's entries, worked out before anything else is read or written, or the refusal.
+// Refuses 1 to 7.
+pub fn layouts(f: &[u8]) -> Table
+    ensures answer { λ r. ⌜ saidChecked (r .answer) ≡ acceptedTrailer (now (f .entry)) ⌝ }
+    ensures layouts { λ r. ⌜ r .layouts ≡ layoutsOf (typesOf (now (f .entry))) ⌝ }
+{
+    match check_trailer(f) {
+        Trailered::Good(t) => fill(f, t),
+        Trailered::Refused(r) => refused(r),
+    }
+}

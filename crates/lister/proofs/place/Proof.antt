@@ -1,0 +1,47 @@
+-- The three variants with a place give it; the numbers of the others are in the key of the last arm.
+use borrow.Author.Needs.{needs}
+use Prim.Native.Nat.{ℕ, _%_, _^_}
+use mathlib.Core.List.{List, [], _∷_}
+use mathlib.Core.Path.{_≡_, refl}
+use types.Run.{OneOf, miss}
+use denote.Enum.Declared.{tagOf}
+use Rattle.file.proofs.refusal.Refusal as refusal
+use Rattle.file.specs.Refusal.{placeOf}
+use Rattle.file.specs.declared.refusal.Refusal.{Refusal}
+use Rattle.file.specs.declared.refusal.Refusal.the-variants.{Short, Form, Counts, Length, Rule, Given, Large, Missing, Absent, NoRank}
+use Rattle.lister.proofs.place.Statement.{statement}
+use Rattle.lister.proofs.place.Tie as tie
+
+returns : tie.Need-returns
+returns c = rw (c .before .r .given .1)
+
+returns-2 : tie.Need-returns-2
+returns-2 c = rw (c .before .r2 .given .1)
+
+returns-3 : tie.Need-returns-3
+returns-3 c = rw (c .before .r3 .given .1)
+
+-- the numbers of the variants without a place
+abbrev keys : List ℕ
+keys = 0 ∷ 1 ∷ 2 ∷ 3 ∷ 7 ∷ 8 ∷ 9 ∷ []
+
+placeless : (r : Refusal) → OneOf keys (tagOf refusal.the-type r) → 0 ≡ placeOf r % 2 ^ 32
+placeless Short h = refl
+placeless Form h = refl
+placeless Counts h = refl
+placeless Length h = refl
+placeless (Rule k) h = absurd (miss keys 4 tt h)
+placeless (Given k) h = absurd (miss keys 5 tt h)
+placeless (Large k) h = absurd (miss keys 6 tt h)
+placeless Missing h = refl
+placeless Absent h = refl
+placeless NoRank h = refl
+
+returns-4 : tie.Need-returns-4
+returns-4 c = placeless (c .before .args .r) (c .match .keys4)
+
+pub place-spec : {M : Type 1} → statement M
+place-spec =
+    tie.close (tie.spec
+    (λ c. search needs) (λ c. search needs) (λ c. search needs) (λ c. search needs) (λ c. search needs)
+    (λ c. search needs) returns returns-2 returns-3 returns-4)

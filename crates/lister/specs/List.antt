@@ -1,0 +1,19 @@
+-- The layouts of an accepted file's entries, as the table holds them.
+-- Definitions only. Assumes nothing.
+use Prim.Native.Nat.{ℕ, _≤_}
+use mathlib.Core.Path.{_≡_}
+use mathlib.Core.Bool.{true}
+use mathlib.Core.List.{List}
+use mathlib.Core.Option.{some}
+use lib.ListN.{length, getElem?}
+use Rattle.wgsl.specs.Types.{Ty, everywhere}
+use Rattle.wgsl.specs.Said.{good}
+use Rattle.wgsl.specs.Rule.{isWellFormed}
+use Rattle.kinds.specs.declared.value.Layout.{Layout}
+use Rattle.layout.specs.Table.{layoutsOf}
+
+pub record Entries (ls : List Layout) (types : ℕ) (ts : List Ty) : Type 0 where
+  pub layouts : ls ≡ layoutsOf (good ts)
+  pub count : types ≡ length ts
+  pub few : types ≤ 256
+  pub well-formed : (k : ℕ) (t : Ty) → getElem? ts k ≡ some t → everywhere isWellFormed t ≡ true

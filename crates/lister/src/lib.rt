@@ -1,0 +1,93 @@
+// The listing of a layout file: its text, and the program around it.
+use file::refusal::Refusal;
+use kinds::value::Layout;
+use layout::table::Checked;
+use layout::table::layouts;
+use libc::STDIN_FILENO;
+use libc::STDOUT_FILENO;
+use text::put_heading;
+use text::put_line;
+use text::put_refused;
+ghost use mathlib.Core.Path.{_≡_};
+ghost use mathlib.Core.List.{List, _++_};
+ghost use Prim.Native.Nat.{_%_, _^_, _≤_};
+ghost use lib.ListN.{length};
+ghost use Rattle.wgsl.specs.Types.{Ty};
+ghost use Rattle.wgsl.specs.Said.{good};
+ghost use Rattle.wgsl.specs.Listing.{entryLines, listed, listingOf};
+ghost use Rattle.file.specs.Refusal.{numberOf, placeOf};
+ghost use Rattle.text.specs.Put.{Put};
+ghost use Rattle.lister.specs.List.{Entries};
+
+fn number(r: Refusal) -> u32
+    ensures { λ n. ⌜ n ≡ numberOf r ⌝ }
+{
+    match r {
+        Refusal::Short => 1,
+        Refusal::Form => 2,
+        Refusal::Counts => 3,
+        Refusal::Length => 4,
+        Refusal::Rule(_) => 5,
+        Refusal::Given(_) => 6,
+        Refusal::Large(_) => 7,
+        Refusal::Missing => 8,
+        Refusal::Absent => 9,
+        Refusal::NoRank => 18,
+    }
+}
+
+// The lowest 32 bits of a place; a listing's places are entries, below 256.
+fn place(r: Refusal) -> u32
+    ensures { λ n. ⌜ n ≡ placeOf r % 2 ^ 32 ⌝ }
+{
+    match r {
+        Refusal::Rule(k) => (k % 0x1_0000_0000) as u32,
+        Refusal::Given(k) => (k % 0x1_0000_0000) as u32,
+        Refusal::Large(k) => (k % 0x1_0000_0000) as u32,
+        _ => 0,
+    }
+}
+
+// Puts the lines of an accepted file's entries.
+fn put_entries(out: &mut [u8], ls: [Layout; 256], types: u32) -> usize
+    requires room { ⌜ 8467 ≤ length (now out) ⌝ }
+    requires entries { ⌜ ((ts : List Ty) × Entries ls types ts) ⌝ }
+    ensures { λ r. ⌜ ((ts : List Ty) → Entries ls types ts → Put (now (out .entry)) 0 (listed (good ts)) r (now (out .exit))) ⌝ }
+{
+    let mut at = put_heading(out, 0, types);
+    let mut k: u32 = 0;
+    while k < types {
+        let l = ls[k as usize];
+        at = put_line(out, at, k, l.size, l.align);
+        k += 1;
+    }
+    at
+}
+
+// Puts the listing of a file at the front of `out` and answers how long it is; later bytes stay.
+pub fn list(file: &[u8], out: &mut [u8]) -> usize
+    requires { ⌜ 8467 ≤ length (now out) ⌝ }
+    ensures { λ r. ⌜ Put (now (out .entry)) 0 (listingOf (now (file .entry))) r (now (out .exit)) ⌝ }
+{
+    if 65536 < file.len() {
+        return put_refused(out, 0, 17, 0);
+    }
+    let t = layouts(file);
+    let answer = t.answer;
+    match answer {
+        Checked::Types(trailer) => {
+            let ls = t.layouts;
+            put_entries(out, ls, trailer.types)
+        }
+        Checked::Refused(r) => put_refused(out, 0, number(r), place(r)),
+    }
+}
+
+// Reads standard input, at most one byte more than is listed, and writes its listing.
+pub fn run() {
+    let mut file = [0u8; 65537];
+    let n = io::read_full(STDIN_FILENO, &mut file);
+    let mut out = [0u8; 8467];
+    let m = list(&file[..n], &mut out);
+    io::write_all(STDOUT_FILENO, &out[..m]);
+}

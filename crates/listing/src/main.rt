@@ -1,0 +1,4 @@
+// Lists the layout file on standard input (document 01, "The program reads").
+fn main() {
+    lister::run();
+}

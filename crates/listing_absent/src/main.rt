@@ -1,0 +1,4 @@
+// The listing of examples/listing_absent.txt: absent numbers.
+fn main() {
+    lister::run();
+}

@@ -1,0 +1,11 @@
+pub mod Afters
+pub mod Goings
+pub mod Runs
+pub mod Joinings
+pub mod Steps
+pub mod Numbers
+pub mod Wholes
+pub mod Froms
+pub mod Allowed
+pub mod Turns
+pub mod Structs

@@ -1,0 +1,32 @@
+-- Each verdict on the members is one law of `Wholes`.
+use mathlib.Core.Path.{_≡_, sym, subst}
+use borrow.Author.Needs.{needs}
+use Rattle.wgsl.specs.Types.{Members}
+use Rattle.structs.specs.declared.Run.{Run}
+use Rattle.structs.specs.Run.{Closes}
+use Rattle.structs.proofs.Wholes.{closes-placed, closes-unfit, closes-past}
+use Rattle.structs.proofs.finish.Statement.{statement}
+use Rattle.structs.proofs.finish.Tie as tie
+
+-- the run is the one that the arm names
+is : {r s : Run} (ms : Members) → r ≡ s → Closes r ms → Closes s ms
+is ms e c = subst (λ (x : Run). Closes x ms) e c
+
+whole-requires : tie.Need-whole-requires
+whole-requires c κs =
+    let a = c .before .before .before in
+    (a .pre .0, closes-placed _ (a .pre .0) (is (a .pre .0) (c .before .run .given .1) (a .pre .1)))
+
+returns : tie.Need-returns
+returns c k ms e = c .whole .ensures k ms (closes-placed _ ms (is ms (c .before .before .run .given .1) e))
+
+returns-2 : tie.Need-returns-2
+returns-2 c k ms e = sym (closes-unfit k ms (is ms (c .enum-told .given .1) e))
+
+returns-3 : tie.Need-returns-3
+returns-3 c k ms e = sym (closes-past k ms (is ms (c .enum-told2 .given .1) e))
+
+pub finish-spec : {M : Type 1} → statement M
+finish-spec =
+    tie.close (tie.spec
+    (λ c. search needs) whole-requires (λ c. search needs) (λ c. search needs) returns returns-2 returns-3)

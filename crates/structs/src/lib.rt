@@ -1,0 +1,242 @@
+// A struct: its members one after the other.
+use file::fields::Entry;
+use file::fields::Member;
+use file::fields::member_at;
+use file::trailer::wide;
+use kinds::scalars::zeros;
+use kinds::value::Layout;
+use kinds::value::Made;
+use members::align_fits;
+use members::align_given;
+use members::is_allowed;
+use members::rest_is_zero;
+use members::size_fits;
+use members::size_given;
+use numbers::limit::Limited;
+use numbers::limit::round_up;
+use numbers::limit::sum;
+ghost use mathlib.Core.Path.{_≡_};
+ghost use mathlib.Core.Bool.{Bool, cond, _&&_};
+ghost use mathlib.Core.List.{List};
+ghost use mathlib.Core.Option.{some};
+ghost use Prim.Native.Nat.{ℕ, _+_, _*_, _≤_, max};
+ghost use lib.ListN.{length};
+ghost use Rattle.wgsl.specs.Types.{Ty, Members, struct};
+ghost use Rattle.wgsl.specs.File.{trailerOf};
+ghost use Rattle.wgsl.specs.Rule.{andThen, membersFrom, structMade};
+ghost use Rattle.file.specs.Fields.{entryIs, memberIs};
+ghost use Rattle.kinds.specs.Value.{verdictOn, madeOf};
+ghost use Rattle.structs.specs.Run.{runOf, followed, Joins, Meets, steppedTo, Ended, Closes, memberPlace, Lower};
+
+// Where the members so far end, and what they hold.
+pub struct Ends {
+    // 0 past a runtime array, which has no end
+    pub end: u32,
+    pub align: u32,
+    // of the runtime array, if that was the last
+    pub stride: u32,
+    pub offset: u32,
+    pub words: u32,
+    pub opens: bool,
+    pub storable: bool,
+}
+
+// What the members so far come to: "5 before 6 before 7".
+pub enum Run {
+    Placed(Ends),
+    Unfit,
+    TooLarge,
+}
+
+pub enum Stepped {
+    Next(Run),
+    Rule,
+}
+
+fn larger(a: u32, b: u32) -> u32
+    ensures { λ r. ⌜ r ≡ max a b ⌝ }
+{
+    if a < b { b } else { a }
+}
+
+// What is given, or else the type's own.
+fn chosen(given: bool, a: u32, own: u32) -> u32
+    ensures { λ r. ⌜ r ≡ cond given a own ⌝ }
+{
+    if given { a } else { own }
+}
+
+fn both(a: bool, b: bool) -> bool
+    ensures { λ r. ⌜ r ≡ (a && b) ⌝ }
+{
+    if a { b } else { false }
+}
+
+// One more member, whose size and align fit, after those that end as `p` says.
+fn place(p: Ends, l: Layout, m: Member) -> Run
+    requires { ⌜ ((ms : Members) × (t : Ty) × Joins p l (memberIs m) ms t) ⌝ }
+    ensures { λ r. ⌜ ((ms : Members) (t : Ty) → Joins p l (memberIs m) ms t → r ≡ runOf (followed ms t (memberIs m))) ⌝ }
+{
+    let align = chosen(align_given(m), m.align, l.align);
+    let size = chosen(size_given(m), m.size, l.size);
+    let Limited::Is(start) = round_up(align, p.end) else {
+        return Run::TooLarge;
+    };
+    let most = larger(p.align, align);
+    let storable = both(p.storable, l.storable);
+    if l.opens {
+        return Run::Placed(Ends {
+            end: 0,
+            align: most,
+            stride: l.stride,
+            offset: start,
+            words: p.words,
+            opens: true,
+            storable,
+        });
+    }
+    let Limited::Is(end) = sum(start, size) else {
+        return Run::TooLarge;
+    };
+    Run::Placed(Ends {
+        end,
+        align: most,
+        stride: 0,
+        offset: 0,
+        words: p.words + l.words,
+        opens: false,
+        storable,
+    })
+}
+
+// One more member.
+fn step(run: Run, l: Layout, m: Member, last: bool) -> Stepped
+    requires { ⌜ ((ms : Members) × (t : Ty) × Meets run l ms t) ⌝ }
+    ensures { λ r. ⌜ ((ms : Members) (t : Ty) → Meets run l ms t → r ≡ steppedTo last ms t (memberIs m)) ⌝ }
+{
+    if !rest_is_zero(m) {
+        return Stepped::Rule;
+    }
+    if !is_allowed(l, last) {
+        return Stepped::Rule;
+    }
+    if !size_fits(m, l) {
+        return Stepped::Next(Run::Unfit);
+    }
+    if !align_fits(m, l) {
+        return Stepped::Next(Run::Unfit);
+    }
+    match run {
+        Run::Placed(p) => Stepped::Next(place(p, l, m)),
+        Run::Unfit => Stepped::Next(Run::Unfit),
+        Run::TooLarge => Stepped::Next(Run::TooLarge),
+    }
+}
+
+// The struct whose members end as `p` says.
+fn whole(p: Ends) -> Made
+    requires { ⌜ ((ms : Members) × Ended p ms) ⌝ }
+    ensures { λ r. ⌜ ((k : ℕ) (ms : Members) → Ended p ms → r ≡ verdictOn (struct k ms)) ⌝ }
+{
+    if p.opens {
+        return Made::Laid(Layout {
+            kind: 12,
+            size: 0,
+            align: p.align,
+            stride: p.stride,
+            offset: p.offset,
+            words: p.words,
+            opens: true,
+            storable: p.storable,
+        });
+    }
+    let Limited::Is(size) = round_up(p.align, p.end) else {
+        return Made::Large;
+    };
+    Made::Laid(Layout {
+        kind: 12,
+        size,
+        align: p.align,
+        stride: 0,
+        offset: 0,
+        words: p.words,
+        opens: false,
+        storable: p.storable,
+    })
+}
+
+// Past the last member.
+fn finish(run: Run) -> Made
+    requires { ⌜ ((ms : Members) × Closes run ms) ⌝ }
+    ensures { λ r. ⌜ ((k : ℕ) (ms : Members) → Closes run ms → r ≡ verdictOn (struct k ms)) ⌝ }
+{
+    match run {
+        Run::Placed(p) => whole(p),
+        Run::Unfit => Made::Given,
+        Run::TooLarge => Made::Large,
+    }
+}
+
+// The members of a struct, `count` of them from byte `at` on, over the layouts of the `k` lower entries.
+fn run_members(f: &[u8], at: usize, ls: [Layout; 256], k: usize, count: usize) -> Made
+    requires inside { ⌜ (at + 12 * count ≤ length (now f)) × (1 ≤ count) × (count ≤ 1024) ⌝ }
+    requires lower { ⌜ ((ts : List Ty) × Lower ls k ts) ⌝ }
+    ensures { λ r. ⌜ ((ts : List Ty) (first : ℕ) → Lower ls k ts → at ≡ memberPlace (now (f .entry)) first → r ≡ madeOf (andThen (membersFrom (now (f .entry)) ts count first) (λ ms. some (struct k ms)))) ⌝ }
+{
+    let mut run = Run::Placed(Ends {
+        end: 0,
+        align: 1,
+        stride: 0,
+        offset: 0,
+        words: 0,
+        opens: false,
+        storable: true,
+    });
+    let mut i: usize = 0;
+    while i < count {
+        let m = member_at(f, at + 12 * i);
+        let ty = wide(m.ty);
+        if k <= ty {
+            return Made::Rule;
+        }
+        let l = ls[ty];
+        let s = step(run, l, m, i + 1 == count);
+        match s {
+            Stepped::Next(r) => {
+                run = r;
+            }
+            Stepped::Rule => {
+                return Made::Rule;
+            }
+        }
+        i += 1;
+    }
+    finish(run)
+}
+
+// "12 struct: reference = first member, count = members, 1 to 1,024, all within M"
+pub fn struct_entry(
+    f: &[u8],
+    base: usize,
+    members: usize,
+    e: Entry,
+    ls: [Layout; 256],
+    k: usize,
+) -> Made
+    requires inside { ⌜ (base + 12 * members ≤ length (now f)) × (members ≤ 1024) ⌝ }
+    requires lower { ⌜ ((ts : List Ty) × Lower ls k ts) ⌝ }
+    ensures { λ r. ⌜ ((ts : List Ty) → Lower ls k ts → base ≡ memberPlace (now (f .entry)) 0 → members ≡ trailerOf (now (f .entry)) .members → r ≡ madeOf (structMade (now (f .entry)) ts k (entryIs e))) ⌝ }
+{
+    if !zeros(e.columns, e.rows, 0, 0) {
+        return Made::Rule;
+    }
+    let first = wide(e.reference);
+    let count = wide(e.count);
+    if count < 1 {
+        return Made::Rule;
+    }
+    if members < first + count {
+        return Made::Rule;
+    }
+    run_members(f, base + 12 * first, ls, k, count)
+}
