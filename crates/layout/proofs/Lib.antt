@@ -1,3 +1,4 @@
 pub mod Judging
 pub mod Fills
 pub mod Asks
+pub mod Single

@@ -1,1 +1,2 @@
-pub mod Entries
+pub mod Lengths
+pub mod Listings

@@ -1,7 +1,7 @@
--- Each answer is a law of `Entries`, over what `layouts` ensures of its answer and its table.
+-- Each answer is a law of `Listings`, over what `layouts` ensures of its answer and its table.
 use borrow.Author.Needs.{needs}
 use denote.Ref.{now}
-use Rattle.lister.proofs.Entries.{listing-long, listing-types, listing-refused}
+use Rattle.lister.proofs.Listings.{listing-long, listing-types, listing-refused}
 use Rattle.lister.proofs.list.Statement.{statement}
 use Rattle.lister.proofs.list.Tie as tie
 

@@ -1,8 +1,8 @@
--- The invariant is `Going` (proofs/Entries): the lines that are left, put from here, give what all lines give from the start.
+-- The invariant is `Going` (proofs/Listings): the lines that are left, put from here, give what all give from the start.
 use Prim.Native.Nat.{_-_}
 use borrow.Author.Needs.{needs}
 use Rattle.kinds.specs.Value.{blankLayout}
-use Rattle.lister.proofs.Entries.{Going, going-none, going-more, going-all}
+use Rattle.lister.proofs.Listings.{Going, going-none, going-more, going-all}
 use Rattle.lister.proofs.put_entries.Statement.{statement}
 use Rattle.lister.proofs.put_entries.Tie as tie
 

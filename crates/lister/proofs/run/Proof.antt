@@ -2,7 +2,7 @@
 use borrow.Author.Needs.{needs}
 use mathlib.Core.Path.{sym}
 use lib.Seq.{length-take-le}
-use Rattle.lister.proofs.Entries.{listing-inside}
+use Rattle.lister.proofs.Lengths.{listing-inside}
 use Rattle.lister.proofs.run.Statement.{statement}
 use Rattle.lister.proofs.run.Tie as tie
 

@@ -1,10 +1,10 @@
--- The lines of a listing's entries and of its refusals (crates/wgsl, specs/Listing), as the table tells them.
+-- The listing (crates/wgsl, specs/Listing) as the table tells it.
 --
--- In order: how long lines are; how long a listing is; the line of a layout; the layouts of the entries; the turns of the loop that
--- puts their lines; what the table's answer tells of the listing.
+-- In order: the line of a layout; the layouts of the entries; the turns of the loop that puts their lines; what the table's answer
+-- tells.
 -- Assumes nothing.
 use Prim.Native.Nat.{ℕ, zero, suc, _+_, _-_, _*_, _%_, _^_, _<_, _≤_}
-use mathlib.Core.Bool.{Bool, true, false, cond}
+use mathlib.Core.Bool.{true}
 use mathlib.Core.List.{List, [], _∷_, _++_, map}
 use mathlib.Core.Option.{Option, none, some}
 use mathlib.Core.Path.{_≡_, refl, sym, ap, _∙_}
@@ -12,16 +12,15 @@ use native.Mathlib.Nat.{add-zero}
 use native.Mathlib.Numerals.{add-one}
 use native.Mathlib.Omega.{arith}
 use borrow.Author.Tests.{lt-ltb, le-ltb}
-use lib.Dec.{ltb}
-use lib.ListN.{length, getD, drop, getElem?, replicate, length-append}
+use lib.ListN.{length, getD, drop, getElem?, replicate}
 use lib.Seq.{drop-length}
 use Rattle.wgsl.specs.Types.{Ty, everywhere}
 use Rattle.wgsl.specs.Size.{present, sizeOf, alignOf}
 use Rattle.wgsl.specs.Said.{Said, good, refused}
-use Rattle.wgsl.specs.File.{between, checkTrailer}
+use Rattle.wgsl.specs.File.{checkTrailer}
 use Rattle.wgsl.specs.Rule.{isWellFormed, typesOf}
 use Rattle.wgsl.specs.Call.{checkOf}
-use Rattle.wgsl.specs.Listing.{entriesText, refusedText, atText, space, newline, dash, decimal, orDash, entryLine, entryLines, refusedLine, listed, inputLimit, listingOf}
+use Rattle.wgsl.specs.Listing.{orDash, entryLine, entryLines, refusedLine, listed, inputLimit, listingOf}
 use Rattle.wgsl.proofs.Said.{good-not-refused, then-good, then-cases, refuse-cases}
 use Rattle.wgsl.proofs.Accepted.{accepted, accepted-well-formed, below-lowest}
 use Rattle.wgsl.proofs.Entry.{size-positive, align-positive}
@@ -36,68 +35,10 @@ use Rattle.layout.specs.declared.table.Checked.the-variants.{Types, Refused}
 use Rattle.layout.proofs.Judging.{trailed}
 use Rattle.layout.proofs.Asks.{check-types, check-refused}
 use Rattle.text.specs.Put.{Put, marked, line, heading}
-use Rattle.text.proofs.Decimals.{decimal-length}
-use Rattle.text.proofs.Lines.{marked-absent, marked-number, marked-length}
+use Rattle.text.proofs.Lines.{marked-absent, marked-number}
 use Rattle.text.proofs.Puts.{put-then, put-length}
 use Rattle.lister.specs.List.{Entries}
-
--- ---- how long lines are
-
-orDash-length : (o : Option ℕ) → length (orDash o) ≤ 10
-unfolding orDash dash
-orDash-length none = omega arith
-orDash-length (some n) = decimal-length n
-
--- a number and two texts of at most ten signs
-parted-length : (k : ℕ) (x y : List ℕ) → length x ≤ 10 → length y ≤ 10 → length (decimal k ++ space ++ x ++ space ++ y ++ newline) ≤ 33
-unfolding space newline
-parted-length k x y p q = simp length-append (omega (arith, decimal-length k))
-
-line-length : (k size align : ℕ) → length (line k size align) ≤ 33
-unfolding line
-line-length k size align = parted-length k (marked size) (marked align) (marked-length size) (marked-length align)
-
-heading-length : (types : ℕ) → length (heading types) ≤ 19
-unfolding heading entriesText newline
-heading-length types = simp length-append (omega (arith, decimal-length types))
-
-entryLines-length : (k : ℕ) (ts : List Ty) → length (entryLines k ts) ≤ 33 * length ts
-unfolding entryLines entryLine
-entryLines-length k [] = omega arith
-entryLines-length k (t ∷ ts) =
-    let l = parted-length k (orDash (sizeOf t)) (orDash (alignOf t)) (orDash-length (sizeOf t)) (orDash-length (alignOf t)) in
-    rw (length-append (entryLine k t) (entryLines (suc k) ts)) (omega (arith, entryLines-length (suc k) ts))
-
-refusedLine-length : (number place : ℕ) → length (refusedLine number place) ≤ 33
-unfolding refusedLine refusedText atText newline
-refusedLine-length number place =
-    simp length-append (omega (arith, decimal-length number, told (between 5 7 number)))
-  where
-    told : (b : Bool) → length (cond b (atText ++ decimal place) []) ≤ 14
-    told true = simp length-append (omega (arith, decimal-length place))
-    told false = omega arith
-
--- ---- how long a listing is
-
-listed-length : (f : List ℕ) (s : Said (List Ty)) → typesOf f ≡ s → length (listed s) ≤ 8467
-unfolding listed heading
-listed-length f (good ts) e =
-    let x = accepted f ts e in
-    rw (length-append (heading (length ts)) (entryLines 0 ts))
-    (omega (arith, heading-length (length ts), entryLines-length 0 ts))
-listed-length f (refused number place) e = omega (arith, refusedLine-length number place)
-
-listing-length : (f : List ℕ) → length (listingOf f) ≤ 8467
-unfolding listingOf
-listing-length f = go (ltb inputLimit (length f))
-  where
-    go : (b : Bool) → length (cond b (refusedLine 17 0) (listed (typesOf f))) ≤ 8467
-    go true = omega (arith, refusedLine-length 17 0)
-    go false = listed-length f (typesOf f) refl
-
--- It ends inside a buffer that has room for the longest.
-pub listing-inside : {b after : List ℕ} {r : ℕ} (f : List ℕ) → 8467 ≤ length b → Put b 0 (listingOf f) r after → r ≤ length after
-listing-inside f h p = omega (arith, p .next, listing-length f, put-length p)
+use Rattle.lister.proofs.Lengths.{line-length, heading-length}
 
 -- ---- the line of a layout
 
@@ -118,19 +59,11 @@ line-is k l t e w =
 
 -- ---- the layouts of the entries
 
--- entry k is the first of those that are left, and its layout stands in the table
-record Next (ts : List Ty) (ls : List Layout) (k : ℕ) (d : Layout) : Type 0 where
-  type : Ty
-  there : getElem? ts k ≡ some type
-  first : drop k ts ≡ type ∷ drop (suc k) ts
-  is : getD ls k d ≡ valueOf type
-
-next : (ts : List Ty) (rest : List Layout) (k : ℕ) (d : Layout) → k < length ts → Next ts (map valueOf ts ++ rest) k d
+-- Entry k is the first of those that are left, and its layout stands in the table.
+next : (ts : List Ty) (rest : List Layout) (k : ℕ) (d : Layout) → k < length ts → (t : Ty) × (getElem? ts k ≡ some t) × (drop k ts ≡ t ∷ drop (suc k) ts) × (getD (map valueOf ts ++ rest) k d ≡ valueOf t)
 next [] rest k d h = absurd (omega arith)
-next (t ∷ ts) rest zero d h = record { type = t; there = refl; first = refl; is = refl }
-next (t ∷ ts) rest (suc k) d h =
-    let x = next ts rest k d (omega arith) in
-    record { type = x .type; there = x .there; first = x .first; is = x .is }
+next (t ∷ ts) rest zero d h = (t, refl, refl, refl)
+next (t ∷ ts) rest (suc k) d h = next ts rest k d (omega arith)
 
 -- The lines that are left begin with that of entry k.
 lines-next : {ls : List Layout} {types : ℕ} {ts : List Ty} (k : ℕ) (d : Layout) → Entries ls types ts → k < types → line k (getD ls k d .size) (getD ls k d .align) ++ entryLines (suc k) (drop (suc k) ts) ≡ entryLines k (drop k ts)
@@ -138,8 +71,8 @@ unfolding layoutsOf entryLines
 lines-next {ls} {types} {ts} k d e h =
     let low : k < length ts = omega (arith, e .count) in
     let x = next ts (replicate (256 - length ts) blankLayout) k d low in
-    let is : getD ls k d ≡ valueOf (x .type) = rw (e .layouts) (x .is) in
-    rw (x .first, line-is k (getD ls k d) (x .type) is (e .well-formed k (x .type) (x .there)))
+    let is : getD ls k d ≡ valueOf (x .0) = rw (e .layouts) (x .3) in
+    rw (x .2, line-is k (getD ls k d) (x .0) is (e .well-formed k (x .0) (x .1)))
 
 -- ---- the turns of the loop: what is left to put, from here, gives what all lines give from the start
 
@@ -181,7 +114,7 @@ module _ {ls : List Layout} {types at₀ at k : ℕ} {out₀ out : List ℕ} (g 
       rw (n, drop-length ts) (record { next = sym (add-zero at); bytes = refl }) in
       rw (← e .count) (put-then p (g .left ts e at out none-left))
 
--- ---- what the table's answer tells of the listing
+-- ---- what the table's answer tells
 
 pub listing-long : (f : List ℕ) → 65_536 < length f → listingOf f ≡ refusedLine 17 0
 unfolding listingOf inputLimit

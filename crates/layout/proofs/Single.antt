@@ -1,0 +1,100 @@
+-- No slack: what an answer says, number and place included, tells which answer it is. So two answers that a claim allows are the same.
+--
+-- In order: anything that tells itself; refusals; a number or a refusal; the three numbers of an entry; the table.
+-- Assumes nothing.
+use Prim.Native.Nat.{ℕ}
+use mathlib.Core.List.{List, [], _∷_}
+use mathlib.Core.Option.{Option, none, some}
+use mathlib.Core.Path.{_≡_, refl, sym, ap, _∙_}
+use lib.ListN.{getD}
+use Rattle.wgsl.specs.Said.{Said, good, refused}
+use Rattle.wgsl.specs.File as wgsl
+use Rattle.wgsl.specs.Call as call
+use Rattle.file.specs.Refusal.{numberOf, placeOf}
+use Rattle.file.specs.declared.refusal.Refusal.{Refusal}
+use Rattle.file.specs.declared.refusal.Refusal.the-variants.{Short, Form, Counts, Length, Rule, Given, Large, Missing, Absent, NoRank}
+use Rattle.file.specs.declared.trailer.Trailer.{Trailer}
+use Rattle.layout.specs.Table.{saidChecked}
+use Rattle.layout.specs.Answer.{saidNumber, maybeOf, saidAnswer}
+use Rattle.layout.specs.declared.ask.Number.{Number}
+use Rattle.layout.specs.declared.ask.Maybe.{Maybe}
+use Rattle.layout.specs.declared.ask.Sizes.{Sizes}
+use Rattle.layout.specs.declared.ask.Answer.{Answer}
+use Rattle.layout.specs.declared.table.Checked.{Checked}
+
+-- ---- anything that tells itself
+
+single : {A B : Type 0} (says : A → B) (from : B → A) → ((a : A) → from (says a) ≡ a) → {said : B} (a b : A) → says a ≡ said → says b ≡ said → a ≡ b
+single says from told a b p q = sym (told a) ∙ ap from (p ∙ sym q) ∙ told b
+
+-- ---- refusals
+
+unfoldable refusalFrom : ℕ → ℕ → Refusal
+refusalFrom place number =
+    getD
+    (Short ∷ Short ∷ Form ∷ Counts ∷ Length ∷ Rule place ∷ Given place ∷ Large place ∷ Missing ∷ Absent ∷ [])
+    number
+    NoRank
+
+refusal-told : (r : Refusal) → refusalFrom (placeOf r) (numberOf r) ≡ r
+unfolding refusalFrom
+refusal-told Short = refl
+refusal-told Form = refl
+refusal-told Counts = refl
+refusal-told Length = refl
+refusal-told (Rule entry) = refl
+refusal-told (Given entry) = refl
+refusal-told (Large entry) = refl
+refusal-told Missing = refl
+refusal-told Absent = refl
+refusal-told NoRank = refl
+
+-- ---- a number or a refusal
+
+abbrev numberFrom : Said ℕ → Number
+numberFrom (good n) = Number.Is n
+numberFrom (refused number place) = Number.Refused (refusalFrom place number)
+
+number-told : (a : Number) → numberFrom (saidNumber a) ≡ a
+number-told (Number.Is n) = refl
+number-told (Number.Refused r) = ap Number.Refused (refusal-told r)
+
+-- Two numbers that a claim of check, size, align, min_size, rank or common allows are the same.
+pub single-number : {said : Said ℕ} (a b : Number) → saidNumber a ≡ said → saidNumber b ≡ said → a ≡ b
+single-number = single saidNumber numberFrom number-told
+
+-- ---- the three numbers of an entry
+
+abbrev maybeFrom : Option ℕ → Maybe
+maybeFrom none = Maybe.Absent
+maybeFrom (some n) = Maybe.Is n
+
+maybe-told : (m : Maybe) → maybeFrom (maybeOf m) ≡ m
+maybe-told Maybe.Absent = refl
+maybe-told (Maybe.Is n) = refl
+
+abbrev answerFrom : Said call.Layout → Answer
+answerFrom (good l) = Answer.Is (record { size = maybeFrom (l .size); align = maybeFrom (l .align); min = maybeFrom (l .minSize) })
+answerFrom (refused number place) = Answer.Refused (refusalFrom place number)
+
+answer-told : (a : Answer) → answerFrom (saidAnswer a) ≡ a
+answer-told (Answer.Is s) = rw (maybe-told (s .size), maybe-told (s .align), maybe-told (s .min))
+answer-told (Answer.Refused r) = ap Answer.Refused (refusal-told r)
+
+-- Two answers that the claim of layout allows are the same.
+pub single-answer : {said : Said call.Layout} (a b : Answer) → saidAnswer a ≡ said → saidAnswer b ≡ said → a ≡ b
+single-answer = single saidAnswer answerFrom answer-told
+
+-- ---- the table
+
+abbrev checkedFrom : Said wgsl.Trailer → Checked
+checkedFrom (good t) = Checked.Types (record { types = t .types; members = t .members; start = t .start; form = t .form })
+checkedFrom (refused number place) = Checked.Refused (refusalFrom place number)
+
+checked-told : (a : Checked) → checkedFrom (saidChecked a) ≡ a
+checked-told (Checked.Types t) = refl
+checked-told (Checked.Refused r) = ap Checked.Refused (refusal-told r)
+
+-- Two answers that the table's claim allows are the same.
+pub single-checked : {said : Said wgsl.Trailer} (a b : Checked) → saidChecked a ≡ said → saidChecked b ≡ said → a ≡ b
+single-checked = single saidChecked checkedFrom checked-told
