@@ -28,6 +28,7 @@ use Rattle.structs.specs.declared.Ends.{Ends}
 use Rattle.structs.specs.declared.Run.{Run}
 use Rattle.structs.specs.declared.Run.the-variants as run
 use Rattle.structs.specs.Run.{wordsOfMembers, endsOf, membersFit, runOf, Complete, Ended, Closes}
+use Rattle.structs.proofs.Runs.{limited-is, limited-large}
 use Rattle.structs.proofs.Numbers.{members-aligned, aligned-positive, open-end, closed-end, struct-fits, past-members, open-fits, closed-fits, closed-past}
 
 -- ---- 5 and 6
@@ -158,41 +159,24 @@ closed-value k p ms e c =
 closed-limit : (k : ℕ) (p : Ends) (ms : Members) → Closed p ms → fitsLimit (struct k ms) ≡ withinLimits (both up (some (p .align)) (some (p .end)) ∷ some (p .align) ∷ both up (some (p .align)) (some (p .end)) ∷ offsetsOf (some 0) ms)
 closed-limit k p ms c = struct-fits k ms (p .align) (some (p .end)) (c .align-is) (c .end-is)
 
--- what `limited` says
-limited-is : (n m : ℕ) → Is m ≡ limited n → (m ≡ n) × (withinLimit n ≡ true)
-unfolding limited
-limited-is n m e = go (withinLimit n) refl e
-  where
-    go : (b : Bool) → withinLimit n ≡ b → Is m ≡ cond b (Is n) TooLarge → (m ≡ n) × (b ≡ true)
-    go true q h = (cc, refl)
-    go false q h = let x : _≡_ {A = ℕ} 0 1 = cc in absurd (omega arith)
-
-limited-large : (n : ℕ) → TooLarge ≡ limited n → withinLimit n ≡ false
-unfolding limited
-limited-large n e = go (withinLimit n) refl e
-  where
-    go : (b : Bool) → withinLimit n ≡ b → TooLarge ≡ cond b (Is n) TooLarge → b ≡ false
-    go true q h = let x : _≡_ {A = ℕ} 0 1 = cc in absurd (omega arith)
-    go false q h = refl
-
 -- A struct that is not open has the size that its members' end rounds up to, if that is within the limit.
 pub ended-closes : (k : ℕ) (p : Ends) (ms : Members) (size : ℕ) → Ended p ms → p .opens ≡ false → Is size ≡ limited (up (p .align) (p .end)) → verdictOn (struct k ms) ≡ Laid (closedLayout size p)
 unfolding membersFit
 ended-closes k p ms size e q h =
     let c = ended-closed p ms e q in
-    let l = limited-is (up (p .align) (p .end)) size h in
+    let l = limited-is (up (p .align) (p .end)) size (sym h) in
     let fits : fitsLimit (struct k ms) ≡ true =
     closed-limit k p ms c
-    ∙ closed-fits (p .align) (p .end) (offsetsOf (some 0) ms) (c .align-within) (l .1) (rw (c .end-is) at (e .fits)) in
+    ∙ closed-fits (p .align) (p .end) (offsetsOf (some 0) ms) (c .align-within) (l .0) (rw (c .end-is) at (e .fits)) in
     laid k p ms e fits
-    ∙ ap Laid (closed-value k p ms e c ∙ ap (λ (z : ℕ). closedLayout z p) (sym (l .0)))
+    ∙ ap Laid (closed-value k p ms e c ∙ ap (λ (z : ℕ). closedLayout z p) (l .1))
 
 pub ended-past : (k : ℕ) (p : Ends) (ms : Members) → Ended p ms → p .opens ≡ false → TooLarge ≡ limited (up (p .align) (p .end)) → verdictOn (struct k ms) ≡ Large
 ended-past k p ms e q h =
     let c = ended-closed p ms e q in
     large k ms (e .complete) (e .given)
     (closed-limit k p ms c
-    ∙ closed-past (p .align) (p .end) (offsetsOf (some 0) ms) (limited-large (up (p .align) (p .end)) h))
+    ∙ closed-past (p .align) (p .end) (offsetsOf (some 0) ms) (limited-large (up (p .align) (p .end)) (sym h)))
 
 pub ended-positive : (p : Ends) (ms : Members) → Ended p ms → 0 < p .align
 unfolding endsOf
