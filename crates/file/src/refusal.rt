@@ -1,4 +1,7 @@
 // Document 01's refusals, by name. Their numbers and places are a definition (specs/Refusal).
+ghost use mathlib.Core.Path.{_≡_};
+ghost use Prim.Native.Nat.{_%_, _^_};
+ghost use Rattle.file.specs.Refusal.{numberOf, placeOf};
 
 pub enum Refusal {
     // 1 to 4: the file below 10 bytes, its form, its counts, its length
@@ -16,4 +19,33 @@ pub enum Refusal {
     Absent,
     // 18: no rank, no common type, or an empty list
     NoRank,
+}
+
+pub fn number(r: Refusal) -> u32
+    ensures { λ n. ⌜ n ≡ numberOf r ⌝ }
+{
+    match r {
+        Refusal::Short => 1,
+        Refusal::Form => 2,
+        Refusal::Counts => 3,
+        Refusal::Length => 4,
+        Refusal::Rule(_) => 5,
+        Refusal::Given(_) => 6,
+        Refusal::Large(_) => 7,
+        Refusal::Missing => 8,
+        Refusal::Absent => 9,
+        Refusal::NoRank => 18,
+    }
+}
+
+// The lowest 32 bits of a place. Places are entries, below 256.
+pub fn place(r: Refusal) -> u32
+    ensures { λ n. ⌜ n ≡ placeOf r % 2 ^ 32 ⌝ }
+{
+    match r {
+        Refusal::Rule(k) => (k % 0x1_0000_0000) as u32,
+        Refusal::Given(k) => (k % 0x1_0000_0000) as u32,
+        Refusal::Large(k) => (k % 0x1_0000_0000) as u32,
+        _ => 0,
+    }
 }

@@ -1,5 +1,6 @@
 // The listing of a layout file: its text, and the program around it.
-use file::refusal::Refusal;
+use file::refusal::number;
+use file::refusal::place;
 use kinds::value::Layout;
 use layout::table::Checked;
 use layout::table::layouts;
@@ -10,43 +11,13 @@ use text::put_line;
 use text::put_refused;
 ghost use mathlib.Core.Path.{_≡_};
 ghost use mathlib.Core.List.{List, _++_};
-ghost use Prim.Native.Nat.{_%_, _^_, _≤_};
+ghost use Prim.Native.Nat.{_≤_};
 ghost use lib.ListN.{length};
 ghost use Rattle.wgsl.specs.Types.{Ty};
 ghost use Rattle.wgsl.specs.Said.{good};
 ghost use Rattle.wgsl.specs.Listing.{entryLines, listed, listingOf};
-ghost use Rattle.file.specs.Refusal.{numberOf, placeOf};
 ghost use Rattle.text.specs.Put.{Put};
 ghost use Rattle.lister.specs.List.{Entries};
-
-fn number(r: Refusal) -> u32
-    ensures { λ n. ⌜ n ≡ numberOf r ⌝ }
-{
-    match r {
-        Refusal::Short => 1,
-        Refusal::Form => 2,
-        Refusal::Counts => 3,
-        Refusal::Length => 4,
-        Refusal::Rule(_) => 5,
-        Refusal::Given(_) => 6,
-        Refusal::Large(_) => 7,
-        Refusal::Missing => 8,
-        Refusal::Absent => 9,
-        Refusal::NoRank => 18,
-    }
-}
-
-// The lowest 32 bits of a place; a listing's places are entries, below 256.
-fn place(r: Refusal) -> u32
-    ensures { λ n. ⌜ n ≡ placeOf r % 2 ^ 32 ⌝ }
-{
-    match r {
-        Refusal::Rule(k) => (k % 0x1_0000_0000) as u32,
-        Refusal::Given(k) => (k % 0x1_0000_0000) as u32,
-        Refusal::Large(k) => (k % 0x1_0000_0000) as u32,
-        _ => 0,
-    }
-}
 
 // Puts the lines of an accepted file's entries.
 fn put_entries(out: &mut [u8], ls: [Layout; 256], types: u32) -> usize

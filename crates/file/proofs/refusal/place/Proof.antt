@@ -5,12 +5,12 @@ use mathlib.Core.List.{List, [], _∷_}
 use mathlib.Core.Path.{_≡_, refl}
 use types.Run.{OneOf, miss}
 use denote.Enum.Declared.{tagOf}
 use Rattle.file.proofs.refusal.Refusal as refusal
 use Rattle.file.specs.Refusal.{placeOf}
 use Rattle.file.specs.declared.refusal.Refusal.{Refusal}
 use Rattle.file.specs.declared.refusal.Refusal.the-variants.{Short, Form, Counts, Length, Rule, Given, Large, Missing, Absent, NoRank}
-use Rattle.lister.proofs.place.Statement.{statement}
-use Rattle.lister.proofs.place.Tie as tie
+use Rattle.file.proofs.refusal.place.Statement.{statement}
+use Rattle.file.proofs.refusal.place.Tie as tie
 
 returns : tie.Need-returns
 returns c = rw (c .before .r .given .1)

@@ -1,7 +1,7 @@
 -- All routine; written out so that a refusal is told of this function, and not of its callers.
 use borrow.Author.Needs.{needs}
-use Rattle.lister.proofs.number.Statement.{statement}
-use Rattle.lister.proofs.number.Tie as tie
+use Rattle.file.proofs.refusal.number.Statement.{statement}
+use Rattle.file.proofs.refusal.number.Tie as tie
 
 pub number-spec : {M : Type 1} → statement M
 number-spec =
