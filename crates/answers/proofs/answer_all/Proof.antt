@@ -1,0 +1,41 @@
+use Rattle.answers.specs.Count.{Counted}
+use Prim.Native.Nat.{_-_}
+use native.Mathlib.Omega.{arith}
+use borrow.Author.Needs.{needs}
+use mathlib.Core.Path.{_≡_}
+use lib.ListN.{length}
+use Rattle.answers.proofs.answer_all.Statement.{statement}
+use Rattle.answers.proofs.answer_all.Tie as tie
+
+abbrev Inv-loop : tie.InvT-loop
+Inv-loop text start file₀ size₀ n at₀ t10 t11 file size at = (length file ≡ length file₀) × Counted size file
+
+abbrev μ-loop : tie.MeasureT-loop
+μ-loop text start file₀ size₀ n at₀ t10 t11 file size at = n - at
+
+loop-holds : tie.Need-loop-holds Inv-loop μ-loop
+loop-holds c = (search needs, search needs)
+
+add-at : tie.Need-add-at Inv-loop μ-loop
+add-at c = omega arith
+
+loop-less : tie.Need-loop-less Inv-loop μ-loop
+loop-less c = omega arith
+
+loop-again : tie.Need-loop-again Inv-loop μ-loop
+loop-again c = (search needs, search needs)
+
+loop-less-2 : tie.Need-loop-less-2 Inv-loop μ-loop
+loop-less-2 c = omega arith
+
+loop-again-2 : tie.Need-loop-again-2 Inv-loop μ-loop
+loop-again-2 c = (search needs, search needs)
+
+pub answer-all-spec : {M : Type 1} → statement M
+answer-all-spec =
+    tie.close (tie.spec
+    Inv-loop μ-loop loop-holds (λ c κs. search needs) (λ c. search needs) (λ c κs. search needs) (λ c. search needs)
+    (λ c. search needs) (λ c. search needs) (λ c. search needs) (λ c. search needs) (λ c κs. search needs) add-at
+    (λ c. search needs) (λ c. search needs) (λ c κs. search needs) (λ c κs. search needs) loop-less loop-again
+    (λ c. search needs) (λ c. search needs) (λ c κs. search needs) loop-less-2 loop-again-2 (λ c. search needs)
+    (λ c. search needs))

@@ -1,0 +1,172 @@
+// Answers questions about layout files: reads them on standard input and writes a line for each (oracle/README.md, version 1).
+mod line;
+
+use convert::ask::common;
+use convert::ask::rank;
+use file::refusal::Refusal;
+use file::refusal::number;
+use file::refusal::place;
+use layout::ask::Answer;
+use layout::ask::Maybe;
+use layout::ask::Number;
+use layout::ask::align;
+use layout::ask::check;
+use layout::ask::layout;
+use layout::ask::min_size;
+use layout::ask::size;
+use libc::STDIN_FILENO;
+use libc::STDOUT_FILENO;
+use line::bytes;
+use line::next;
+use line::numbers;
+use line::same;
+ghost use mathlib.Core.Path.{_≡_};
+ghost use lib.ListN.{length};
+ghost use Rattle.answers.specs.Count.{Counted};
+
+fn say(text: &[u8]) {
+    io::write_all(STDOUT_FILENO, text);
+}
+
+fn say_refused(r: Refusal) {
+    say(b"refused ");
+    io::print_decimal(STDOUT_FILENO, number(r) as u64);
+    say(b" at ");
+    io::print_decimal(STDOUT_FILENO, place(r) as u64);
+    say(b"\n");
+}
+
+fn say_number(n: Number) {
+    match n {
+        Number::Is(v) => {
+            io::print_decimal(STDOUT_FILENO, v as u64);
+            say(b"\n");
+        }
+        Number::Refused(r) => say_refused(r),
+    }
+}
+
+fn say_maybe(m: Maybe, end: &[u8]) {
+    match m {
+        Maybe::Is(v) => {
+            io::print_decimal(STDOUT_FILENO, v as u64);
+        }
+        Maybe::Absent => say(b"-"),
+    }
+    say(end);
+}
+
+fn say_layout(a: Answer) {
+    match a {
+        Answer::Is(s) => {
+            let size = s.size;
+            let align = s.align;
+            let min = s.min;
+            say_maybe(size, b" ");
+            say_maybe(align, b" ");
+            say_maybe(min, b"\n");
+        }
+        Answer::Refused(r) => say_refused(r),
+    }
+}
+
+// The questions with one entry.
+fn answer_entry(file: &[u8], word: &[u8], entry: u32) {
+    if same(word, b"size") {
+        return say_number(size(file, entry));
+    }
+    if same(word, b"align") {
+        return say_number(align(file, entry));
+    }
+    if same(word, b"min_size") {
+        return say_number(min_size(file, entry));
+    }
+    if same(word, b"layout") {
+        return say_layout(layout(file, entry));
+    }
+    say(b"not a question\n");
+}
+
+fn answer(file: &[u8], word: &[u8], ns: &[u32]) {
+    if same(word, b"common") {
+        return say_number(common(file, ns));
+    }
+    if ns.len() == 0 {
+        if same(word, b"check") {
+            return say_number(check(file));
+        }
+    }
+    if ns.len() == 1 {
+        return answer_entry(file, word, ns[0]);
+    }
+    if ns.len() == 2 {
+        if same(word, b"rank") {
+            return say_number(rank(file, ns[0], ns[1]));
+        }
+    }
+    say(b"not a question\n");
+}
+
+// Puts the bytes of a file line and answers how many.
+fn take_file(line: &[u8], at: usize, file: &mut [u8]) -> usize
+    ensures { λ r. ⌜ Counted r (now (file .exit)) ⌝ }
+{
+    let p = bytes(line, at, file);
+    if !p.good {
+        say(b"not a file\n");
+    }
+    p.count
+}
+
+fn answer_line(file: &[u8], line: &[u8], word: usize)
+    requires { ⌜ Counted word (now line) ⌝ }
+{
+    let mut ns = [0u32; 1024];
+    let p = numbers(line, word, &mut ns);
+    let n = p.count;
+    if !p.good {
+        return say(b"not a question\n");
+    }
+    answer(file, &line[..word], &ns[..n]);
+}
+
+// Answers the lines from `start` on; `file` has room for the bytes of a file.
+fn answer_all(text: &[u8], start: usize, file: &mut [u8]) {
+    let mut size: usize = 0;
+    let n = text.len();
+    let mut at = start;
+    while at < n {
+        let end = next(text, at, 10);
+        if n <= end {
+            return say(b"not a line\n");
+        }
+        let line = &text[at..end];
+        let word = next(line, 0, 32);
+        at = end + 1;
+        if same(&line[..word], b"file") {
+            size = take_file(line, word, file);
+        } else {
+            answer_line(&file[..size], line, word);
+        }
+    }
+}
+
+// Room for a mebibyte of questions. The contract gives only its length: what lending it asks.
+fn room() -> [u8; 1048576]
+    ensures { λ r. ⌜ 1048576 ≡ length r ⌝ }
+{
+    [0; 1048576]
+}
+
+fn main() {
+    let mut input = room();
+    let mut file = io::large_buffer();
+    let n = io::read_full(STDIN_FILENO, &mut input);
+    let text = &input[..n];
+    let first = next(text, 0, 10);
+    if !same(&text[..first], b"questions 1") {
+        return say(b"not questions 1\n");
+    }
+    say(b"answers 1\n");
+    answer_all(text, first + 1, &mut file);
+}
