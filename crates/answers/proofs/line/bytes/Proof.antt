@@ -34,6 +34,9 @@ returns-2 c = counted _ _ (search needs)
 returns-3 : tie.Need-returns-3 Inv-loop μ-loop
 returns-3 c = counted _ _ (search needs)
 
+slice-write-out : tie.Need-slice-write-out Inv-loop μ-loop
+slice-write-out c = search needs
+
 add-count : tie.Need-add-count Inv-loop μ-loop
 add-count c = omega arith
 

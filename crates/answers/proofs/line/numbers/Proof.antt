@@ -28,6 +28,9 @@ returns-2 c = counted _ _ (search needs)
 mul-out : tie.Need-mul-out Inv-loop μ-loop
 mul-out c = omega arith
 
+slice-write-out : tie.Need-slice-write-out Inv-loop μ-loop
+slice-write-out c = search needs
+
 add-count : tie.Need-add-count Inv-loop μ-loop
 add-count c = omega arith
 
