@@ -1,0 +1,187 @@
+//! Asking both sides, judging what they say, and the recorded list.
+use std::collections::BTreeMap;
+use std::fs;
+
+use crate::file::Table;
+use crate::generate::{self, Plan};
+use crate::model;
+use crate::question::{self, ANSWERS_HEAD, Block, HEAD};
+use crate::rows::{self, Example, Row};
+use crate::types;
+
+/// What the answering program reads at most.
+const ROOM: usize = 1_048_576;
+
+const PLAN: Plan = Plan { small: 3, random: 60_000, limits: 400, large: 120, damaged: 40_000 };
+
+const RECORDED: Plan = Plan { small: 2, random: 60, limits: 20, large: 0, damaged: 300 };
+
+fn read(path: &str) -> String {
+    fs::read_to_string(path).unwrap_or_else(|e| panic!("{path}: {e}"))
+}
+
+fn write(path: &str, text: &str) {
+    fs::write(path, text).unwrap_or_else(|e| panic!("{path}: {e}"))
+}
+
+fn examples(document: &str) -> Vec<Example> {
+    rows::examples(&read(document))
+}
+
+/// Writes the questions to FOLDER/NNNN.questions: first the document's examples, then the generated ones.
+pub fn ask(seed: u64, document: &str, folder: &str) -> bool {
+    let mut batch = 0;
+    let mut text = format!("{HEAD}\n");
+    let mut flush = |text: &mut String| {
+        write(&format!("{folder}/{batch:04}.questions"), text);
+        *text = format!("{HEAD}\n");
+        batch += 1;
+    };
+    for e in examples(document) {
+        text += &e.block.lines();
+    }
+    flush(&mut text);
+    println!(
+        "{:9} tables of at most {} entries over the menu, all that are accepted",
+        generate::small(PLAN.small).len(),
+        PLAN.small
+    );
+    let mut files = 0;
+    generate::blocks(seed, &PLAN, |block| {
+        files += 1;
+        let lines = block.lines();
+        if text.len() + lines.len() > ROOM {
+            flush(&mut text);
+        }
+        text += &lines;
+    });
+    flush(&mut text);
+    println!("{files:9} files in all, seed {seed}");
+    true
+}
+
+/// What the Rust answers.
+pub fn answer(questions: &str) -> String {
+    let mut text = format!("{ANSWERS_HEAD}\n");
+    for block in question::parse(questions) {
+        let types = Table::read(&block.file).map_or(vec![], |t| types::build(&t));
+        for q in &block.questions {
+            text += &types::answer(&types, q);
+            text.push('\n');
+        }
+    }
+    text
+}
+
+/// What 01 says of each question of a block, and under which row it falls.
+fn due(block: &Block) -> Vec<(String, Option<Row>)> {
+    let checked = model::check(&block.file);
+    let nodes = Table::read(&block.file).map_or(vec![], |t| types::nodes(&t));
+    block.questions.iter().map(|q| model::answer(&checked, &nodes, q)).collect()
+}
+
+/// Holds the document to the rows and to what both sides said of its examples.
+fn judge_document(document: &str, rust: &[&str], lepugaso: &[&str]) -> Vec<String> {
+    let examples = examples(document);
+    let mut wrong = Vec::new();
+    for row in rows::ALL.iter().filter(|r| !examples.iter().any(|e| e.name == r.name())) {
+        wrong.push(format!("document: row {} has no example", row.name()));
+    }
+    for (e, (r, l)) in examples.iter().zip(rust.iter().zip(lepugaso)) {
+        let row = due(&e.block)[0].1.map_or("none", Row::name);
+        if (row, *r, *l) != (e.name.as_str(), e.rust.as_str(), e.lepugaso.as_str()) {
+            wrong.push(format!("document: the example of {} is of row {row}: Rust: {r}, Lepugaso: {l}", e.name));
+        }
+    }
+    wrong
+}
+
+/// The line of a disagreement, where there is one that no row lists, or an agreement where a row says that there is none.
+fn judged(says: &str, row: Option<Row>, rust: &str, lepugaso: &str) -> Option<String> {
+    let fault = match row {
+        None if rust != lepugaso => "no row",
+        Some(_) if rust == lepugaso => "the sides agree",
+        _ if lepugaso != says => "not as 01 says",
+        _ => return None,
+    };
+    let row = row.map_or("-", Row::name);
+    Some(format!("{fault} (row {row}): Lepugaso: {lepugaso}; Rust: {rust}; 01: {says}"))
+}
+
+fn answers(path: &str) -> String {
+    let text = read(path);
+    assert_eq!(text.lines().next(), Some(ANSWERS_HEAD), "{path}");
+    text
+}
+
+/// Judges FOLDER/NNNN.rust and .lepugaso, the answers to NNNN.questions.
+pub fn judge(document: &str, folder: &str) -> bool {
+    let mut faults = Vec::new();
+    let (mut asked, mut by_word, mut by_row) = (0, BTreeMap::new(), BTreeMap::new());
+    for batch in 0.. {
+        let path = |side: &str| format!("{folder}/{batch:04}.{side}");
+        if fs::metadata(path("questions")).is_err() {
+            break;
+        }
+        let (rust, lepugaso) = (answers(&path("rust")), answers(&path("lepugaso")));
+        let rust: Vec<&str> = rust.lines().skip(1).collect();
+        let lepugaso: Vec<&str> = lepugaso.lines().skip(1).collect();
+        let blocks = question::parse(&read(&path("questions")));
+        let count: usize = blocks.iter().map(|b| b.questions.len()).sum();
+        if rust.len() != count || lepugaso.len() != count {
+            faults.push(format!("{}: {count} questions, {} and {} answers", path("*"), rust.len(), lepugaso.len()));
+            continue;
+        }
+        if batch == 0 {
+            faults.extend(judge_document(document, &rust, &lepugaso));
+        }
+        let mut at = 0;
+        for block in &blocks {
+            for (q, (says, row)) in block.questions.iter().zip(due(block)) {
+                if let Some(fault) = judged(&says, row, rust[at], lepugaso[at]) {
+                    faults.push(format!("{} {}: {fault}", question::file_line(&block.file), q.line()));
+                }
+                if batch > 0 {
+                    *by_row.entry(row.map_or("none", Row::name)).or_insert(0) += 1;
+                    *by_word.entry(q.line().split(' ').next().unwrap().to_string()).or_insert(0) += 1;
+                }
+                at += 1;
+            }
+        }
+        asked += count;
+    }
+    for row in rows::ALL.iter().filter(|r| !by_row.contains_key(r.name())) {
+        faults.push(format!("row {} never occurs", row.name()));
+    }
+    for (word, n) in by_word {
+        println!("{n:9} {word}");
+    }
+    for (row, n) in by_row {
+        println!("{n:9} row {row}");
+    }
+    for fault in faults.iter().take(100) {
+        println!("unlisted: {fault}");
+    }
+    println!("{asked} questions, {} unlisted", faults.len());
+    faults.is_empty()
+}
+
+/// Writes FOLDER/stdin and FOLDER/stdout: questions, and the Rust's answers to them; where a row says that the Rust's is another, what 01
+/// says.
+pub fn record(document: &str, folder: &str) -> bool {
+    let mut blocks: Vec<Block> = examples(document).into_iter().map(|e| e.block).collect();
+    generate::blocks(1, &RECORDED, |b| blocks.push(b));
+    let questions = blocks.iter().fold(format!("{HEAD}\n"), |s, b| s + &b.lines());
+    let rust = answer(&questions);
+    let mut rust = rust.lines();
+    let mut text = format!("{}\n", rust.next().unwrap());
+    for (says, row) in blocks.iter().flat_map(due) {
+        let said = rust.next().unwrap();
+        text += row.map_or(said, |_| &says);
+        text.push('\n');
+    }
+    assert!(questions.len() <= ROOM);
+    write(&format!("{folder}/stdin"), &questions);
+    write(&format!("{folder}/stdout"), &text);
+    true
+}

@@ -1,0 +1,423 @@
+//! The questions: all small tables over a menu, random tables, tables at the limits, damaged copies.
+use crate::file::{Entry, Member, Table};
+use crate::model::{self, Laid};
+use crate::question::{Block, Question};
+
+/// splitmix64: a seed gives the same questions everywhere.
+pub struct Random(pub u64);
+
+impl Random {
+    fn next(&mut self) -> u64 {
+        self.0 = self.0.wrapping_add(0x9e37_79b9_7f4a_7c15);
+        let mut z = self.0;
+        z = (z ^ (z >> 30)).wrapping_mul(0xbf58_476d_1ce4_e5b9);
+        z = (z ^ (z >> 27)).wrapping_mul(0x94d0_49bb_1331_11eb);
+        z ^ (z >> 31)
+    }
+
+    fn below(&mut self, n: u64) -> u64 {
+        self.next() % n
+    }
+
+    fn one_in(&mut self, n: u64) -> bool {
+        self.below(n) == 0
+    }
+
+    fn of<T: Copy>(&mut self, list: &[T]) -> T {
+        list[self.below(list.len() as u64) as usize]
+    }
+}
+
+fn entry(kind: u8, columns: u8, rows: u8, reference: u16, count: u32) -> Entry {
+    Entry { kind, columns, rows, reference, count, ..Default::default() }
+}
+
+fn member(ty: u16, size: Option<u32>, align: Option<u32>) -> Member {
+    let flags = size.is_some() as u16 + 2 * align.is_some() as u16;
+    Member { ty, flags, size: size.unwrap_or(0), align: align.unwrap_or(0) }
+}
+
+/// A new entry over a table, with the members that it brings.
+type Choice = (Entry, Vec<Member>);
+
+fn with(t: &Table, (e, ms): &Choice) -> Table {
+    let mut t = t.clone();
+    t.entries.push(*e);
+    t.members.extend(ms);
+    t
+}
+
+/// A struct of the members that follow those of the table.
+fn structure(t: &Table, ms: Vec<Member>) -> Choice {
+    (entry(12, 0, 0, t.members.len() as u16, ms.len() as u32), ms)
+}
+
+/// Every choice of the menu for the next entry.
+fn menu(t: &Table) -> Vec<Choice> {
+    let k = t.entries.len() as u16;
+    let mut list: Vec<Choice> = (0..=6).map(scalar).collect();
+    let given = [(None, None), (Some(20), None), (None, Some(16)), (Some(20), Some(32))];
+    for r in 0..k {
+        for rows in 2..=4 {
+            list.push((entry(7, 0, rows, r, 0), vec![]));
+        }
+        for (columns, rows) in [(2, 3), (3, 3), (4, 2)] {
+            list.push((entry(8, columns, rows, r, 0), vec![]));
+        }
+        for count in [1, 3] {
+            list.push((entry(9, 0, 0, r, count), vec![]));
+        }
+        list.push((entry(10, 0, 0, r, 0), vec![]));
+        list.push((entry(11, 0, 0, r, 0), vec![]));
+        for (size, align) in given {
+            list.push(structure(t, vec![member(r, size, align)]));
+            for s in 0..k {
+                list.push(structure(t, vec![member(r, size, None), member(s, None, align)]));
+            }
+        }
+    }
+    list
+}
+
+/// Every accepted table of at most `most` entries over the menu.
+pub fn small(most: usize) -> Vec<Table> {
+    fn grow(t: &Table, laid: &[Laid], most: usize, found: &mut Vec<Table>) {
+        if laid.len() == most {
+            return;
+        }
+        for choice in menu(t) {
+            let t = with(t, &choice);
+            if let Ok(l) = model::lay(&t, laid, laid.len()) {
+                let mut laid = laid.to_vec();
+                laid.push(l);
+                grow(&t, &laid, most, found);
+                found.push(t);
+            }
+        }
+    }
+    let mut found = Vec::new();
+    grow(&Table::default(), &[], most, &mut found);
+    found
+}
+
+/// Everything that can be asked of a table of few entries.
+pub fn everything(t: &Table) -> Vec<Question> {
+    let n = t.entries.len() as u32;
+    let mut qs = vec![Question::Check, Question::Common(vec![])];
+    for a in 0..n {
+        qs.extend([Question::Size(a), Question::Align(a), Question::MinSize(a), Question::Layout(a)]);
+        qs.push(Question::Common(vec![a]));
+        for b in 0..n {
+            qs.extend([Question::Rank(a, b), Question::Common(vec![a, b])]);
+            qs.push(Question::Common(vec![b, n - 1, a]));
+        }
+    }
+    qs
+}
+
+/// `n` questions of any sort; now and then an entry that is not there.
+pub fn some(r: &mut Random, t: &Table, n: usize) -> Vec<Question> {
+    let types = t.entries.len().max(1) as u64;
+    let mut qs = Vec::new();
+    for _ in 0..n {
+        let e = |r: &mut Random| {
+            let past = r.of(&[types, types + 1, 255, 256, 65_535, 4_294_967_295]) as u32;
+            if r.one_in(40) { past } else { r.below(types) as u32 }
+        };
+        let top = (types - 1) as u32;
+        qs.push(match r.below(9) {
+            0 => Question::Check,
+            1 => Question::Size(e(r)),
+            2 => Question::Align(e(r)),
+            3 => Question::MinSize(e(r)),
+            4 => Question::Layout(e(r)),
+            5 => Question::Layout(top),
+            6 | 7 => Question::Rank(e(r), e(r)),
+            _ => {
+                let many = r.of(&[0, 1, 2, 2, 3, 3, 4, 9]);
+                Question::Common((0..many).map(|_| e(r)).collect())
+            }
+        });
+    }
+    qs
+}
+
+/// A number for a count: small, or such that `count * stride` comes near 2^32.
+fn count(r: &mut Random, laid: Option<&Laid>) -> u32 {
+    let stride = laid.and_then(|l| Some(l.size?.div_ceil(l.align?) * l.align?)).unwrap_or(4).max(1);
+    let edge = (4_294_967_295 / stride) as i64 + r.below(3) as i64 - 1;
+    if r.one_in(12) { edge.clamp(1, 4_294_967_295) as u32 } else { 1 + r.below(9) as u32 }
+}
+
+fn random_member(r: &mut Random, laid: &[Laid], ty: u16) -> Member {
+    let l = laid[ty as usize];
+    let size = l.size.filter(|_| r.one_in(4)).map(|s| {
+        let more = if r.one_in(16) { 4_294_967_295 - s - r.below(9).min(4_294_967_295 - s) } else { r.below(40) };
+        (s + more) as u32
+    });
+    let align = l.align.filter(|_| r.one_in(4)).map(|a| {
+        let shift = if r.one_in(16) { r.below(32) } else { r.below(6) };
+        (a << shift).min(1 << 31) as u32
+    });
+    member(ty, size, align)
+}
+
+/// A choice for the next entry that may or may not be accepted; references are mostly to the last entries.
+fn random_choice(r: &mut Random, t: &Table, laid: &[Laid]) -> Choice {
+    let k = laid.len() as u64;
+    if k == 0 || r.one_in(4) {
+        return scalar(r.below(7) as u8);
+    }
+    let lower = |r: &mut Random| if r.one_in(2) { r.below(k) } else { k - 1 - r.below(k.min(3)) } as u16;
+    let reference = lower(r);
+    match r.below(12) {
+        0 | 1 => (entry(7, 0, 2 + r.below(3) as u8, reference, 0), vec![]),
+        2 => (entry(8, 2 + r.below(3) as u8, 2 + r.below(3) as u8, reference, 0), vec![]),
+        3 | 4 => (entry(9, 0, 0, reference, count(r, laid.get(reference as usize))), vec![]),
+        5 => (entry(10, 0, 0, reference, 0), vec![]),
+        6 => (entry(11, 0, 0, reference, 0), vec![]),
+        // a struct that shares members with others
+        7 if !t.members.is_empty() => {
+            let first = r.below(t.members.len() as u64);
+            let most = t.members.len() as u64 - first;
+            (entry(12, 0, 0, first as u16, 1 + r.below(most) as u32), vec![])
+        }
+        _ => {
+            let n = 1 + r.below(4);
+            let ms = (0..n).map(|_| lower(r)).collect::<Vec<_>>();
+            structure(t, ms.into_iter().map(|ty| random_member(r, laid, ty)).collect())
+        }
+    }
+}
+
+/// An accepted table of `types` entries and at most `most` members.
+pub fn random(r: &mut Random, types: usize, most: usize) -> Table {
+    let (mut t, mut laid) = (Table::default(), Vec::new());
+    while laid.len() < types {
+        let choice = random_choice(r, &t, &laid);
+        if t.members.len() + choice.1.len() > most {
+            continue;
+        }
+        let grown = with(&t, &choice);
+        if let Ok(l) = model::lay(&grown, &laid, laid.len()) {
+            laid.push(l);
+            t = grown;
+        }
+    }
+    t
+}
+
+/// A file of a table: now and then with bytes before it that no one looks at.
+pub fn file(r: &mut Random, t: &Table) -> Vec<u8> {
+    let before: Vec<u8> = if r.one_in(8) { (0..r.below(30)).map(|_| r.next() as u8).collect() } else { vec![] };
+    t.write(&before)
+}
+
+fn scalar(kind: u8) -> Choice {
+    (entry(kind, 0, 0, 0, 0), vec![])
+}
+
+/// A table of the choices, the members of each struct after those before.
+fn table(choices: &[Choice]) -> Table {
+    choices.iter().fold(Table::default(), |t, (e, ms)| {
+        let e = if e.kind == 12 { structure(&t, ms.clone()).0 } else { *e };
+        with(&t, &(e, ms.clone()))
+    })
+}
+
+/// The values on each side of an edge that 01 gives.
+fn worked() -> Vec<Table> {
+    let over = |kind, columns, rows, reference, count| (entry(kind, columns, rows, reference, count), vec![]);
+    let of = |ms: Vec<Member>| (entry(12, 0, 0, 0, 0), ms);
+    let plain = |ty| member(ty, None, None);
+    vec![
+        table(&[scalar(3), over(7, 0, 3, 0, 0), over(9, 0, 0, 1, 4), over(8, 3, 3, 0, 0)]),
+        table(&[scalar(4), over(7, 0, 3, 0, 0), over(8, 2, 3, 0, 0)]),
+        table(&[scalar(2), scalar(3), over(7, 0, 3, 1, 0), of(vec![plain(0), plain(2), plain(1)])]),
+        table(&[scalar(2), of(vec![member(0, Some(20), None), plain(0)])]),
+        table(&[scalar(2), of(vec![plain(0), member(0, None, Some(16))])]),
+        table(&[scalar(2), over(9, 0, 0, 0, 1_073_741_823)]),
+        table(&[scalar(2), over(9, 0, 0, 0, 1_073_741_824)]),
+        table(&[scalar(2), scalar(3), over(7, 0, 4, 1, 0), over(10, 0, 0, 2, 0), of(vec![plain(0), plain(3)])]),
+        table(&(0..7).map(scalar).collect::<Vec<_>>()),
+        table(&[scalar(3), over(7, 0, 3, 0, 0), of(vec![plain(0), plain(1)])]),
+    ]
+}
+
+/// Trailers on each side of an edge: types, members, form, length.
+fn trailers() -> Vec<Vec<u8>> {
+    let f32s = |n| table(&vec![scalar(3); n]);
+    let with_members = |n| Table { members: vec![Member::default(); n], ..f32s(1) };
+    let good = f32s(1).write(&[]);
+    let changed = |at: usize, n: u8| {
+        let mut b = good.clone();
+        b[at] = n;
+        b
+    };
+    let mut list: Vec<Vec<u8>> = [0, 1, 256, 257].into_iter().map(|n| f32s(n).write(&[])).collect();
+    list.extend([1024, 1025].into_iter().map(|n| with_members(n).write(&[])));
+    list.extend([
+        changed(20, 0),
+        changed(20, 2),
+        changed(16, 1),
+        changed(17, 1),
+        good[..9].to_vec(),
+        good[..21].to_vec(),
+    ]);
+    list.push([&[0], good.as_slice()].concat());
+    list
+}
+
+/// Tables at the limits: 256 entries, 1,024 members, and structs that each hold the last twice.
+fn at_limits() -> Vec<Table> {
+    let mut arrays = with(&Table::default(), &scalar(3));
+    for k in 1..256 {
+        arrays = with(&arrays, &(entry(9, 0, 0, k - 1, 1), vec![]));
+    }
+    let mut structs = with(&Table::default(), &scalar(4));
+    for k in 1..256 {
+        let ms = vec![member(0, None, None), member(k - 1, None, Some(1 << (k % 16)).filter(|a| *a > 8))];
+        let grown = with(&structs, &structure(&structs, ms));
+        structs = if model::check(&grown.write(&[])).is_ok() { grown } else { with(&structs, &scalar(1)) };
+    }
+    let wide = with(&Table::default(), &scalar(4));
+    let wide = with(&wide, &(entry(7, 0, 3, 0, 0), vec![]));
+    let ms = (0..1024).map(|i| member((i % 2) as u16, None, None)).collect();
+    let wide = with(&wide, &structure(&wide, ms));
+    let mut doubling = with(&Table::default(), &scalar(1));
+    for k in 1..20 {
+        let twice = vec![member(k - 1, None, None), member(k - 1, None, None)];
+        doubling = with(&doubling, &structure(&doubling, twice));
+    }
+    vec![arrays, structs, wide, doubling]
+}
+
+/// Numbers that are 01's own edges, and the ones around them.
+fn edge(r: &mut Random) -> u32 {
+    r.of(&[
+        0,
+        1,
+        2,
+        3,
+        4,
+        5,
+        6,
+        7,
+        8,
+        12,
+        13,
+        16,
+        255,
+        256,
+        257,
+        1024,
+        1025,
+        65_535,
+        1 << 30,
+        1 << 31,
+        u32::MAX - 1,
+        u32::MAX,
+    ])
+}
+
+/// A copy of a table with one to three of its fields changed.
+pub fn damaged_table(r: &mut Random, t: &Table) -> Table {
+    let mut t = t.clone();
+    for _ in 0..1 + r.below(3) {
+        let n = edge(r);
+        if !t.members.is_empty() && r.one_in(2) {
+            let i = r.below(t.members.len() as u64) as usize;
+            let m = &mut t.members[i];
+            match r.below(7) {
+                0 => m.ty = n as u16,
+                1 => m.flags = n as u16,
+                2 => m.size = n,
+                3 => m.align = n,
+                4 => (m.flags, m.size) = (m.flags | 1, n),
+                5 => (m.flags, m.align) = (m.flags | 2, n),
+                _ => m.ty = r.below(t.entries.len() as u64) as u16,
+            }
+        } else {
+            let i = r.below(t.entries.len() as u64) as usize;
+            let types = t.entries.len() as u64;
+            let e = &mut t.entries[i];
+            match r.below(9) {
+                0 => e.kind = r.below(14) as u8,
+                1 => e.columns = n as u8,
+                2 => e.rows = n as u8,
+                3 => e.zero3 = n as u8,
+                4 => e.reference = n as u16,
+                5 => e.zero6 = n as u16,
+                6 => e.count = n,
+                7 => e.reference = r.below(types) as u16,
+                _ => e.kind = 7 + r.below(6) as u8,
+            }
+        }
+    }
+    t
+}
+
+/// A copy of a file with some of its bytes changed, cut off or added.
+pub fn damaged_file(r: &mut Random, file: &[u8]) -> Vec<u8> {
+    let mut b = file.to_vec();
+    match r.below(5) {
+        0 => b.truncate(r.below(b.len() as u64) as usize),
+        1 => b.extend((0..1 + r.below(13)).map(|_| 0)),
+        // the trailer
+        2 | 3 => {
+            let at = b.len() - 1 - r.below(10) as usize;
+            b[at] = edge(r) as u8;
+        }
+        _ => {
+            let at = r.below(b.len() as u64) as usize;
+            b[at] = r.next() as u8;
+        }
+    }
+    b
+}
+
+/// How much of each sort.
+pub struct Plan {
+    /// all tables over the menu of at most so many entries
+    pub small: usize,
+    pub random: usize,
+    /// questions on each table at the limits
+    pub limits: usize,
+    /// random tables of 256 entries
+    pub large: usize,
+    /// pairs of a damaged table and a damaged file
+    pub damaged: usize,
+}
+
+pub fn blocks(seed: u64, plan: &Plan, mut each: impl FnMut(Block)) {
+    let mut r = Random(seed);
+    for t in worked() {
+        each(Block { file: t.write(&[]), questions: everything(&t) });
+    }
+    for file in trailers() {
+        each(Block { file, questions: vec![Question::Check, Question::Size(0)] });
+    }
+    for t in small(plan.small) {
+        each(Block { file: t.write(&[]), questions: everything(&t) });
+    }
+    for i in 0..plan.random {
+        let types = 1 + r.below(if i % 16 == 0 { 40 } else { 9 }) as usize;
+        let t = random(&mut r, types, 60);
+        each(Block { file: file(&mut r, &t), questions: some(&mut r, &t, 12) });
+    }
+    for t in at_limits() {
+        each(Block { file: t.write(&[]), questions: some(&mut r, &t, plan.limits) });
+    }
+    for _ in 0..plan.large {
+        let t = random(&mut r, 256, 1024);
+        each(Block { file: file(&mut r, &t), questions: some(&mut r, &t, 20) });
+    }
+    for _ in 0..plan.damaged {
+        let types = 1 + r.below(7) as usize;
+        let t = random(&mut r, types, 12);
+        let d = damaged_table(&mut r, &t);
+        each(Block { file: file(&mut r, &d), questions: some(&mut r, &d, 3) });
+        let b = file(&mut r, &t);
+        each(Block { file: damaged_file(&mut r, &b), questions: some(&mut r, &t, 2) });
+    }
+}

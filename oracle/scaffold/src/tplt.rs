@@ -1,0 +1,3 @@
+//! Named by a signature in lib.rs, and nowhere else.
+#[derive(Clone, Debug, PartialEq)]
+pub struct TpltParam;
