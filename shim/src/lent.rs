@@ -21,7 +21,10 @@ impl<T> Lent<T> {
         }
         match NonNull::new(pointer as *mut T) {
             Some(start) => Some(Lent { start, count }),
-            None if count == 0 => Some(Lent { start: NonNull::dangling(), count }),
+            None if count == 0 => Some(Lent {
+                start: NonNull::dangling(),
+                count,
+            }),
             None => None,
         }
     }

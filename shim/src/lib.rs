@@ -20,7 +20,11 @@ pub struct Layout {
 }
 
 /// The answer where a pointer cannot be what C says it is: none of document 01's numbers, which come after it.
-const BAD_POINTER: Crossing = Crossing { refusal: 65535, place: 0, value: 0 };
+const BAD_POINTER: Crossing = Crossing {
+    refusal: 65535,
+    place: 0,
+    value: 0,
+};
 
 /// How many entries the file has.
 ///

@@ -14,8 +14,13 @@ type Signature = (String, Vec<Named>, String);
 
 /// What stands in `text` between two marks.
 fn between<'a>(text: &'a str, before: &str, after: &str) -> &'a str {
-    let rest = text.split_once(before).unwrap_or_else(|| panic!("no {:?} in {:?}", before, text)).1;
-    rest.split_once(after).unwrap_or_else(|| panic!("no {:?} after {:?}", after, before)).0
+    let rest = text
+        .split_once(before)
+        .unwrap_or_else(|| panic!("no {:?} in {:?}", before, text))
+        .1;
+    rest.split_once(after)
+        .unwrap_or_else(|| panic!("no {:?} after {:?}", after, before))
+        .0
 }
 
 /// The parts of a list, each without the space around it.
@@ -69,7 +74,9 @@ fn functions(text: &str, start: &str) -> Vec<Signature> {
     let found = text.split(start).skip(1).map(|function| {
         let name = function.split_once('(').unwrap().0;
         let parameters = parts(between(function, "(", ")"), ',').map(named);
-        let answer = between(function, "-> ", "\n").trim_end_matches(|c| c == ';' || c == '{').trim_end();
+        let answer = between(function, "-> ", "\n")
+            .trim_end_matches(|c| c == ';' || c == '{')
+            .trim_end();
         (name.to_string(), parameters.collect(), answer.to_string())
     });
     found.collect()
@@ -86,17 +93,22 @@ fn functions_in_c(text: &str) -> Vec<Signature> {
 }
 
 fn fields(text: &str, structure: &str) -> Vec<Named> {
-    parts(between(text, &format!("struct {} {{", structure), "}"), ',').map(named).collect()
+    parts(between(text, &format!("struct {} {{", structure), "}"), ',')
+        .map(named)
+        .collect()
 }
 
 fn fields_in_c(text: &str, structure: &str) -> Vec<Named> {
-    parts(between(text, &format!("struct {} {{", structure), "}"), ';').map(named_in_c).collect()
+    parts(between(text, &format!("struct {} {{", structure), "}"), ';')
+        .map(named_in_c)
+        .collect()
 }
 
 #[test]
 fn exports_are_declared_as_they_are() {
     let exports = functions(RATTLE, "pub extern \"C\" fn ").into_iter();
-    let crossed = exports.map(|(name, parameters, answer)| (name, parameters.into_iter().flat_map(crossing).collect(), answer));
+    let crossed =
+        exports.map(|(name, parameters, answer)| (name, parameters.into_iter().flat_map(crossing).collect(), answer));
     assert_eq!(crossed.collect::<Vec<Signature>>(), functions(SURFACE, "pub fn "));
     assert_eq!(fields(RATTLE, "Crossing"), fields(SURFACE, "Crossing"));
 }
@@ -110,7 +122,13 @@ fn calls_are_in_the_header_as_they_are() {
 
 #[test]
 fn there_are_as_many_calls_as_exports() {
-    assert_eq!(functions(SURFACE, "pub fn ").len(), RATTLE.matches("#[no_mangle]").count());
-    assert_eq!(functions(SHIM, "pub unsafe extern \"C\" fn ").len(), RATTLE.matches("#[no_mangle]").count());
+    assert_eq!(
+        functions(SURFACE, "pub fn ").len(),
+        RATTLE.matches("#[no_mangle]").count()
+    );
+    assert_eq!(
+        functions(SHIM, "pub unsafe extern \"C\" fn ").len(),
+        RATTLE.matches("#[no_mangle]").count()
+    );
     assert!(RATTLE.contains("#[no_mangle]"));
 }

@@ -14,7 +14,10 @@ fn at<T>(address: usize, count: usize) -> Option<Lent<T>> {
 #[test]
 fn null_is_an_empty_slice_or_nothing() {
     let empty = at::<u64>(0, 0).unwrap();
-    assert_eq!((empty.start().is_null(), empty.start() as usize % 8, empty.count()), (false, 0, 0));
+    assert_eq!(
+        (empty.start().is_null(), empty.start() as usize % 8, empty.count()),
+        (false, 0, 0)
+    );
     assert!(at::<u64>(0, 1).is_none());
 }
 
