@@ -23,9 +23,9 @@ static const uint8_t limits[] = {
 };
 
 static const struct {
-    const char *name;
+    const char *name, *type;
     uint32_t entry;
-} members[] = {{"board: u32", 0}, {"position: vec3<f32>", 2}, {"frost: f32", 1}, {"window: vec2<f32>", 3}, {"on: u32", 0}};
+} members[] = {{"board", "u32", 0}, {"position", "vec3<f32>", 2}, {"frost", "f32", 1}, {"window", "vec2<f32>", 3}, {"on", "u32", 0}};
 
 /* The same block with @align(12) on `frost`, which WGSL does not allow. */
 static const uint8_t misaligned[] = {
@@ -34,8 +34,8 @@ static const uint8_t misaligned[] = {
 
 static uint64_t round_up(uint64_t align, uint64_t n) { return (n + align - 1) / align * align; }
 
-static void print_gap(uint64_t from, uint64_t to) {
-    if (from < to) printf("%6" PRIu64 "  %4" PRIu64 "         gap\n", from, to - from);
+static void print_gap(uint64_t from, uint64_t to, const char *where, const char *name) {
+    if (from < to) printf("%6" PRIu64 "  %4" PRIu64 "         (gap %s%s)\n", from, to - from, where, name);
 }
 
 int main(void) {
@@ -48,12 +48,12 @@ int main(void) {
         lepugaso_answer laid = lepugaso_layout_of(limits, sizeof limits, 4 + k, &block);
         if (known.refusal || laid.refusal) return 1;
         uint64_t start = round_up(member.align, end);
-        print_gap(end, start);
-        printf("%6" PRIu64 "  %4" PRIu64 "  %5" PRIu64 "  %s\n", start, member.size, member.align, members[k].name);
+        print_gap(end, start, "before ", members[k].name);
+        printf("%6" PRIu64 "  %4" PRIu64 "  %5" PRIu64 "  %s: %s\n", start, member.size, member.align, members[k].name, members[k].type);
         end = start + member.size;
         if (block.size != round_up(block.align, end)) return 1;
     }
-    print_gap(end, block.size);
+    print_gap(end, block.size, "at the end", "");
     printf("        %4" PRIu64 "  %5" PRIu64 "  struct Limits\n\n", block.size, block.align);
 
     lepugaso_answer answer = lepugaso_size(misaligned, sizeof misaligned, 3);
