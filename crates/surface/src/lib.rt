@@ -1,4 +1,5 @@
-// The exports for C: numbers and slices in, one struct of 16 bytes out. Nothing is decided here.
+// The exports for C: numbers and slices in, one struct of 16 bytes out. Nothing is decided here. The shim declares each of them again, in
+// Rust (shim/src/surface.rs); a test holds it to this file.
 use file::refusal::number;
 use file::refusal::place;
 use layout::ask::Answer;
@@ -17,6 +18,7 @@ pub struct Crossing {
     pub value: u64,
 }
 
+// A number or a refusal, as it crosses.
 fn cross(n: Number) -> Crossing
     ensures { λ r. ⌜ r ≡ crossed (saidNumber n) ⌝ }
 {
@@ -34,7 +36,7 @@ fn cross(n: Number) -> Crossing
     }
 }
 
-// A number that may be absent, as C sees it.
+// A number that may be absent, as it crosses.
 fn cross_maybe(m: Maybe) -> u64
     ensures { λ r. ⌜ r ≡ crossedMaybe (maybeOf m) ⌝ }
 {
@@ -72,7 +74,7 @@ pub extern "C" fn lepugaso_surface_min_size(file: &[u8], entry: u32) -> Crossing
     cross(lepugaso::min_size(file, entry))
 }
 
-// A good answer is in `out`: size, align, min size.
+// A good answer is in `out`: the size, the alignment, the minimum size.
 #[no_mangle]
 pub extern "C" fn lepugaso_surface_layout(file: &[u8], entry: u32, out: &mut [u64; 3]) -> Crossing
     ensures answer { λ r. ⌜ r ≡ crossed (told (layoutCall (now (file .entry)) entry)) ⌝ }
