@@ -1,9 +1,27 @@
 /* Lepugaso: the layout of the buffers that WGSL shaders share with a host.
  *
  * A layout file describes types as numbered entries; every call takes one, as bytes, and asks something of it. Nothing is kept between
- * calls, nothing is allocated, and any bytes and any numbers may be passed: what cannot be answered is refused with a number.
+ * calls, nothing is allocated, and any bytes and any numbers may be passed: what cannot be answered is refused with a number. Threads may
+ * call at the same time.
  *
  * For x86-64 Linux. Link liblepugaso.a, which needs nothing but memcpy, or liblepugaso.so.
+ *
+ * The layout file, its numbers little-endian:
+ *
+ *     from byte `start` on  the types, 12 bytes each: kind u8, columns u8, rows u8, 0 u8, reference u16, 0 u16, count u32
+ *     then                  the members, 12 bytes each: type u16, flags u16, size u32, align u32
+ *     at the end            10 bytes: number of types u16 (1 to 256), of members u16 (at most 1,024), start u32, form u16 (1)
+ *
+ *     kinds 0 to 6          bool, i32, u32, f32, f16, abstract int, abstract float
+ *     7 vector              rows 2 to 4, reference to a kind 0 to 6
+ *     8 matrix              columns and rows 2 to 4, reference to f32, f16 or abstract float
+ *     9 array               reference to the element, count at least 1
+ *     10 runtime array      reference to the element
+ *     11 atomic             reference to i32 or u32
+ *     12 struct             reference to the first member, count of members, 1 to 1,024; a runtime array may be the last
+ *
+ * Types and members are numbered from 0. A type refers, itself or by its members, to types of lower numbers. Flag 1 of a member says that
+ * a size is given, flag 2 an align. What is not used is 0. examples/layout_file.h writes such a file as an initializer in C.
  */
 #ifndef LEPUGASO_H
 #define LEPUGASO_H
@@ -71,8 +89,8 @@ lepugaso_answer lepugaso_size(const uint8_t *file, size_t file_len, uint32_t ent
 /* The alignment in bytes of entry `entry`. Refuses 1 to 7, then 8, then 9: a type that has no alignment. */
 lepugaso_answer lepugaso_align(const uint8_t *file, size_t file_len, uint32_t entry);
 
-/* The least size of a buffer for entry `entry`: of an array of unknown length one stride, of any other type its size. Refuses 1 to 7,
- * then 8, then 9: a type that has neither, as a struct that ends in an array of unknown length. */
+/* The least size of a buffer for entry `entry`: of a runtime array one stride, of any other type its size. Refuses 1 to 7, then 8, then
+ * 9: a type that has neither, as a struct that ends in a runtime array. */
 lepugaso_answer lepugaso_min_size(const uint8_t *file, size_t file_len, uint32_t entry);
 
 /* All three numbers of entry `entry` into `out`, LEPUGASO_ABSENT for each that it has not. The value is 0. Refuses 1 to 7, then 8, and

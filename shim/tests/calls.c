@@ -7,6 +7,7 @@
 #include "test.h"
 
 enum { PAGE = 4096 };
+
 /* A page between two that cannot be touched. */
 static uint8_t *fresh_page(void) {
     uint8_t *pages = mmap(NULL, 3 * PAGE, PROT_NONE, MAP_PRIVATE | MAP_ANONYMOUS, -1, 0);
@@ -23,18 +24,18 @@ static const uint8_t *lent(const void *bytes, size_t length) {
 }
 
 static const uint8_t good[] = {
-    BOOL,               /* 0 */
-    U32,                /* 1 */
-    F32,                /* 2 */
-    F16,                /* 3 */
-    ABSTRACT_INT,       /* 4 */
-    VECTOR(3, 0),       /* 5: vec3<bool>: 12 bytes, no alignment */
-    VECTOR(3, 2),       /* 6: vec3<f32> */
-    RUNTIME_ARRAY(6),   /* 7 */
-    STRUCT(0, 3),       /* 8: u32, vec3<f32>, f32 (P6) */
-    STRUCT(1, 3),       /* 9: vec3<f32>, f32, runtime array */
+    BOOL,                  /* 0 */
+    U32,                   /* 1 */
+    F32,                   /* 2 */
+    F16,                   /* 3 */
+    ABSTRACT_INT,          /* 4: neither size nor alignment */
+    VECTOR(3, 0),          /* 5: vec3<bool>, 12 bytes and no alignment */
+    VECTOR(3, 2),          /* 6: vec3<f32> */
+    RUNTIME_ARRAY(6),      /* 7: of vec3<f32> */
+    STRUCT(0, 3),          /* 8: u32, vec3<f32>, f32 (P6) */
+    STRUCT(1, 3),          /* 9: vec3<f32>, f32, runtime array */
     ARRAY(1, 1073741823u), /* 10: the largest array of u32 (P9) */
-    F32,                /* 11: as 2 */
+    F32,                   /* 11: as 2 */
     MEMBER(1), MEMBER(6), MEMBER(2), MEMBER(7),
     TRAILER(12, 4),
 };
