@@ -1,7 +1,16 @@
-# The two commands of the README are `make run` and `make test`.
-.PHONY: run test edits compare record
+# The commands of the README, and of oracle/README.md.
+.PHONY: shim example run test edits compare record
 
-# The main job: list a layout file. `make run FILE=examples/listing.txt` lists another one.
+# The C interface for x86-64: target/shim/liblepugaso.a and .so, under shim/include/lepugaso.h.
+shim: target/shim/liblepugaso.so
+target/shim/liblepugaso.so: crates.txt tools/shim $(shell find crates shim/src -name '*.rt' -o -name '*.antt' -o -name '*.rs')
+	@tools/shim
+
+# The main job of a host program: lay out the limits block of a receiver board, in C.
+example: shim
+	@tools/example
+
+# List a layout file. `make run FILE=examples/listing.txt` lists another one.
 FILE = examples/receiver.txt
 run:
 	@tools/run $(FILE)
@@ -10,6 +19,8 @@ run:
 test:
 	@rt fmt --check
 	@tools/examples
+	@$(MAKE) --no-print-directory shim
+	@tools/test-shim
 	@rt ci
 
 # Why each wrong program of must-fail/ is refused.

@@ -1,0 +1,14 @@
+// The public calls, in one place. None has a `requires`: any bytes of any length and any numbers are answered. Each answers a number or a
+// refusal (`layout::ask::Number`), but for `layout`, which answers all three numbers of an entry (`layout::ask::Answer`).
+
+// How many entries an accepted file has; else 1 to 7.
+pub use layout::ask::check;
+// The size, the alignment and the minimum size of an entry's type; else 1 to 9.
+pub use layout::ask::align;
+pub use layout::ask::min_size;
+pub use layout::ask::size;
+// All three, absent ones marked; else 1 to 8.
+pub use layout::ask::layout;
+// The rank of one entry's type to another's, and the common type of a list of entries; else 1 to 8, 18.
+pub use convert::ask::common;
+pub use convert::ask::rank;

@@ -1,0 +1,30 @@
+-- An answer as the numbers that cross to C.
+--
+-- In order: an answer that is a number; the three numbers of a layout.
+-- Definitions only. Assumes nothing.
+use Prim.Native.Nat.{ℕ, _%_, _^_}
+use mathlib.Core.List.{List, [], _∷_}
+use mathlib.Core.Option.{Option, none, some}
+use Rattle.wgsl.specs.Said.{Said, good, refused}
+use Rattle.wgsl.specs.Call.{Layout}
+use Rattle.surface.specs.declared.Crossing.{Crossing}
+
+-- 0 and the value, or the refusal's number and place
+abbrev pub crossed : Said ℕ → Crossing
+crossed (good v) = record { refusal = 0; place = 0; value = v }
+crossed (refused number place) = record { refusal = number; place = place % 2 ^ 32; value = 0 }
+
+-- an absent number is the largest of 64 bits, which no size and no alignment is
+abbrev pub crossedMaybe : Option ℕ → ℕ
+crossedMaybe (some n) = n
+crossedMaybe none = 18446744073709551615
+
+-- the answer beside a layout: 0 where there is one
+abbrev pub told : Said Layout → Said ℕ
+told (good l) = good 0
+told (refused number place) = refused number place
+
+-- what the three numbers lent hold at the end: "A refusal changes nothing lent"
+abbrev pub laidOut : Said Layout → List ℕ → List ℕ
+laidOut (good l) before = crossedMaybe (l .size) ∷ crossedMaybe (l .align) ∷ crossedMaybe (l .minSize) ∷ []
+laidOut (refused number place) before = before

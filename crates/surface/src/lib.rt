@@ -1,0 +1,107 @@
+// The exports for C: numbers and slices in, one struct of 16 bytes out. Nothing is decided here. The shim declares each of them again, in
+// Rust (shim/src/surface.rs); a test holds it to this file.
+use file::refusal::number;
+use file::refusal::place;
+use layout::ask::Answer;
+use layout::ask::Maybe;
+use layout::ask::Number;
+ghost use mathlib.Core.Path.{_≡_};
+ghost use Rattle.wgsl.specs.Call.{checkOf, sizeCall, alignCall, minSizeCall, layoutCall, rankCall, commonCall};
+ghost use Rattle.layout.specs.Answer.{saidNumber, maybeOf};
+ghost use Rattle.surface.specs.Crossing.{crossed, crossedMaybe, told, laidOut};
+
+// An answer as it crosses to C: 0 or document 01's number, its place, the value (0 when refused).
+#[repr(C)]
+pub struct Crossing {
+    pub refusal: u32,
+    pub place: u32,
+    pub value: u64,
+}
+
+// A number or a refusal, as it crosses.
+fn cross(n: Number) -> Crossing
+    ensures { λ r. ⌜ r ≡ crossed (saidNumber n) ⌝ }
+{
+    match n {
+        Number::Is(value) => Crossing {
+            refusal: 0,
+            place: 0,
+            value: value as u64,
+        },
+        Number::Refused(r) => Crossing {
+            refusal: number(r),
+            place: place(r),
+            value: 0,
+        },
+    }
+}
+
+// A number that may be absent, as it crosses.
+fn cross_maybe(m: Maybe) -> u64
+    ensures { λ r. ⌜ r ≡ crossedMaybe (maybeOf m) ⌝ }
+{
+    match m {
+        Maybe::Is(n) => n as u64,
+        Maybe::Absent => 0xffff_ffff_ffff_ffff,
+    }
+}
+
+#[no_mangle]
+pub extern "C" fn lepugaso_surface_check(file: &[u8]) -> Crossing
+    ensures { λ r. ⌜ r ≡ crossed (checkOf (now (file .entry))) ⌝ }
+{
+    cross(lepugaso::check(file))
+}
+
+#[no_mangle]
+pub extern "C" fn lepugaso_surface_size(file: &[u8], entry: u32) -> Crossing
+    ensures { λ r. ⌜ r ≡ crossed (sizeCall (now (file .entry)) entry) ⌝ }
+{
+    cross(lepugaso::size(file, entry))
+}
+
+#[no_mangle]
+pub extern "C" fn lepugaso_surface_align(file: &[u8], entry: u32) -> Crossing
+    ensures { λ r. ⌜ r ≡ crossed (alignCall (now (file .entry)) entry) ⌝ }
+{
+    cross(lepugaso::align(file, entry))
+}
+
+#[no_mangle]
+pub extern "C" fn lepugaso_surface_min_size(file: &[u8], entry: u32) -> Crossing
+    ensures { λ r. ⌜ r ≡ crossed (minSizeCall (now (file .entry)) entry) ⌝ }
+{
+    cross(lepugaso::min_size(file, entry))
+}
+
+// A good answer is in `out`: the size, the alignment, the minimum size.
+#[no_mangle]
+pub extern "C" fn lepugaso_surface_layout(file: &[u8], entry: u32, out: &mut [u64; 3]) -> Crossing
+    ensures answer { λ r. ⌜ r ≡ crossed (told (layoutCall (now (file .entry)) entry)) ⌝ }
+    ensures out { λ r. ⌜ now (out .exit) ≡ laidOut (layoutCall (now (file .entry)) entry) (now (out .entry)) ⌝ }
+{
+    match lepugaso::layout(file, entry) {
+        Answer::Is(s) => {
+            let size = s.size;
+            let align = s.align;
+            let min = s.min;
+            *out = [cross_maybe(size), cross_maybe(align), cross_maybe(min)];
+            cross(Number::Is(0))
+        }
+        Answer::Refused(r) => cross(Number::Refused(r)),
+    }
+}
+
+#[no_mangle]
+pub extern "C" fn lepugaso_surface_rank(file: &[u8], from: u32, to: u32) -> Crossing
+    ensures { λ r. ⌜ r ≡ crossed (rankCall (now (file .entry)) from to) ⌝ }
+{
+    cross(lepugaso::rank(file, from, to))
+}
+
+#[no_mangle]
+pub extern "C" fn lepugaso_surface_common(file: &[u8], entries: &[u32]) -> Crossing
+    ensures { λ r. ⌜ r ≡ crossed (commonCall (now (file .entry)) (now (entries .entry))) ⌝ }
+{
+    cross(lepugaso::common(file, entries))
+}

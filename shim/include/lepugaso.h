@@ -1,0 +1,112 @@
+/* Lepugaso: the layout of the buffers that WGSL shaders share with a host.
+ *
+ * A layout file describes types as numbered entries; every call takes one, as bytes, and asks something of it. Nothing is kept between
+ * calls, nothing is allocated, and any bytes and any numbers may be passed: what cannot be answered is refused with a number. Threads may
+ * call at the same time.
+ *
+ * For x86-64 Linux. Link liblepugaso.a, which needs nothing but memcpy, or liblepugaso.so.
+ *
+ * The layout file, its numbers little-endian:
+ *
+ *     from byte `start` on  the types, 12 bytes each: kind u8, columns u8, rows u8, 0 u8, reference u16, 0 u16, count u32
+ *     then                  the members, 12 bytes each: type u16, flags u16, size u32, align u32
+ *     at the end            10 bytes: number of types u16 (1 to 256), of members u16 (at most 1,024), start u32, form u16 (1)
+ *
+ *     kinds 0 to 6          bool, i32, u32, f32, f16, abstract int, abstract float
+ *     7 vector              rows 2 to 4, reference to a kind 0 to 6
+ *     8 matrix              columns and rows 2 to 4, reference to f32, f16 or abstract float
+ *     9 array               reference to the element, count at least 1
+ *     10 runtime array      reference to the element
+ *     11 atomic             reference to i32 or u32
+ *     12 struct             reference to the first member, count of members, 1 to 1,024; a runtime array may be the last
+ *
+ * Types and members are numbered from 0. A type refers, itself or by its members, to types of lower numbers. Flag 1 of a member says that
+ * a size is given, flag 2 an align. What is not used is 0. examples/layout_file.h writes such a file as an initializer in C.
+ */
+#ifndef LEPUGASO_H
+#define LEPUGASO_H
+
+#include <stddef.h>
+#include <stdint.h>
+
+#ifdef __cplusplus
+extern "C" {
+#endif
+
+/* What a call answers. `refusal` is 0 and `value` the answer; or `refusal` is one of the numbers below, `place` where the fault lies (0
+ * where the number names no place), and `value` 0. */
+typedef struct lepugaso_answer {
+    uint32_t refusal;
+    uint32_t place;
+    uint64_t value;
+} lepugaso_answer;
+
+/* The three numbers of an entry's type, in bytes; LEPUGASO_ABSENT where it has none. */
+typedef struct lepugaso_layout {
+    uint64_t size;
+    uint64_t align;
+    uint64_t min_size;
+} lepugaso_layout;
+
+#define LEPUGASO_ABSENT UINT64_MAX
+
+/* A pointer that cannot be right, before anything is looked at: null with a length above 0 (null with length 0 is an empty region); null
+ * or misaligned where a result goes; misaligned where entry numbers are; a length that runs past the end of the address space; a region
+ * to be written that shares a byte with another. Nothing is touched, place and value are 0. */
+#define LEPUGASO_BAD_POINTER 65535u
+
+/* The file is refused as a whole. Every call gives these, in this order. */
+#define LEPUGASO_REFUSED_SHORT_FILE 1u /* fewer than 10 bytes */
+#define LEPUGASO_REFUSED_FORM 2u       /* the form is not 1 */
+#define LEPUGASO_REFUSED_COUNTS 3u     /* not 1 to 256 types, or more than 1,024 members */
+#define LEPUGASO_REFUSED_LENGTH 4u     /* the length is not what the trailer says */
+
+/* An entry of the file is bad: place is the lowest such entry, the number the first of these that holds of it. Every call gives these. */
+#define LEPUGASO_REFUSED_RULE 5u      /* a rule for entries or their members is broken, but the two under 6 */
+#define LEPUGASO_REFUSED_GIVEN 6u     /* a member's given size or align does not suit its type */
+#define LEPUGASO_REFUSED_TOO_LARGE 7u /* a size, offset or other number is above 4,294,967,295 */
+
+/* What was asked cannot be answered. Each call below says which of these it gives, and in which order; 10 to 17 belong to calls with a
+ * buffer, of which there is none yet. */
+#define LEPUGASO_REFUSED_ENTRY 8u         /* no entry has this number */
+#define LEPUGASO_REFUSED_ABSENT 9u        /* the type has no such number, or no layout */
+#define LEPUGASO_REFUSED_NOT_STORABLE 10u /* the type holds a bool */
+#define LEPUGASO_REFUSED_MEMBER_STEP 11u  /* a member step outside a struct, or no such member; place is the step */
+#define LEPUGASO_REFUSED_INDEX 12u        /* an index not below the count; place is the step */
+#define LEPUGASO_REFUSED_INDEX_STEP 13u   /* an index step on a struct, scalar or atomic; place is the step */
+#define LEPUGASO_REFUSED_WORDS 14u        /* the wrong number of words */
+#define LEPUGASO_REFUSED_SHORT_BUFFER 15u /* the buffer is below the size */
+#define LEPUGASO_REFUSED_F16_WORD 16u     /* a word above 65,535 for an f16; place is the word */
+#define LEPUGASO_REFUSED_LONG_BUFFER 17u  /* the buffer is above 4,294,967,295 bytes */
+#define LEPUGASO_REFUSED_NO_RANK 18u      /* no rank, no common type, or an empty list */
+
+/* How many entries the file has. Refuses 1 to 7. */
+lepugaso_answer lepugaso_check(const uint8_t *file, size_t file_len);
+
+/* The size in bytes of entry `entry`. Refuses 1 to 7, then 8, then 9: a type that has no size. */
+lepugaso_answer lepugaso_size(const uint8_t *file, size_t file_len, uint32_t entry);
+
+/* The alignment in bytes of entry `entry`. Refuses 1 to 7, then 8, then 9: a type that has no alignment. */
+lepugaso_answer lepugaso_align(const uint8_t *file, size_t file_len, uint32_t entry);
+
+/* The least size of a buffer for entry `entry`: of a runtime array one stride, of any other type its size. Refuses 1 to 7, then 8, then
+ * 9: a type that has neither, as a struct that ends in a runtime array. */
+lepugaso_answer lepugaso_min_size(const uint8_t *file, size_t file_len, uint32_t entry);
+
+/* All three numbers of entry `entry` into `out`, LEPUGASO_ABSENT for each that it has not. The value is 0. Refuses 1 to 7, then 8, and
+ * leaves `out` as it was. */
+lepugaso_answer lepugaso_layout_of(const uint8_t *file, size_t file_len, uint32_t entry, lepugaso_layout *out);
+
+/* How far WGSL's automatic conversion from entry `from` to entry `to` is: 0 for the same type, else 1 to 7; of two ranks the lower is
+ * preferred. Refuses 1 to 7, then 8 (either number), then 18: there is no such conversion. */
+lepugaso_answer lepugaso_rank(const uint8_t *file, size_t file_len, uint32_t from, uint32_t to);
+
+/* The type that all entries of a list convert to, as one of their numbers; of equal types the later. Refuses 1 to 7, then 8 (any of the
+ * numbers), then 18: there is no such type, or the list is empty. */
+lepugaso_answer lepugaso_common(const uint8_t *file, size_t file_len, const uint32_t *entries, size_t entries_len);
+
+#ifdef __cplusplus
+}
+#endif
+
+#endif

@@ -1,0 +1,134 @@
+//! The C calls of include/lepugaso.h: they test the pointers that C lends and hand them on to the proved library, and decide nothing else.
+//!
+//! Nothing here can panic, so nothing unwinds into C. That is held by the linker: the object is linked without `core`, and code that could
+//! panic would name a function of it (tools/shim).
+#![no_std]
+#![deny(missing_docs, unsafe_op_in_unsafe_fn)]
+
+mod lent;
+mod surface;
+
+use lent::Lent;
+use surface::*;
+
+/// The three numbers of an entry, absent ones as `u64::MAX`.
+#[repr(C)]
+pub struct Layout {
+    size: u64,
+    align: u64,
+    min_size: u64,
+}
+
+/// The answer where a pointer cannot be what C says it is: none of document 01's numbers, which come after it.
+const BAD_POINTER: Crossing = Crossing {
+    refusal: 65535,
+    place: 0,
+    value: 0,
+};
+
+/// How many entries the file has.
+///
+/// # Safety
+/// Of this and every call: what a pointer names is there to be read, and `out` to be written, for the whole call, and no other thread
+/// writes there meanwhile.
+#[no_mangle]
+pub unsafe extern "C" fn lepugaso_check(file: *const u8, file_len: usize) -> Crossing {
+    match Lent::new(file, file_len) {
+        // SAFETY: the caller lends the file, and its pointer has passed the tests of a slice's.
+        Some(file) => unsafe { lepugaso_surface_check(file.start(), file.count()) },
+        None => BAD_POINTER,
+    }
+}
+
+/// The size of an entry's type.
+///
+/// # Safety
+/// As `lepugaso_check`.
+#[no_mangle]
+pub unsafe extern "C" fn lepugaso_size(file: *const u8, file_len: usize, entry: u32) -> Crossing {
+    match Lent::new(file, file_len) {
+        // SAFETY: the caller lends the file, and its pointer has passed the tests of a slice's.
+        Some(file) => unsafe { lepugaso_surface_size(file.start(), file.count(), entry) },
+        None => BAD_POINTER,
+    }
+}
+
+/// The alignment of an entry's type.
+///
+/// # Safety
+/// As `lepugaso_check`.
+#[no_mangle]
+pub unsafe extern "C" fn lepugaso_align(file: *const u8, file_len: usize, entry: u32) -> Crossing {
+    match Lent::new(file, file_len) {
+        // SAFETY: the caller lends the file, and its pointer has passed the tests of a slice's.
+        Some(file) => unsafe { lepugaso_surface_align(file.start(), file.count(), entry) },
+        None => BAD_POINTER,
+    }
+}
+
+/// The minimum size of an entry's type.
+///
+/// # Safety
+/// As `lepugaso_check`.
+#[no_mangle]
+pub unsafe extern "C" fn lepugaso_min_size(file: *const u8, file_len: usize, entry: u32) -> Crossing {
+    match Lent::new(file, file_len) {
+        // SAFETY: the caller lends the file, and its pointer has passed the tests of a slice's.
+        Some(file) => unsafe { lepugaso_surface_min_size(file.start(), file.count(), entry) },
+        None => BAD_POINTER,
+    }
+}
+
+/// All three numbers of an entry's type, into `out`.
+///
+/// # Safety
+/// As `lepugaso_check`.
+#[no_mangle]
+pub unsafe extern "C" fn lepugaso_layout_of(
+    file: *const u8,
+    file_len: usize,
+    entry: u32,
+    out: *mut Layout,
+) -> Crossing {
+    match (Lent::new(file, file_len), Lent::new(out, 1)) {
+        // SAFETY: as above; the caller lends `out` to be written, it has passed the tests, no byte of it is the file's, and three `u64` in
+        // a row are an array of three.
+        (Some(file), Some(out)) if out.is_apart_from(&file) => unsafe {
+            lepugaso_surface_layout(file.start(), file.count(), entry, out.start().cast())
+        },
+        _ => BAD_POINTER,
+    }
+}
+
+/// The rank of one entry's type to another's.
+///
+/// # Safety
+/// As `lepugaso_check`.
+#[no_mangle]
+pub unsafe extern "C" fn lepugaso_rank(file: *const u8, file_len: usize, from: u32, to: u32) -> Crossing {
+    match Lent::new(file, file_len) {
+        // SAFETY: the caller lends the file, and its pointer has passed the tests of a slice's.
+        Some(file) => unsafe { lepugaso_surface_rank(file.start(), file.count(), from, to) },
+        None => BAD_POINTER,
+    }
+}
+
+/// The common type of a list of entries, as one of their numbers.
+///
+/// # Safety
+/// As `lepugaso_check`.
+#[no_mangle]
+pub unsafe extern "C" fn lepugaso_common(
+    file: *const u8,
+    file_len: usize,
+    entries: *const u32,
+    entries_len: usize,
+) -> Crossing {
+    match (Lent::new(file, file_len), Lent::new(entries, entries_len)) {
+        // SAFETY: the caller lends both, and their pointers have passed the tests of a slice's. Both are only read, so they may overlap.
+        (Some(file), Some(entries)) => unsafe {
+            lepugaso_surface_common(file.start(), file.count(), entries.start(), entries.count())
+        },
+        _ => BAD_POINTER,
+    }
+}

@@ -1,0 +1,25 @@
+//! What the Rattle archive exports (crates/surface/src/lib.rt), as it passes on x86-64: a slice is a pointer and a count of elements, an
+//! array lent is a pointer. No compiler holds these lines to that source; tests/declarations.rs does.
+
+/// An answer: 0 or document 01's number, its place, the value (0 when refused).
+#[repr(C)]
+pub struct Crossing {
+    pub refusal: u32,
+    pub place: u32,
+    pub value: u64,
+}
+
+extern "C" {
+    pub fn lepugaso_surface_check(file: *const u8, file_len: usize) -> Crossing;
+    pub fn lepugaso_surface_size(file: *const u8, file_len: usize, entry: u32) -> Crossing;
+    pub fn lepugaso_surface_align(file: *const u8, file_len: usize, entry: u32) -> Crossing;
+    pub fn lepugaso_surface_min_size(file: *const u8, file_len: usize, entry: u32) -> Crossing;
+    pub fn lepugaso_surface_layout(file: *const u8, file_len: usize, entry: u32, out: *mut [u64; 3]) -> Crossing;
+    pub fn lepugaso_surface_rank(file: *const u8, file_len: usize, from: u32, to: u32) -> Crossing;
+    pub fn lepugaso_surface_common(
+        file: *const u8,
+        file_len: usize,
+        entries: *const u32,
+        entries_len: usize,
+    ) -> Crossing;
+}

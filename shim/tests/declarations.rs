@@ -1,0 +1,134 @@
+//! The texts that say what a call takes and answers, held to each other: the exports of crates/surface, the shim's declarations of them,
+//! the shim's own calls, and the header. No compiler sees two of them at once.
+
+const RATTLE: &str = include_str!("../../crates/surface/src/lib.rt");
+const SURFACE: &str = include_str!("../src/surface.rs");
+const SHIM: &str = include_str!("../src/lib.rs");
+const HEADER: &str = include_str!("../include/lepugaso.h");
+
+/// A parameter or a field: its name and its type, in Rust's words.
+type Named = (String, String);
+
+/// A function's name, its parameters, and what it answers.
+type Signature = (String, Vec<Named>, String);
+
+/// What stands in `text` between two marks.
+fn between<'a>(text: &'a str, before: &str, after: &str) -> &'a str {
+    let rest = text
+        .split_once(before)
+        .unwrap_or_else(|| panic!("no {:?} in {:?}", before, text))
+        .1;
+    rest.split_once(after)
+        .unwrap_or_else(|| panic!("no {:?} after {:?}", after, before))
+        .0
+}
+
+/// The parts of a list, each without the space around it.
+fn parts(list: &str, separator: char) -> impl Iterator<Item = &str> {
+    list.split(separator).map(str::trim).filter(|part| !part.is_empty())
+}
+
+/// `name: Type`, as Rattle and Rust have it.
+fn named(declaration: &str) -> Named {
+    let (name, ty) = declaration.trim_start_matches("pub ").split_once(": ").unwrap();
+    (name.to_string(), ty.to_string())
+}
+
+/// `const uint8_t *name`, as C has it.
+fn named_in_c(declaration: &str) -> Named {
+    let (ty, name) = declaration.rsplit_once(' ').unwrap();
+    let (pointer, ty) = match (name.starts_with('*'), ty.strip_prefix("const ")) {
+        (true, Some(ty)) => ("*const ", ty),
+        (true, None) => ("*mut ", ty),
+        (false, _) => ("", ty),
+    };
+    let ty = match ty {
+        "uint8_t" => "u8",
+        "uint32_t" => "u32",
+        "uint64_t" => "u64",
+        "size_t" => "usize",
+        "lepugaso_layout" => "Layout",
+        other => panic!("a type of C that nothing here knows: {}", other),
+    };
+    (name.trim_start_matches('*').to_string(), format!("{}{}", pointer, ty))
+}
+
+/// A parameter of Rattle as it crosses: a slice as a pointer and a count, an array lent as a pointer, a number as it is.
+fn crossing((name, ty): Named) -> Vec<Named> {
+    let (pointer, lent) = match (ty.strip_prefix("&mut "), ty.strip_prefix('&')) {
+        (Some(lent), _) => ("*mut", lent),
+        (None, Some(lent)) => ("*const", lent),
+        (None, None) => return vec![(name, ty)],
+    };
+    match lent.trim_start_matches('[').trim_end_matches(']') {
+        array if array.contains(';') => vec![(name, format!("{} {}", pointer, lent))],
+        element => vec![
+            (name.clone(), format!("{} {}", pointer, element)),
+            (name + "_len", "usize".to_string()),
+        ],
+    }
+}
+
+/// The functions of a text of Rattle or Rust that begin with `start`.
+fn functions(text: &str, start: &str) -> Vec<Signature> {
+    let found = text.split(start).skip(1).map(|function| {
+        let name = function.split_once('(').unwrap().0;
+        let parameters = parts(between(function, "(", ")"), ',').map(named);
+        let answer = between(function, "-> ", "\n")
+            .trim_end_matches(|c| c == ';' || c == '{')
+            .trim_end();
+        (name.to_string(), parameters.collect(), answer.to_string())
+    });
+    found.collect()
+}
+
+/// The functions of the header.
+fn functions_in_c(text: &str) -> Vec<Signature> {
+    let found = text.split("\nlepugaso_answer ").skip(1).map(|function| {
+        let name = function.split_once('(').unwrap().0;
+        let parameters = parts(between(function, "(", ")"), ',').map(named_in_c);
+        (name.to_string(), parameters.collect(), "Crossing".to_string())
+    });
+    found.collect()
+}
+
+fn fields(text: &str, structure: &str) -> Vec<Named> {
+    parts(between(text, &format!("struct {} {{", structure), "}"), ',')
+        .map(named)
+        .collect()
+}
+
+fn fields_in_c(text: &str, structure: &str) -> Vec<Named> {
+    parts(between(text, &format!("struct {} {{", structure), "}"), ';')
+        .map(named_in_c)
+        .collect()
+}
+
+#[test]
+fn exports_are_declared_as_they_are() {
+    let exports = functions(RATTLE, "pub extern \"C\" fn ").into_iter();
+    let crossed =
+        exports.map(|(name, parameters, answer)| (name, parameters.into_iter().flat_map(crossing).collect(), answer));
+    assert_eq!(crossed.collect::<Vec<Signature>>(), functions(SURFACE, "pub fn "));
+    assert_eq!(fields(RATTLE, "Crossing"), fields(SURFACE, "Crossing"));
+}
+
+#[test]
+fn calls_are_in_the_header_as_they_are() {
+    assert_eq!(functions(SHIM, "pub unsafe extern \"C\" fn "), functions_in_c(HEADER));
+    assert_eq!(fields(SURFACE, "Crossing"), fields_in_c(HEADER, "lepugaso_answer"));
+    assert_eq!(fields(SHIM, "Layout"), fields_in_c(HEADER, "lepugaso_layout"));
+}
+
+#[test]
+fn there_are_as_many_calls_as_exports() {
+    assert_eq!(
+        functions(SURFACE, "pub fn ").len(),
+        RATTLE.matches("#[no_mangle]").count()
+    );
+    assert_eq!(
+        functions(SHIM, "pub unsafe extern \"C\" fn ").len(),
+        RATTLE.matches("#[no_mangle]").count()
+    );
+    assert!(RATTLE.contains("#[no_mangle]"));
+}
