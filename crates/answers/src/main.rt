@@ -1,19 +1,19 @@
 // Answers questions about layout files: reads them on standard input and writes a line for each (oracle/README.md, version 1).
 mod line;
 
-use convert::ask::common;
-use convert::ask::rank;
 use file::refusal::Refusal;
 use file::refusal::number;
 use file::refusal::place;
 use layout::ask::Answer;
 use layout::ask::Maybe;
 use layout::ask::Number;
-use layout::ask::align;
-use layout::ask::check;
-use layout::ask::layout;
-use layout::ask::min_size;
-use layout::ask::size;
+use lepugaso::align;
+use lepugaso::check;
+use lepugaso::common;
+use lepugaso::layout;
+use lepugaso::min_size;
+use lepugaso::rank;
+use lepugaso::size;
 use libc::STDIN_FILENO;
 use libc::STDOUT_FILENO;
 use line::bytes;

@@ -23,9 +23,9 @@ use Rattle.wgsl.proofs.Accepted.{accepted}
 use Rattle.file.specs.Refusal.{numberOf, placeOf}
 use Rattle.file.specs.declared.refusal.Refusal.{Refusal}
 use Rattle.file.specs.declared.trailer.Trailer.{Trailer}
-use Rattle.layout.specs.Table.{acceptedTrailer, saidChecked}
-use Rattle.layout.specs.declared.table.Checked.{Checked}
-use Rattle.layout.specs.declared.table.Checked.the-variants.{Types, Refused}
+use Rattle.table.specs.Table.{acceptedTrailer, saidChecked}
+use Rattle.table.specs.declared.Checked.{Checked}
+use Rattle.table.specs.declared.Checked.the-variants.{Types, Refused}
 use Rattle.convert.specs.Ranked.{Pair, allBelow, Listed, entryIn, entriesIn, numberIn}
 use Rattle.convert.proofs.Entries.{getElem-getD}
 

@@ -28,10 +28,10 @@ use Rattle.file.specs.declared.refusal.Refusal.{Refusal}
 use Rattle.file.specs.declared.trailer.Trailer.{Trailer}
 use Rattle.kinds.specs.Value.{kindOfType, elementStride, valueOf}
 use Rattle.kinds.specs.declared.value.Layout.{Layout}
-use Rattle.layout.specs.Table.{layoutsOf, acceptedTrailer, saidChecked, valued}
+use Rattle.table.specs.Table.{layoutsOf, acceptedTrailer, saidChecked, valued}
 use Rattle.layout.specs.Answer.{marked, saidFound}
-use Rattle.layout.specs.declared.table.Checked.{Checked}
-use Rattle.layout.specs.declared.table.Checked.the-variants.{Types, Refused}
+use Rattle.table.specs.declared.Checked.{Checked}
+use Rattle.table.specs.declared.Checked.the-variants.{Types, Refused}
 use Rattle.layout.specs.declared.ask.Found.{Found}
 
 -- ---- 0 for an absent number

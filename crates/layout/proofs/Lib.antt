@@ -1,4 +1,2 @@
-pub mod Judging
-pub mod Fills
 pub mod Asks
 pub mod Single

@@ -14,13 +14,13 @@ use Rattle.file.specs.Refusal.{numberOf, placeOf}
 use Rattle.file.specs.declared.refusal.Refusal.{Refusal}
 use Rattle.file.specs.declared.refusal.Refusal.the-variants.{Short, Form, Counts, Length, Rule, Given, Large, Missing, Absent, NoRank}
 use Rattle.file.specs.declared.trailer.Trailer.{Trailer}
-use Rattle.layout.specs.Table.{saidChecked}
+use Rattle.table.specs.Table.{saidChecked}
 use Rattle.layout.specs.Answer.{saidNumber, maybeOf, saidAnswer}
 use Rattle.layout.specs.declared.ask.Number.{Number}
 use Rattle.layout.specs.declared.ask.Maybe.{Maybe}
 use Rattle.layout.specs.declared.ask.Sizes.{Sizes}
 use Rattle.layout.specs.declared.ask.Answer.{Answer}
-use Rattle.layout.specs.declared.table.Checked.{Checked}
+use Rattle.table.specs.declared.Checked.{Checked}
 
 -- ---- anything that tells itself
 

@@ -1,15 +1,15 @@
 // The check and the four questions of document 01.
-use crate::table::Checked;
-use crate::table::layouts;
 use file::refusal::Refusal;
 use kinds::value::Layout;
+use table::Checked;
+use table::layouts;
 ghost use mathlib.Core.Path.{_≡_};
 ghost use Rattle.wgsl.specs.Types.{Ty};
 ghost use Rattle.wgsl.specs.Size.{present, minSizeOf};
 ghost use Rattle.wgsl.specs.Said.{orRefuse};
 ghost use Rattle.wgsl.specs.Call.{entryOf, checkOf, sizeCall, alignCall, minSizeCall, layoutCall};
 ghost use Rattle.kinds.specs.Value.{valueOf};
-ghost use Rattle.layout.specs.Table.{valued};
+ghost use Rattle.table.specs.Table.{valued};
 ghost use Rattle.layout.specs.Answer.{marked, saidFound, saidNumber, maybeOf, saidAnswer};
 
 // A number, or a refusal.

@@ -1,3 +1,2 @@
-// The layout library: the table of 256 layouts, and the four questions. Everything above sees only what it promises.
+// The layout library: is a file good, and what size, alignment and minimum size has an entry. Over the promises of crates/table.
 pub mod ask;
-pub mod table;

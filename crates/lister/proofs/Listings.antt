@@ -29,10 +29,10 @@ use Rattle.file.specs.declared.refusal.Refusal.{Refusal}
 use Rattle.file.specs.declared.trailer.Trailer.{Trailer}
 use Rattle.kinds.specs.Value.{valueOf, blankLayout}
 use Rattle.kinds.specs.declared.value.Layout.{Layout}
-use Rattle.layout.specs.Table.{layoutsOf, acceptedTrailer, saidChecked}
-use Rattle.layout.specs.declared.table.Checked.{Checked}
-use Rattle.layout.specs.declared.table.Checked.the-variants.{Types, Refused}
-use Rattle.layout.proofs.Judging.{trailed}
+use Rattle.table.specs.Table.{layoutsOf, acceptedTrailer, saidChecked}
+use Rattle.table.specs.declared.Checked.{Checked}
+use Rattle.table.specs.declared.Checked.the-variants.{Types, Refused}
+use Rattle.table.proofs.Judging.{trailed}
 use Rattle.layout.proofs.Asks.{check-types, check-refused}
 use Rattle.text.specs.Put.{Put, marked, line, heading}
 use Rattle.text.proofs.Lines.{marked-absent, marked-number}

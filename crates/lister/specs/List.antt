@@ -10,7 +10,7 @@ use Rattle.wgsl.specs.Types.{Ty, everywhere}
 use Rattle.wgsl.specs.Said.{good}
 use Rattle.wgsl.specs.Rule.{isWellFormed}
 use Rattle.kinds.specs.declared.value.Layout.{Layout}
-use Rattle.layout.specs.Table.{layoutsOf}
+use Rattle.table.specs.Table.{layoutsOf}
 
 pub record Entries (ls : List Layout) (types : ℕ) (ts : List Ty) : Type 0 where
   pub layouts : ls ≡ layoutsOf (good ts)

@@ -2,10 +2,10 @@
 use file::refusal::number;
 use file::refusal::place;
 use kinds::value::Layout;
-use layout::table::Checked;
-use layout::table::layouts;
 use libc::STDIN_FILENO;
 use libc::STDOUT_FILENO;
+use table::Checked;
+use table::layouts;
 use text::put_heading;
 use text::put_line;
 use text::put_refused;

@@ -24,11 +24,11 @@ use Rattle.kinds.specs.declared.value.Made.{Made}
 use Rattle.kinds.specs.declared.value.Made.the-variants.{Laid}
 use Rattle.file.specs.declared.refusal.Refusal.{Refusal}
 use Rattle.file.specs.Refusal.{numberOf, placeOf}
-use Rattle.layout.specs.declared.table.Checked.{Checked}
-use Rattle.layout.specs.declared.table.Checked.the-variants.{Refused}
-use Rattle.layout.specs.Table.{layoutsOf, acceptedTrailer, saidChecked, Referred}
+use Rattle.table.specs.declared.Checked.{Checked}
+use Rattle.table.specs.declared.Checked.the-variants.{Refused}
+use Rattle.table.specs.Table.{layoutsOf, acceptedTrailer, saidChecked, Referred}
 use Rattle.structs.specs.Run.{Lower}
-use Rattle.layout.proofs.Judging.{Trailed, trailed, types-of, says, entry-laid, entry-refused}
+use Rattle.table.proofs.Judging.{Trailed, trailed, types-of, says, entry-laid, entry-refused}
 
 -- ---- what a file's verdict says of the table
 

@@ -1,10 +1,10 @@
 -- A refusal of the trailer is the file's; a good one is handed on, since `check_trailer` says what `checkTrailer` does.
 use mathlib.Core.Path.{sym, ap, _∙_}
 use Rattle.file.specs.Fields.{saidTrailer}
-use Rattle.layout.proofs.Fills.{types-refused, refuses}
+use Rattle.table.proofs.Fills.{types-refused, refuses}
 use borrow.Author.Needs.{needs}
-use Rattle.layout.proofs.table.layouts.Statement.{statement}
-use Rattle.layout.proofs.table.layouts.Tie as tie
+use Rattle.table.proofs.layouts.Statement.{statement}
+use Rattle.table.proofs.layouts.Tie as tie
 
 fill-requires : tie.Need-fill-requires
 fill-requires c κs =

@@ -13,10 +13,10 @@ use Rattle.file.specs.Fields.{trailerIs}
 use Rattle.kinds.specs.Value.{madeOf}
 use Rattle.kinds.proofs.Zero.{unused-two, denied, granted}
 use Rattle.kinds.specs.declared.value.Made.{Made}
-use Rattle.layout.proofs.Judging.{entry-is, base-is, members-are, entry-used, entry-struct, entry-plain, says}
-use Rattle.layout.proofs.Fills.{Filled, filled-none, filled-lower, filled-there, filled-missing, filled-more, filled-refused, filled-trailer, filled-layouts, refuses}
-use Rattle.layout.proofs.table.fill.Statement.{statement}
-use Rattle.layout.proofs.table.fill.Tie as tie
+use Rattle.table.proofs.Judging.{entry-is, base-is, members-are, entry-used, entry-struct, entry-plain, says}
+use Rattle.table.proofs.Fills.{Filled, filled-none, filled-lower, filled-there, filled-missing, filled-more, filled-refused, filled-trailer, filled-layouts, refuses}
+use Rattle.table.proofs.fill.Statement.{statement}
+use Rattle.table.proofs.fill.Tie as tie
 
 abbrev Inv-loop : tie.InvT-loop
 Inv-loop f t types members start base ls₀ k₀ ls k = Filled f (trailerIs t) k ls

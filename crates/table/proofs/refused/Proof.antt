@@ -2,8 +2,8 @@
 use mathlib.Core.Path.{refl, ap}
 use borrow.Author.Needs.{needs}
 use lib.ListN.{replicate}
-use Rattle.layout.proofs.table.refused.Statement.{statement}
-use Rattle.layout.proofs.table.refused.Tie as tie
+use Rattle.table.proofs.refused.Statement.{statement}
+use Rattle.table.proofs.refused.Tie as tie
 
 returns : tie.Need-returns
 returns c = (refl, ap (replicate 256) (c .blank .ensures))

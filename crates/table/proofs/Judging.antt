@@ -23,7 +23,7 @@ use Rattle.kinds.specs.Value.{valueOf, verdictOn, madeOf}
 use Rattle.kinds.specs.declared.value.Layout.{Layout}
 use Rattle.kinds.specs.declared.value.Made.{Made}
 use Rattle.kinds.specs.declared.value.Made.the-variants.{Laid, Rule, Given, Large}
-use Rattle.layout.specs.Table.{plainMade, valued}
+use Rattle.table.specs.Table.{plainMade, valued}
 use Rattle.structs.specs.Run.{memberPlace}
 
 -- ---- a good trailer

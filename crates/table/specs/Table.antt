@@ -18,8 +18,8 @@ use Rattle.file.specs.Refusal.{numberOf, placeOf}
 use Rattle.file.specs.Fields.{trailerIs}
 use Rattle.kinds.specs.declared.value.Layout.{Layout}
 use Rattle.kinds.specs.Value.{valueOf, blankLayout}
-use Rattle.layout.specs.declared.table.Checked.{Checked}
-use Rattle.layout.specs.declared.table.Checked.the-variants.{Types, Refused}
+use Rattle.table.specs.declared.Checked.{Checked}
+use Rattle.table.specs.declared.Checked.the-variants.{Types, Refused}
 
 -- "A table of 256 layouts": those of the types, and blanks past them; blank where the file is refused
 unfoldable pub layoutsOf : Said (List Ty) → List Layout

@@ -21,7 +21,7 @@ ghost use Rattle.wgsl.specs.File.{checkTrailer};
 ghost use Rattle.wgsl.specs.Rule.{typesOf};
 ghost use Rattle.file.specs.Fields.{trailerIs, entryIs};
 ghost use Rattle.kinds.specs.Value.{madeOf, blankLayout};
-ghost use Rattle.layout.specs.Table.{layoutsOf, acceptedTrailer, saidChecked, Referred, plainMade};
+ghost use Rattle.table.specs.Table.{layoutsOf, acceptedTrailer, saidChecked, Referred, plainMade};
 
 pub enum Checked {
     Types(Trailer),

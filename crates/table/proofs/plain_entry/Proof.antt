@@ -3,10 +3,10 @@ use mathlib.Core.Path.{_∙_}
 use mathlib.Core.Option.{some}
 use native.Mathlib.Omega.{arith}
 use borrow.Author.Tests.{not-true, not-false}
-use Rattle.layout.proofs.Judging.{plain-scalar, plain-over, plain-missing}
+use Rattle.table.proofs.Judging.{plain-scalar, plain-over, plain-missing}
 use borrow.Author.Needs.{needs}
-use Rattle.layout.proofs.table.plain_entry.Statement.{statement}
-use Rattle.layout.proofs.table.plain_entry.Tie as tie
+use Rattle.table.proofs.plain_entry.Statement.{statement}
+use Rattle.table.proofs.plain_entry.Tie as tie
 
 returns : tie.Need-returns
 returns c below r = c .scalar-entry .ensures ∙ plain-scalar below _ (c .before .if1 .taken)
