@@ -6,7 +6,7 @@ use layout::ask::Number;
 use libc::STDIN_FILENO;
 use libc::STDOUT_FILENO;
 
-fn say(n: Number, end: &[u8]) {
+fn say(n: Number) {
     match n {
         Number::Is(v) => {
             io::print_decimal(STDOUT_FILENO, v as u64);
@@ -15,33 +15,36 @@ fn say(n: Number, end: &[u8]) {
             io::write_all(STDOUT_FILENO, b"-");
         }
     }
-    io::write_all(STDOUT_FILENO, end);
 }
 
-fn say_ranks(file: &[u8], a: u32) {
-    for b in 0..6 {
-        say(rank(file, a, b), b" ");
-    }
-    say(rank(file, a, 6), b"\n");
-}
-
-fn say_common(file: &[u8], a: u32) {
-    for b in 0..6 {
+fn answer(file: &[u8], a: u32, b: u32, commons: bool) -> Number {
+    if commons {
         let pair = [a, b];
-        say(common(file, &pair), b" ");
+        return common(file, &pair);
     }
-    let pair = [a, 6];
-    say(common(file, &pair), b"\n");
+    rank(file, a, b)
+}
+
+fn say_row(file: &[u8], a: u32, commons: bool) {
+    say(answer(file, a, 0, commons));
+    for b in 1..7 {
+        io::write_all(STDOUT_FILENO, b" ");
+        say(answer(file, a, b, commons));
+    }
+    io::write_all(STDOUT_FILENO, b"\n");
+}
+
+fn say_rows(file: &[u8], commons: bool) {
+    for a in 0..7 {
+        say_row(file, a, commons);
+    }
 }
 
 fn main() {
     let mut buffer = [0u8; 1024];
     let n = io::read_full(STDIN_FILENO, &mut buffer);
-    for a in 0..7 {
-        say_ranks(&buffer[..n], a);
-    }
+    let file = &buffer[..n];
+    say_rows(file, false);
     io::write_all(STDOUT_FILENO, b"\n");
-    for a in 0..7 {
-        say_common(&buffer[..n], a);
-    }
+    say_rows(file, true);
 }

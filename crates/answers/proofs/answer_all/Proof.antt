@@ -1,3 +1,4 @@
+-- Each turn passes a newline; the size of the file is a count of the room's front.
 use Rattle.answers.specs.Count.{Counted}
 use Prim.Native.Nat.{_-_}
 use native.Mathlib.Omega.{arith}

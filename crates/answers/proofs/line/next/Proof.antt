@@ -1,3 +1,4 @@
+-- A plain loop; where it stops is within the text, and so a count of its front.
 use Rattle.answers.proofs.Counts.{counted}
 use Prim.Native.Nat.{_-_, _≤_}
 use native.Mathlib.Omega.{arith}

@@ -1,3 +1,4 @@
+-- Before each digit the number is below 2^32, so ten times it and a digit are below 2^64.
 use Prim.Native.Nat.{_-_, _≤_}
 use native.Mathlib.Omega.{arith}
 use borrow.Author.Needs.{needs}

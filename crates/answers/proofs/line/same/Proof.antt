@@ -1,3 +1,4 @@
+-- A plain loop; both texts have the length that it counts to.
 use Prim.Native.Nat.{_-_, _≤_}
 use native.Mathlib.Omega.{arith}
 use borrow.Author.Needs.{needs}
