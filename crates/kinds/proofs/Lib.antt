@@ -1,12 +1,4 @@
 pub mod Zero
-pub mod Limits
 pub mod Verdict
 pub mod Scalar
 pub mod Align
-pub mod Vector
-pub mod Matrix
-pub mod Atomic
-pub mod Presence
-pub mod Arrays
-pub mod Runtimes
-pub mod Referring

@@ -1,4 +1,4 @@
-// The layout of an entry, kind by kind, from the layout of the entry that it refers to. Structs are in crates/layout.
-pub mod over;
+// What the table holds of an entry, and the kinds that refer to no other: scalars. Those that refer to one are in crates/over, structs in
+// crates/structs.
 pub mod scalars;
 pub mod value;

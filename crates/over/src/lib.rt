@@ -1,0 +1,248 @@
+// The kinds that refer to one lower entry: 7 to 11. Each is handed that entry's layout.
+use file::fields::Entry;
+use kinds::scalars::scalar_size;
+use kinds::scalars::vector_align;
+use kinds::scalars::zeros;
+use kinds::value::Layout;
+use kinds::value::Made;
+use numbers::limit::Limited;
+use numbers::limit::product;
+use numbers::limit::round_up;
+ghost use mathlib.Core.Path.{_≡_};
+ghost use mathlib.Core.Option.{some};
+ghost use mathlib.Core.Bool.{true};
+ghost use Rattle.wgsl.specs.Types.{Ty, everywhere};
+ghost use Rattle.wgsl.specs.Rule.{isWellFormed, vectorMade, matrixMade, arrayMade, runtimeMade, atomicMade, overMade};
+ghost use Rattle.file.specs.Fields.{entryIs};
+ghost use Rattle.kinds.specs.Value.{madeOf, Known, valueOf};
+
+// "7 vector: rows 2-4, reference to a kind 0-6"
+pub fn vector(e: Entry, l: Layout) -> Made
+    requires { ⌜ Known l ⌝ }
+    ensures { λ r. ⌜ ((t : Ty) → l ≡ valueOf t → r ≡ madeOf (vectorMade (some t) (entryIs e))) ⌝ }
+{
+    let rows = e.rows;
+    let kind = l.kind;
+    if !zeros(e.columns, e.count, 0, 0) {
+        return Made::Rule;
+    }
+    if 6 < kind {
+        return Made::Rule;
+    }
+    if rows < 2 {
+        return Made::Rule;
+    }
+    if 4 < rows {
+        return Made::Rule;
+    }
+    let w = scalar_size(kind);
+    let align = vector_align(rows, kind);
+    if align == 0 {
+        return Made::Laid(Layout {
+            kind: 7,
+            size: rows * w,
+            align: 0,
+            stride: w,
+            offset: 0,
+            words: 0,
+            opens: false,
+            storable: false,
+        });
+    }
+    Made::Laid(Layout {
+        kind: 7,
+        size: rows * w,
+        align,
+        stride: w,
+        offset: 0,
+        words: rows,
+        opens: false,
+        storable: l.storable,
+    })
+}
+
+// "8 matrix: columns 2-4, rows 2-4, reference to f32, f16 or abstract float"
+pub fn matrix(e: Entry, l: Layout) -> Made
+    requires { ⌜ Known l ⌝ }
+    ensures { λ r. ⌜ ((t : Ty) → l ≡ valueOf t → r ≡ madeOf (matrixMade (some t) (entryIs e))) ⌝ }
+{
+    let columns = e.columns;
+    let rows = e.rows;
+    let kind = l.kind;
+    if !zeros(e.count, 0, 0, 0) {
+        return Made::Rule;
+    }
+    if kind < 3 {
+        return Made::Rule;
+    }
+    if 6 < kind {
+        return Made::Rule;
+    }
+    if kind == 5 {
+        return Made::Rule;
+    }
+    if columns < 2 {
+        return Made::Rule;
+    }
+    if 4 < columns {
+        return Made::Rule;
+    }
+    if rows < 2 {
+        return Made::Rule;
+    }
+    if 4 < rows {
+        return Made::Rule;
+    }
+    let align = vector_align(rows, kind);
+    if align == 0 {
+        return Made::Laid(Layout {
+            kind: 8,
+            size: 0,
+            align: 0,
+            stride: 0,
+            offset: 0,
+            words: 0,
+            opens: false,
+            storable: false,
+        });
+    }
+    Made::Laid(Layout {
+        kind: 8,
+        size: columns * align,
+        align,
+        stride: align,
+        offset: 0,
+        words: columns * rows,
+        opens: false,
+        storable: l.storable,
+    })
+}
+
+// "9 array: reference, count at least 1"; an array's element isn't open.
+pub fn array(e: Entry, l: Layout) -> Made
+    requires { ⌜ Known l ⌝ }
+    ensures { λ r. ⌜ ((t : Ty) → l ≡ valueOf t → everywhere isWellFormed t ≡ true → r ≡ madeOf (arrayMade (some t) (entryIs e))) ⌝ }
+{
+    let count = e.count;
+    if !zeros(e.columns, e.rows, 0, 0) {
+        return Made::Rule;
+    }
+    if count < 1 {
+        return Made::Rule;
+    }
+    if l.opens {
+        return Made::Rule;
+    }
+    let align = l.align;
+    let element = l.size;
+    let words = l.words;
+    if align == 0 {
+        return Made::Laid(Layout {
+            kind: 9,
+            size: 0,
+            align: 0,
+            stride: 0,
+            offset: 0,
+            words: 0,
+            opens: false,
+            storable: false,
+        });
+    }
+    let Limited::Is(stride) = round_up(align, element) else {
+        return Made::Large;
+    };
+    let Limited::Is(size) = product(count, stride) else {
+        return Made::Large;
+    };
+    Made::Laid(Layout {
+        kind: 9,
+        size,
+        align,
+        stride,
+        offset: 0,
+        words: count * words,
+        opens: false,
+        storable: l.storable,
+    })
+}
+
+// "10 runtime array: reference"; its element isn't open, and has size and alignment.
+pub fn runtime(e: Entry, l: Layout) -> Made
+    requires { ⌜ Known l ⌝ }
+    ensures { λ r. ⌜ ((t : Ty) → l ≡ valueOf t → everywhere isWellFormed t ≡ true → r ≡ madeOf (runtimeMade (some t) (entryIs e))) ⌝ }
+{
+    if !zeros(e.columns, e.rows, e.count, 0) {
+        return Made::Rule;
+    }
+    if l.opens {
+        return Made::Rule;
+    }
+    let align = l.align;
+    if align == 0 {
+        return Made::Rule;
+    }
+    let Limited::Is(stride) = round_up(align, l.size) else {
+        return Made::Large;
+    };
+    Made::Laid(Layout {
+        kind: 10,
+        size: 0,
+        align,
+        stride,
+        offset: 0,
+        words: 0,
+        opens: true,
+        storable: l.storable,
+    })
+}
+
+// "11 atomic: reference to i32 or u32"
+pub fn atomic(e: Entry, l: Layout) -> Made
+    requires { ⌜ Known l ⌝ }
+    ensures { λ r. ⌜ ((t : Ty) → l ≡ valueOf t → r ≡ madeOf (atomicMade (some t) (entryIs e))) ⌝ }
+{
+    let kind = l.kind;
+    if !zeros(e.columns, e.rows, e.count, 0) {
+        return Made::Rule;
+    }
+    if kind < 1 {
+        return Made::Rule;
+    }
+    if 2 < kind {
+        return Made::Rule;
+    }
+    Made::Laid(Layout {
+        kind: 11,
+        size: 4,
+        align: 4,
+        stride: 0,
+        offset: 0,
+        words: 1,
+        opens: false,
+        storable: true,
+    })
+}
+
+// An entry of a kind 7 to 11.
+pub fn over_entry(e: Entry, l: Layout) -> Made
+    requires { ⌜ Known l ⌝ }
+    ensures { λ r. ⌜ ((t : Ty) → l ≡ valueOf t → everywhere isWellFormed t ≡ true → r ≡ madeOf (overMade (some t) (entryIs e))) ⌝ }
+{
+    let kind = e.kind;
+    if kind == 7 {
+        return vector(e, l);
+    }
+    if kind == 8 {
+        return matrix(e, l);
+    }
+    if kind == 9 {
+        return array(e, l);
+    }
+    if kind == 10 {
+        return runtime(e, l);
+    }
+    if kind == 11 {
+        return atomic(e, l);
+    }
+    Made::Rule
+}
