@@ -56,7 +56,7 @@ pub fn examples(document: &str) -> Vec<Example> {
         if let Some(heading) = line.strip_prefix("### ") {
             name = heading.trim_matches('`').into();
         }
-        let Some(said) = line.strip_prefix("    ") else { continue };
+        let Some(said) = line.strip_prefix("    ").filter(|_| !name.is_empty()) else { continue };
         if let Some(hex) = said.strip_prefix("file ") {
             file = parse_file(hex);
         } else if let Some(hex) = said.strip_prefix("  ") {
@@ -71,7 +71,7 @@ pub fn examples(document: &str) -> Vec<Example> {
                 rust: rust.clone(),
                 lepugaso: answer.into(),
             });
-        } else if !said.starts_with("make ") {
+        } else {
             question = Some(Question::parse(said));
         }
     }
