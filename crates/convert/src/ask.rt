@@ -2,13 +2,13 @@
 use crate::common::Chosen;
 use crate::common::all_below;
 use crate::common::common_of_all;
-use crate::rank::entry_rank;
-use crate::scalar::Ranked;
 use file::refusal::Refusal;
 use file::trailer::wide;
 use layout::ask::Number;
 use layout::table::Checked;
 use layout::table::layouts;
+use rank::entry_rank;
+use rank::scalar::Ranked;
 ghost use mathlib.Core.Path.{_≡_};
 ghost use Rattle.wgsl.specs.Call.{rankCall, commonCall};
 ghost use Rattle.layout.specs.Answer.{saidNumber};

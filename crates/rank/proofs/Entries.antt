@@ -20,7 +20,7 @@ use Rattle.wgsl.specs.Rank.{kindOf, outlineOf}
 use Rattle.wgsl.proofs.Absent.{some-not-none}
 use Rattle.wgsl.proofs.Accepted.{accepted, below-entry, judged-good}
 use Rattle.wgsl.proofs.Fields.{OverScalar, OverType, scalar-entry, vector-entry, matrix-entry, array-entry, runtime-entry, atomic-entry, struct-entry, kind-bounded}
-use Rattle.convert.proofs.Outlines.{front}
+use Rattle.rank.proofs.Outlines.{front}
 
 module _ {A : Type 0} where
   -- An element that is found has a number below the length.

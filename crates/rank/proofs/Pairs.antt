@@ -12,15 +12,13 @@ use native.Mathlib.Omega.{arith}
 use native.Mathlib.Nat.{eq-or-lt-of-le}
 use borrow.Author.Tests.{leb-true, leb-false}
 use lib.Dec.{leb}
-use lib.ListN.{length, getD, getElem?}
-use Rattle.wgsl.specs.Types.{Scalar, bool, Ty, scalar}
-use Rattle.wgsl.specs.Said.{good}
+use lib.ListN.{length, getElem?}
+use Rattle.wgsl.specs.Types.{Scalar, Ty, scalar}
 use Rattle.wgsl.specs.File.{trailerOf, TypeEntry, typeEntryAt}
-use Rattle.wgsl.specs.Rule.{typesOf}
 use Rattle.wgsl.specs.Rank.{kindOf, scalarRank, rankOf}
-use Rattle.convert.specs.Ranked.{Pair}
-use Rattle.convert.proofs.Entries.{getElem-getD, entry-inside, At, scalar-at, vector-at, matrix-at, array-at, runtime-at, atomic-at, struct-at, front-scalar, front-kind, reference-lower, scalar-kind}
-use Rattle.convert.proofs.Outlines.{front-other, scalars, vector-same, vector-other, matrix-same, matrix-columns, matrix-rows, array-same, array-other, runtimes, atomic-same, atomic-other, struct-same, struct-other}
+use Rattle.rank.specs.Ranked.{Pair}
+use Rattle.rank.proofs.Entries.{entry-inside, At, scalar-at, vector-at, matrix-at, array-at, runtime-at, atomic-at, struct-at, front-scalar, front-kind, reference-lower, scalar-kind}
+use Rattle.rank.proofs.Outlines.{front-other, scalars, vector-same, vector-other, matrix-same, matrix-columns, matrix-rows, array-same, array-other, runtimes, atomic-same, atomic-other, struct-same, struct-other}
 
 module _ {f : List ℕ} {ts : List Ty} {start a b : ℕ} (p : Pair f ts start a b) where
   -- The bytes of the two entries lie inside the file.
@@ -29,20 +27,6 @@ module _ {f : List ℕ} {ts : List Ty} {start a b : ℕ} (p : Pair f ts start a 
 
   pub second-inside : (start ≡ trailerOf f .start) × (start + 12 * b + 12 ≤ length f)
   second-inside = (p .start-is, entry-inside f ts (p .accepted) start b (p .start-is) (p .second))
-
-  pub swapped : Pair f ts start b a
-  swapped = record { accepted = p .accepted; start-is = p .start-is; first = p .second; second = p .first }
-
-  module _ {x y : ℕ} (x-is : x ≡ a) (y-is : y ≡ b) where
-    pub renamed : Pair f ts start x y
-    renamed = rw (x-is, y-is) p
-
-    -- What is said of the types of entries x and y is said of the types that a and b name.
-    pub rank-named : {o r : Option ℕ} → o ≡ r → ((ts : List Ty) (s t : Ty) → typesOf f ≡ good ts → getElem? ts x ≡ some s → getElem? ts y ≡ some t → o ≡ rankOf s t) → rankOf (getD ts a (scalar bool)) (getD ts b (scalar bool)) ≡ r
-    rank-named e h =
-        let s-is = getElem-getD ts a (scalar bool) (p .first) in
-        let t-is = getElem-getD ts b (scalar bool) (p .second) in
-        sym (h ts _ _ (p .accepted) (rw x-is s-is) (rw y-is t-is)) ∙ e
 
 -- Entries a and b: their types s and t, their fields x and y.
 pub record Two (f : List ℕ) (ts : List Ty) (a b : ℕ) (s t : Ty) (x y : TypeEntry) : Type 0 where

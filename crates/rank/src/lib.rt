@@ -1,4 +1,6 @@
-// The rank of one entry's type to another's.
+// The rank of one entry's type to another's, in an accepted file.
+pub mod scalar;
+
 use crate::scalar::Ranked;
 use crate::scalar::scalar_rank;
 use file::fields::Entry;
@@ -15,7 +17,7 @@ ghost use Rattle.wgsl.specs.File.{trailerOf, typeEntryAt};
 ghost use Rattle.wgsl.specs.Rule.{typesOf};
 ghost use Rattle.wgsl.specs.Rank.{rankOf};
 ghost use Rattle.file.specs.Fields.{entryIs};
-ghost use Rattle.convert.specs.Ranked.{rankIs, Pair};
+ghost use Rattle.rank.specs.Ranked.{rankIs, Pair};
 
 // Type entry `k`, where the entries begin at `start`.
 fn entry_of(f: &[u8], start: usize, k: usize) -> Entry

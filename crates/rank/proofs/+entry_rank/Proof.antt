@@ -11,19 +11,19 @@ use Rattle.wgsl.specs.Types.{bool, Ty, scalar}
 use Rattle.wgsl.specs.Said.{good}
 use Rattle.wgsl.specs.Rule.{typesOf}
 use Rattle.file.specs.Fields.{entryIs}
-use Rattle.convert.specs.Ranked.{Pair}
-use Rattle.convert.proofs.Entries.{getElem-getD, kind-high}
-use Rattle.convert.proofs.Pairs.{first-inside, second-inside, Two, references-lower, scalars-rank, scalar-other, kinds-other, structs-same, structs-other, arrays-other, arrays-rank, runtimes-rank, rows-other, columns-other, atomics-same, atomics-other, vectors-rank, matrices-rank}
+use Rattle.rank.specs.Ranked.{Pair}
+use Rattle.rank.proofs.Entries.{getElem-getD, kind-high}
+use Rattle.rank.proofs.Pairs.{first-inside, second-inside, Two, references-lower, scalars-rank, scalar-other, kinds-other, structs-same, structs-other, arrays-other, arrays-rank, runtimes-rank, rows-other, columns-other, atomics-same, atomics-other, vectors-rank, matrices-rank}
 use borrow.Fn.Kinds.{In}
 use borrow.Fn.PlainCycle.{Measures, is, falls, and}
-use Rattle.convert.proofs.rank.entry_rank.Reads as entry-rank
-use Rattle.convert.proofs.rank.entry_rank.Kinds as entry-rank-kinds
-use Rattle.convert.proofs.rank.+entry_rank.Lts-entry_rank as lts
-use Rattle.convert.proofs.rank.entry_of.Reads as entry-of-reads
-use Rattle.convert.proofs.scalar.scalar_rank.Reads as scalar-rank-reads
+use Rattle.rank.proofs.entry_rank.Reads as entry-rank
+use Rattle.rank.proofs.entry_rank.Kinds as entry-rank-kinds
+use Rattle.rank.proofs.+entry_rank.Lts-entry_rank as lts
+use Rattle.rank.proofs.entry_of.Reads as entry-of-reads
+use Rattle.rank.proofs.scalar.scalar_rank.Reads as scalar-rank-reads
 use Rattle.file.proofs.trailer.wide.Reads as wide-reads
-use Rattle.convert.proofs.rank.+entry_rank.{statement}
-use Rattle.convert.proofs.rank.+entry_rank.Tie.{close}
+use Rattle.rank.proofs.+entry_rank.{statement}
+use Rattle.rank.proofs.+entry_rank.Tie.{close}
 
 abbrev μ-entry-rank : Measures 1 entry-rank-kinds.ps ℕ
 μ-entry-rank κs a = a .1 .1 .0

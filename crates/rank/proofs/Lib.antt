@@ -1,0 +1,4 @@
+pub mod Entries
+pub mod Outlines
+pub mod Pairs
+pub mod Scalars
