@@ -2,12 +2,14 @@
 -- Definitions only. Assumes nothing.
 use Prim.Native.Nat.{ℕ, _<_}
 use mathlib.Core.Path.{_≡_}
+use mathlib.Core.Bool.{cond}
 use mathlib.Core.List.{List}
 use mathlib.Core.Option.{Option, none, some}
+use lib.Dec.{eqb}
 use lib.ListN.{length}
-use Rattle.wgsl.specs.Types.{Ty}
+use Rattle.wgsl.specs.Types.{Scalar, Ty, vector, matrix, atomic}
 use Rattle.wgsl.specs.Said.{good}
-use Rattle.wgsl.specs.File.{trailerOf}
+use Rattle.wgsl.specs.File.{trailerOf, TypeEntry}
 use Rattle.wgsl.specs.Rule.{typesOf}
 use Rattle.rank.specs.declared.scalar.Ranked.{Ranked}
 
@@ -21,3 +23,7 @@ pub record Pair (f : List ℕ) (ts : List Ty) (start a b : ℕ) : Type 0 where
   pub start-is : start ≡ trailerOf f .start
   pub first : a < length ts
   pub second : b < length ts
+
+-- the type over a scalar that the fields of an entry say: of kind 7 a vector, of kind 8 a matrix, else (11) an atomic
+unfoldable pub overScalar : TypeEntry → Scalar → Ty
+overScalar x s = cond (eqb (x .kind) 7) (vector (x .rows) s) (cond (eqb (x .kind) 8) (matrix (x .columns) (x .rows) s) (atomic s))
