@@ -1,4 +1,4 @@
--- What is left of a list: whether all its numbers are below a bound, and the common type of its entries (specs/Ranked; crates/wgsl, specs/Rank).
+-- What is left of a list: whether all its numbers are below a bound, and the common type of its entries (specs/Chosen; crates/wgsl, specs/Rank).
 --
 -- In order: the test of the bound, from a number on; the common type of two entries, by their ranks; of a list, from a number on.
 -- Assumes nothing.
@@ -18,7 +18,8 @@ use Rattle.wgsl.specs.Types.{bool, Ty, scalar}
 use Rattle.wgsl.specs.Rank.{rankOf, Entry, firstOf, commonOf, commonWith, commonOfAll}
 use Rattle.wgsl.proofs.Absent.{both-hold}
 use Rattle.wgsl.proofs.Rank.{common-one}
-use Rattle.convert.specs.Ranked.{Pair, allBelow, Listed, entryIn, entriesIn, numberIn}
+use Rattle.rank.specs.Ranked.{Pair}
+use Rattle.convert.specs.Chosen.{allBelow, Listed, entryIn, entriesIn, numberIn}
 
 drop-none : (l : List ℕ) (i : ℕ) → length l ≤ i → drop i l ≡ []
 drop-none [] zero h = refl

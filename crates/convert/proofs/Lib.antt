@@ -1,6 +1,3 @@
-pub mod Entries
 pub mod Folds
-pub mod Outlines
-pub mod Pairs
-pub mod Scalars
+pub mod Named
 pub mod Questions

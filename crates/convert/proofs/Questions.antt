@@ -26,8 +26,9 @@ use Rattle.file.specs.declared.trailer.Trailer.{Trailer}
 use Rattle.table.specs.Table.{acceptedTrailer, saidChecked}
 use Rattle.table.specs.declared.Checked.{Checked}
 use Rattle.table.specs.declared.Checked.the-variants.{Types, Refused}
-use Rattle.convert.specs.Ranked.{Pair, allBelow, Listed, entryIn, entriesIn, numberIn}
-use Rattle.convert.proofs.Entries.{getElem-getD}
+use Rattle.rank.specs.Ranked.{Pair}
+use Rattle.rank.proofs.Entries.{getElem-getD}
+use Rattle.convert.specs.Chosen.{allBelow, Listed, entryIn, entriesIn, numberIn}
 
 -- ---- the entries of a list
 

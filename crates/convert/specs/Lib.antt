@@ -1,1 +1,1 @@
-pub mod Ranked
+pub mod Chosen

@@ -2,11 +2,11 @@
 use crate::common::Chosen;
 use crate::common::all_below;
 use crate::common::common_of_all;
-use crate::rank::entry_rank;
-use crate::scalar::Ranked;
 use file::refusal::Refusal;
 use file::trailer::wide;
 use layout::ask::Number;
+use rank::entry_rank;
+use rank::scalar::Ranked;
 use table::Checked;
 use table::layouts;
 ghost use mathlib.Core.Path.{_≡_};

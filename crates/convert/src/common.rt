@@ -1,16 +1,15 @@
 // The common type of a list of entries.
-use crate::rank::entry_rank;
-use crate::scalar::Ranked;
 use file::trailer::wide;
+use rank::entry_rank;
+use rank::scalar::Ranked;
 ghost use mathlib.Core.Path.{_≡_};
 ghost use mathlib.Core.List.{List};
 ghost use Prim.Native.Nat.{_<_};
 ghost use lib.ListN.{length};
 ghost use Rattle.wgsl.specs.Types.{Ty};
-ghost use Rattle.wgsl.specs.Said.{good};
-ghost use Rattle.wgsl.specs.Rule.{typesOf};
 ghost use Rattle.wgsl.specs.Rank.{commonOf, commonOfAll};
-ghost use Rattle.convert.specs.Ranked.{Pair, Listed, allBelow, chosenIs, entryIn, entriesIn, numberIn};
+ghost use Rattle.rank.specs.Ranked.{Pair};
+ghost use Rattle.convert.specs.Chosen.{Listed, allBelow, chosenIs, entryIn, entriesIn, numberIn};
 
 // An entry number, or none.
 pub enum Chosen {

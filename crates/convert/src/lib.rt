@@ -1,5 +1,3 @@
-// Conversion ranks and common types, over the promises of crates/layout.
+// Conversion ranks and common types, over the promises of crates/layout and crates/rank.
 pub mod ask;
 pub mod common;
-pub mod rank;
-pub mod scalar;

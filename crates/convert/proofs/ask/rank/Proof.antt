@@ -2,7 +2,7 @@
 use mathlib.Core.Path.{ap}
 use native.Mathlib.Omega.{arith}
 use Rattle.wgsl.specs.Said.{orRefuse}
-use Rattle.convert.specs.Ranked.{rankIs}
+use Rattle.rank.specs.Ranked.{rankIs}
 use Rattle.convert.proofs.Questions.{Taken, told, rank-refused, rank-past, rank-past-second, pair-there, rank-is}
 use borrow.Author.Needs.{needs}
 use Rattle.convert.proofs.ask.rank.Statement.{statement}

@@ -4,7 +4,7 @@ use mathlib.Core.Path.{_≡_, refl, sym, _∙_}
 use native.Mathlib.Omega.{arith}
 use borrow.Author.Needs.{needs}
 use lib.ListN.{length, drop}
-use Rattle.convert.specs.Ranked.{allBelow}
+use Rattle.convert.specs.Chosen.{allBelow}
 use Rattle.convert.proofs.Folds.{all-below-end, all-below-step, all-below-bad}
 use Rattle.convert.proofs.common.all_below.Statement.{statement}
 use Rattle.convert.proofs.common.all_below.Tie as tie

@@ -6,7 +6,7 @@ use native.Mathlib.Omega.{arith}
 use borrow.Author.Needs.{needs}
 use lib.ListN.{length}
 use Rattle.wgsl.specs.Types.{Ty}
-use Rattle.convert.specs.Ranked.{chosenIs, Listed}
+use Rattle.convert.specs.Chosen.{chosenIs, Listed}
 use Rattle.convert.proofs.Folds.{Folded, folded-start, folded-end, folded-pair, folded-step, folded-none}
 use Rattle.convert.proofs.common.common_of_all.Statement.{statement}
 use Rattle.convert.proofs.common.common_of_all.Tie as tie

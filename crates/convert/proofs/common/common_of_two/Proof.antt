@@ -1,8 +1,8 @@
 -- The rank of each entry to the other is what `entry_rank` ensures, at the types that the two numbers name.
 use mathlib.Core.Path.{ap}
-use Rattle.convert.specs.Ranked.{rankIs}
+use Rattle.rank.specs.Ranked.{rankIs}
 use borrow.Author.Needs.{needs}
-use Rattle.convert.proofs.Pairs.{swapped, renamed, rank-named}
+use Rattle.convert.proofs.Named.{swapped, renamed, rank-named}
 use Rattle.convert.proofs.Folds.{common-second, common-first, common-none}
 use Rattle.convert.proofs.common.common_of_two.Statement.{statement}
 use Rattle.convert.proofs.common.common_of_two.Tie as tie

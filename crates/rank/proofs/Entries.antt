@@ -20,7 +20,9 @@ use Rattle.wgsl.specs.Rank.{kindOf, outlineOf}
 use Rattle.wgsl.proofs.Absent.{some-not-none}
 use Rattle.wgsl.proofs.Accepted.{accepted, below-entry, judged-good}
 use Rattle.wgsl.proofs.Fields.{OverScalar, OverType, scalar-entry, vector-entry, matrix-entry, array-entry, runtime-entry, atomic-entry, struct-entry, kind-bounded}
-use Rattle.convert.proofs.Outlines.{front}
+use Rattle.rank.specs.Ranked.{overScalar}
+use Rattle.rank.proofs.Outlines.{front}
+use Rattle.rank.proofs.Shapes.{is-vector, is-matrix, is-atomic}
 
 module _ {A : Type 0} where
   -- An element that is found has a number below the length.
@@ -99,6 +101,24 @@ module _ {f : List ℕ} {ts : List Ty} {k : ℕ} {t : Ty} {x : TypeEntry} (at : 
 
   pub kind-high : x .kind ≤ 12
   kind-high = rw (at .fields-are) (kind-bounded f (take k ts) k t made)
+
+  -- The type of an entry of kind 7, 8 or 11 is the one over a scalar that its fields say.
+  pub over-scalar-at : 6 < x .kind → (x .kind ≡ 9 → ⊥) → (x .kind ≡ 10 → ⊥) → (x .kind ≡ 12 → ⊥) → OverScalar ts (x .reference) t (overScalar x)
+  over-scalar-at high no-array no-runtime no-struct = go (x .kind - 7) (omega arith)
+    where
+      over : {make : Scalar → Ty} → OverScalar ts (x .reference) t make → ((s : Scalar) → overScalar x s ≡ make s) → OverScalar ts (x .reference) t (overScalar x)
+      over h is =
+          record { element = h .element; type-is = h .type-is ∙ sym (is (h .element)); element-is = h .element-is }
+
+      go : (n : ℕ) → x .kind ≡ n + 7 → OverScalar ts (x .reference) t (overScalar x)
+      go zero e = over (vector-at e) (λ s. is-vector x s e)
+      go (suc zero) e = over (matrix-at e) (λ s. is-matrix x s e)
+      go (suc (suc zero)) e = absurd (no-array e)
+      go (suc (suc (suc zero))) e = absurd (no-runtime e)
+      go (suc (suc (suc (suc zero)))) e =
+          over (atomic-at e) (λ s. is-atomic x s (λ h. omega (arith, h, e)) (λ h. omega (arith, h, e)))
+      go (suc (suc (suc (suc (suc zero))))) e = absurd (no-struct e)
+      go (suc (suc (suc (suc (suc (suc n)))))) e = absurd (omega (arith, kind-high))
 
   -- The type of an entry of kind 0 to 6 is a scalar.
   pub front-scalar : x .kind ≤ 6 → front t ≡ 0

@@ -1,4 +1,6 @@
-// The rank of one entry's type to another's.
+// The rank of one entry's type to another's, in an accepted file.
+pub mod scalar;
+
 use crate::scalar::Ranked;
 use crate::scalar::scalar_rank;
 use file::fields::Entry;
@@ -9,13 +11,13 @@ ghost use mathlib.Core.List.{List};
 ghost use mathlib.Core.Option.{some};
 ghost use Prim.Native.Nat.{_+_, _*_, _≤_};
 ghost use lib.ListN.{length, getElem?};
-ghost use Rattle.wgsl.specs.Types.{Ty};
+ghost use Rattle.wgsl.specs.Types.{Scalar, Ty};
 ghost use Rattle.wgsl.specs.Said.{good};
 ghost use Rattle.wgsl.specs.File.{trailerOf, typeEntryAt};
 ghost use Rattle.wgsl.specs.Rule.{typesOf};
-ghost use Rattle.wgsl.specs.Rank.{rankOf};
+ghost use Rattle.wgsl.specs.Rank.{kindOf, rankOf};
 ghost use Rattle.file.specs.Fields.{entryIs};
-ghost use Rattle.convert.specs.Ranked.{rankIs, Pair};
+ghost use Rattle.rank.specs.Ranked.{rankIs, Pair, overScalar};
 
 // Type entry `k`, where the entries begin at `start`.
 fn entry_of(f: &[u8], start: usize, k: usize) -> Entry
@@ -23,6 +25,33 @@ fn entry_of(f: &[u8], start: usize, k: usize) -> Entry
     ensures { λ r. ⌜ entryIs r ≡ typeEntryAt (now (f .entry)) k ⌝ }
 {
     entry_at(f, start + 12 * k)
+}
+
+// The rank of two types of one kind over scalars of kinds `u` and `v`: two vectors, two matrices or two atomics, with the fields `x` and `y`.
+fn over_scalar_rank(x: Entry, y: Entry, u: u32, v: u32) -> Ranked
+    requires { ⌜ x .kind ≡ y .kind ⌝ }
+    ensures { λ r. ⌜ ((s t : Scalar) → kindOf s ≡ u → kindOf t ≡ v → rankIs r ≡ rankOf (overScalar (entryIs x) s) (overScalar (entryIs y) t)) ⌝ }
+{
+    if x.kind == 7 {
+        if x.rows != y.rows {
+            return Ranked::No;
+        }
+        return scalar_rank(u, v);
+    }
+    if x.kind == 8 {
+        if x.columns != y.columns {
+            return Ranked::No;
+        }
+        if x.rows != y.rows {
+            return Ranked::No;
+        }
+        return scalar_rank(u, v);
+    }
+    // atomics convert to nothing else
+    if u == v {
+        return Ranked::Is(0);
+    }
+    Ranked::No
 }
 
 // The rank of entry `a` to entry `b` of an accepted file whose entries begin at `start`. Walks both types down by their references.
@@ -61,21 +90,5 @@ pub fn entry_rank(f: &[u8], start: usize, a: usize, b: usize) -> Ranked
     }
     let u = entry_of(f, start, p);
     let v = entry_of(f, start, q);
-    // atomics convert to nothing else
-    if x.kind == 11 {
-        if u.kind == v.kind {
-            return Ranked::Is(0);
-        }
-        return Ranked::No;
-    }
-    if x.rows != y.rows {
-        return Ranked::No;
-    }
-    if x.kind == 7 {
-        return scalar_rank(u.kind, v.kind);
-    }
-    if x.columns != y.columns {
-        return Ranked::No;
-    }
-    scalar_rank(u.kind, v.kind)
+    over_scalar_rank(x, y, u.kind, v.kind)
 }

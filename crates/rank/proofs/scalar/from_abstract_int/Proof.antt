@@ -1,7 +1,7 @@
 -- Each answer is a law of `Scalars`, by the kind that was tested.
-use Rattle.convert.proofs.Scalars.{int-i32, int-u32, int-float, int-f32, int-f16, int-none}
-use Rattle.convert.proofs.scalar.from_abstract_int.Statement.{statement}
-use Rattle.convert.proofs.scalar.from_abstract_int.Tie as tie
+use Rattle.rank.proofs.Scalars.{int-i32, int-u32, int-float, int-f32, int-f16, int-none}
+use Rattle.rank.proofs.scalar.from_abstract_int.Statement.{statement}
+use Rattle.rank.proofs.scalar.from_abstract_int.Tie as tie
 
 returns : tie.Need-returns
 returns c = λ s of h. int-i32 s _ of (c .if1 .taken)

@@ -1,8 +1,8 @@
 -- `typeEntryAt` begins where the trailer says.
 use borrow.Author.Needs.{needs}
 use Rattle.wgsl.specs.File.{typeEntryAt, typeEntryLength}
-use Rattle.convert.proofs.rank.entry_of.Statement.{statement}
-use Rattle.convert.proofs.rank.entry_of.Tie as tie
+use Rattle.rank.proofs.entry_of.Statement.{statement}
+use Rattle.rank.proofs.entry_of.Tie as tie
 
 returns : tie.Need-returns
 unfolding typeEntryAt typeEntryLength

@@ -1,7 +1,7 @@
 -- Each answer is a law of `Scalars`, by the kind that was tested.
-use Rattle.convert.proofs.Scalars.{float-f32, float-f16, float-none}
-use Rattle.convert.proofs.scalar.from_abstract_float.Statement.{statement}
-use Rattle.convert.proofs.scalar.from_abstract_float.Tie as tie
+use Rattle.rank.proofs.Scalars.{float-f32, float-f16, float-none}
+use Rattle.rank.proofs.scalar.from_abstract_float.Statement.{statement}
+use Rattle.rank.proofs.scalar.from_abstract_float.Tie as tie
 
 returns : tie.Need-returns
 returns c = λ s of h. float-f32 s _ of (c .if1 .taken)

@@ -1,6 +1,6 @@
--- What ranks and choices of the code say, in the words of crates/wgsl, and what its functions ask.
+-- What choices of the code say, in the words of crates/wgsl, and what its functions ask.
 -- Definitions only. Assumes nothing.
-use Prim.Native.Nat.{ℕ, _<_}
+use Prim.Native.Nat.{ℕ}
 use mathlib.Core.Path.{_≡_}
 use mathlib.Core.Bool.{Bool, true, _&&_}
 use mathlib.Core.List.{List, [], _∷_, map}
@@ -12,29 +12,17 @@ use Rattle.wgsl.specs.Said.{good}
 use Rattle.wgsl.specs.File.{trailerOf}
 use Rattle.wgsl.specs.Rule.{typesOf}
 use Rattle.wgsl.specs.Rank.{Entry}
-use Rattle.convert.specs.declared.scalar.Ranked.{Ranked}
 use Rattle.convert.specs.declared.common.Chosen.{Chosen}
-
-abbrev pub rankIs : Ranked → Option ℕ
-rankIs (Ranked.Is n) = some n
-rankIs Ranked.No = none
 
 abbrev pub chosenIs : Chosen → Option ℕ
 chosenIs (Chosen.Is e) = some e
 chosenIs Chosen.No = none
 
--- two entries of an accepted file, whose type entries begin at `start`
-pub record Pair (f : List ℕ) (ts : List Ty) (start a b : ℕ) : Type 0 where
-  pub accepted : typesOf f ≡ good ts
-  pub start-is : start ≡ trailerOf f .start
-  pub first : a < length ts
-  pub second : b < length ts
-
 unfoldable pub allBelow : List ℕ → ℕ → Bool
 allBelow [] types = true
 allBelow (e ∷ es) types = ltb e types && allBelow es types
 
--- listed entries of an accepted file
+-- listed entries of an accepted file, whose type entries begin at `start`
 pub record Listed (f : List ℕ) (ts : List Ty) (start : ℕ) (es : List ℕ) : Type 0 where
   pub accepted : typesOf f ≡ good ts
   pub start-is : start ≡ trailerOf f .start

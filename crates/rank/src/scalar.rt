@@ -2,7 +2,7 @@
 ghost use mathlib.Core.Path.{_≡_};
 ghost use Rattle.wgsl.specs.Types.{Scalar};
 ghost use Rattle.wgsl.specs.Rank.{kindOf, fromAbstractInt, fromAbstractFloat, scalarRank};
-ghost use Rattle.convert.specs.Ranked.{rankIs};
+ghost use Rattle.rank.specs.Ranked.{rankIs};
 
 // A rank, or none.
 pub enum Ranked {

@@ -1,9 +1,9 @@
 -- Each answer is a law of `Scalars`; that the second kind is not the first is what the two callees ask of theirs.
 use mathlib.Core.Path.{_∙_, sym}
 use borrow.Author.Needs.{needs}
-use Rattle.convert.proofs.Scalars.{scalar-same, scalar-int, scalar-float, scalar-none}
-use Rattle.convert.proofs.scalar.scalar_rank.Statement.{statement}
-use Rattle.convert.proofs.scalar.scalar_rank.Tie as tie
+use Rattle.rank.proofs.Scalars.{scalar-same, scalar-int, scalar-float, scalar-none}
+use Rattle.rank.proofs.scalar.scalar_rank.Statement.{statement}
+use Rattle.rank.proofs.scalar.scalar_rank.Tie as tie
 
 returns : tie.Need-returns
 returns c = λ s t p q. scalar-same s _ p t _ q (c .if1 .taken)

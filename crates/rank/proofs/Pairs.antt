@@ -1,26 +1,22 @@
 -- The rank of one entry's type to another's, by the fields of the two entries and of those that they refer to.
 --
--- In order: two entries, inside the file; kinds that are scalars or differ; structs; arrays and runtime arrays; atomics, vectors and matrices.
+-- In order: two entries, inside the file; kinds that are scalars or differ; structs; the entries that the two refer to; arrays and runtime arrays; vectors, matrices and atomics.
 -- Assumes nothing.
 use Prim.Native.Nat.{ℕ, _+_, _*_, _<_, _≤_}
 use mathlib.Core.Bool.{Bool, true, false}
 use mathlib.Core.List.{List}
 use mathlib.Core.Option.{Option, none, some}
-use mathlib.Core.Logic.{⊎-elim}
 use mathlib.Core.Path.{_≡_, refl, sym, _∙_}
 use native.Mathlib.Omega.{arith}
-use native.Mathlib.Nat.{eq-or-lt-of-le}
 use borrow.Author.Tests.{leb-true, leb-false}
 use lib.Dec.{leb}
-use lib.ListN.{length, getD, getElem?}
-use Rattle.wgsl.specs.Types.{Scalar, bool, Ty, scalar}
-use Rattle.wgsl.specs.Said.{good}
+use lib.ListN.{length, getElem?}
+use Rattle.wgsl.specs.Types.{Scalar, Ty, scalar}
 use Rattle.wgsl.specs.File.{trailerOf, TypeEntry, typeEntryAt}
-use Rattle.wgsl.specs.Rule.{typesOf}
 use Rattle.wgsl.specs.Rank.{kindOf, scalarRank, rankOf}
-use Rattle.convert.specs.Ranked.{Pair}
-use Rattle.convert.proofs.Entries.{getElem-getD, entry-inside, At, scalar-at, vector-at, matrix-at, array-at, runtime-at, atomic-at, struct-at, front-scalar, front-kind, reference-lower, scalar-kind}
-use Rattle.convert.proofs.Outlines.{front-other, scalars, vector-same, vector-other, matrix-same, matrix-columns, matrix-rows, array-same, array-other, runtimes, atomic-same, atomic-other, struct-same, struct-other}
+use Rattle.rank.specs.Ranked.{Pair, overScalar}
+use Rattle.rank.proofs.Entries.{entry-inside, At, scalar-at, array-at, runtime-at, struct-at, over-scalar-at, front-scalar, front-kind, reference-lower, scalar-kind}
+use Rattle.rank.proofs.Outlines.{front-other, scalars, array-same, array-other, runtimes, struct-same, struct-other}
 
 module _ {f : List ℕ} {ts : List Ty} {start a b : ℕ} (p : Pair f ts start a b) where
   -- The bytes of the two entries lie inside the file.
@@ -29,20 +25,6 @@ module _ {f : List ℕ} {ts : List Ty} {start a b : ℕ} (p : Pair f ts start a 
 
   pub second-inside : (start ≡ trailerOf f .start) × (start + 12 * b + 12 ≤ length f)
   second-inside = (p .start-is, entry-inside f ts (p .accepted) start b (p .start-is) (p .second))
-
-  pub swapped : Pair f ts start b a
-  swapped = record { accepted = p .accepted; start-is = p .start-is; first = p .second; second = p .first }
-
-  module _ {x y : ℕ} (x-is : x ≡ a) (y-is : y ≡ b) where
-    pub renamed : Pair f ts start x y
-    renamed = rw (x-is, y-is) p
-
-    -- What is said of the types of entries x and y is said of the types that a and b name.
-    pub rank-named : {o r : Option ℕ} → o ≡ r → ((ts : List Ty) (s t : Ty) → typesOf f ≡ good ts → getElem? ts x ≡ some s → getElem? ts y ≡ some t → o ≡ rankOf s t) → rankOf (getD ts a (scalar bool)) (getD ts b (scalar bool)) ≡ r
-    rank-named e h =
-        let s-is = getElem-getD ts a (scalar bool) (p .first) in
-        let t-is = getElem-getD ts b (scalar bool) (p .second) in
-        sym (h ts _ _ (p .accepted) (rw x-is s-is) (rw y-is t-is)) ∙ e
 
 -- Entries a and b: their types s and t, their fields x and y.
 pub record Two (f : List ℕ) (ts : List Ty) (a b : ℕ) (s t : Ty) (x y : TypeEntry) : Type 0 where
@@ -84,27 +66,22 @@ module _ {f : List ℕ} {ts : List Ty} {a b : ℕ} {s t : Ty} {x y : TypeEntry} 
     arrays-other e h =
         array-other (array-at (two .first) e .type-is) (array-at (two .second) (sym same ∙ e) .type-is) h
 
-    rows : x .kind ≡ 7 → (x .rows ≡ y .rows → ⊥) → none ≡ rankOf s t
-    rows e h = vector-other (vector-at (two .first) e .type-is) (vector-at (two .second) (sym same ∙ e) .type-is) h
-
-    pub rows-other : 7 ≤ x .kind → x .kind ≤ 8 → (x .rows ≡ y .rows → ⊥) → none ≡ rankOf s t
-    rows-other low high h =
-        ⊎-elim (λ (e : 7 ≡ x .kind). rows (sym e) h)
-        (λ (more : 7 < x .kind).
-        let e : x .kind ≡ 8 = omega arith in
-        matrix-rows (matrix-at (two .first) e .type-is) (matrix-at (two .second) (sym same ∙ e) .type-is) h)
-        (eq-or-lt-of-le low)
-
-    pub columns-other : x .kind ≡ 8 → (x .columns ≡ y .columns → ⊥) → none ≡ rankOf s t
-    columns-other e h =
-        matrix-columns (matrix-at (two .first) e .type-is) (matrix-at (two .second) (sym same ∙ e) .type-is) h
-
-    pub references-lower : 6 < x .kind → (x .kind ≡ 12 → ⊥) → (x .reference < a) × (y .reference < b)
-    references-lower high h =
-        (reference-lower (two .first) high h, reference-lower (two .second) (omega arith) (λ e. h (same ∙ e)))
-
     -- i and j are the entries that the two refer to,
     module _ {i j : ℕ} (i-is : i ≡ x .reference) (j-is : j ≡ y .reference) where
+      -- which have lower numbers, so the file has them,
+      pub lower-pair : {start : ℕ} → Pair f ts start a b → 6 < x .kind → (x .kind ≡ 12 → ⊥) → (i < a) × Pair f ts start i j
+      lower-pair p high no-struct =
+          let low : i < a = omega (arith, i-is, reference-lower (two .first) high no-struct) in
+          let low′ : j < b = omega (arith, j-is, reference-lower (two .second) (omega arith) (λ e. no-struct (same ∙ e))) in (
+            low,
+            record {
+              accepted = p .accepted;
+              start-is = p .start-is;
+              first = omega (arith, low, p .first);
+              second = omega (arith, low′, p .second);
+            },
+          )
+
       pub arrays-rank : {r : Option ℕ} → x .kind ≡ 9 → x .count ≡ y .count → ((u v : Ty) → getElem? ts i ≡ some u → getElem? ts j ≡ some v → r ≡ rankOf u v) → r ≡ rankOf s t
       arrays-rank e n h =
           let p = array-at (two .first) e in
@@ -125,27 +102,8 @@ module _ {f : List ℕ} {ts : List Ty} {a b : ℕ} {s t : Ty} {x y : TypeEntry} 
         right : {c : Scalar} → getElem? ts (y .reference) ≡ some (scalar c) → kindOf c ≡ v .kind
         right e = scalar-kind (record { good-file = two .first .good-file; type-is = rw j-is e; fields-are = v-is })
 
-        pub atomics-same : x .kind ≡ 11 → u .kind ≡ v .kind → some 0 ≡ rankOf s t
-        atomics-same e h =
-            let p = atomic-at (two .first) e in
-            let q = atomic-at (two .second) (sym same ∙ e) in
-            atomic-same (p .type-is) (q .type-is) (left (p .element-is) ∙ h ∙ sym (right (q .element-is)))
-
-        pub atomics-other : x .kind ≡ 11 → (u .kind ≡ v .kind → ⊥) → none ≡ rankOf s t
-        atomics-other e h =
-            let p = atomic-at (two .first) e in
-            let q = atomic-at (two .second) (sym same ∙ e) in
-            atomic-other (p .type-is) (q .type-is) (λ g. h (sym (left (p .element-is)) ∙ g ∙ right (q .element-is)))
-
-        module _ {r : Option ℕ} (h : (c d : Scalar) → kindOf c ≡ u .kind → kindOf d ≡ v .kind → r ≡ scalarRank c d) where
-          pub vectors-rank : x .kind ≡ 7 → x .rows ≡ y .rows → r ≡ rankOf s t
-          vectors-rank e n =
-              let p = vector-at (two .first) e in
-              let q = vector-at (two .second) (sym same ∙ e) in
-              h _ _ (left (p .element-is)) (right (q .element-is)) ∙ vector-same (p .type-is) (q .type-is) n
-
-          pub matrices-rank : x .kind ≡ 8 → x .columns ≡ y .columns → x .rows ≡ y .rows → r ≡ rankOf s t
-          matrices-rank e n m =
-              let p = matrix-at (two .first) e in
-              let q = matrix-at (two .second) (sym same ∙ e) in
-              h _ _ (left (p .element-is)) (right (q .element-is)) ∙ matrix-same (p .type-is) (q .type-is) n m
+        pub over-scalars-rank : {r : Option ℕ} → 6 < x .kind → (x .kind ≡ 9 → ⊥) → (x .kind ≡ 10 → ⊥) → (x .kind ≡ 12 → ⊥) → ((c d : Scalar) → kindOf c ≡ u .kind → kindOf d ≡ v .kind → r ≡ rankOf (overScalar x c) (overScalar y d)) → r ≡ rankOf s t
+        over-scalars-rank high no-array no-runtime no-struct h =
+            let p = over-scalar-at (two .first) high no-array no-runtime no-struct in
+            let q = over-scalar-at (two .second) (omega arith) (λ e. no-array (same ∙ e)) (λ e. no-runtime (same ∙ e)) (λ e. no-struct (same ∙ e)) in
+            rw (p .type-is, q .type-is) (h _ _ (left (p .element-is)) (right (q .element-is)))

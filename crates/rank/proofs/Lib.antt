@@ -1,0 +1,5 @@
+pub mod Entries
+pub mod Outlines
+pub mod Pairs
+pub mod Scalars
+pub mod Shapes
