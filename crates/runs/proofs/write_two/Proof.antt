@@ -1,0 +1,60 @@
+use Prim.Native.Nat.{_+_, _-_, _*_, _≤_}
+use mathlib.Core.Path.{_≡_, refl, ap, sym, _∙_}
+use native.Mathlib.Omega.{arith}
+use borrow.Author.Needs.{needs}
+use denote.Ref.{now}
+use lib.ListN.{length, drop}
+use Rattle.wgsl.proofs.Number.{length-store}
+use Rattle.wgsl.specs.Place.{storeWords}
+use Rattle.runs.specs.Run.{runPlaces}
+use Rattle.runs.proofs.Runs.{store-all, store-next, store-none, store-two}
+use Rattle.runs.proofs.write_two.Statement.{statement}
+use Rattle.runs.proofs.write_two.Tie as tie
+
+abbrev Inv-loop : tie.InvT-loop
+Inv-loop words k n buf₀ at i₀ buf i =
+    (storeWords (runPlaces (n - i) 2 (at + i * 2)) (drop (k + i) words) buf ≡ storeWords (runPlaces n 2 at) (drop k words) buf₀) × (i ≤ n) × (length buf ≡ length buf₀)
+
+abbrev μ-loop : tie.MeasureT-loop
+μ-loop words k n buf₀ at i₀ buf i = n - i
+
+loop-holds : tie.Need-loop-holds Inv-loop μ-loop
+loop-holds c = (store-all (c .before .before .args .n) 2 (c .before .before .args .at) (c .before .before .args .k) (now (c .before .before .args .words)) (now (c .before .before .args .buf)), omega arith, refl)
+
+mul-store-u16 : tie.Need-mul-store-u16 Inv-loop μ-loop
+mul-store-u16 c = omega arith
+
+add-store-u16 : tie.Need-add-store-u16 Inv-loop μ-loop
+add-store-u16 c = omega arith
+
+add-store-u16-2 : tie.Need-add-store-u16-2 Inv-loop μ-loop
+add-store-u16-2 c = omega arith
+
+mul-store-u16-2 : tie.Need-mul-store-u16-2 Inv-loop μ-loop
+mul-store-u16-2 c = omega arith
+
+add-i : tie.Need-add-i Inv-loop μ-loop
+add-i c = omega arith
+
+loop-less : tie.Need-loop-less Inv-loop μ-loop
+loop-less c = omega arith
+
+loop-again : tie.Need-loop-again Inv-loop μ-loop
+loop-again c =
+    let l = c .before .before .before .before .before .before .loop in
+    let a = c .before .before .before .before .before .before .before .before .before .args in
+    let stored = c .before .before .store-u16 .ensures ∙ store-two (l .buf) (a .at + l .i * 2) _ in
+    let next = store-next (a .n) 2 (a .at) (a .k) (now (a .words)) (l .buf) (l .i) (omega arith) (omega arith) in
+    (rw stored (next ∙ l .inv .0), omega arith, ap length stored ∙ length-store 2 (l .buf) _ _ ∙ l .inv .2)
+
+returns : tie.Need-returns Inv-loop μ-loop
+returns c =
+    let l = c .before .loop in
+    let a = c .before .before .before .before .args in
+    sym (store-none (a .n) 2 (a .at + l .i * 2) (a .k) (now (a .words)) (l .buf) (l .i) (omega arith)) ∙ l .inv .0
+
+pub write-two-spec : {M : Type 1} → statement M
+write-two-spec =
+    tie.close (tie.spec
+    Inv-loop μ-loop loop-holds mul-store-u16 add-store-u16 add-store-u16-2 mul-store-u16-2 (λ c. search needs)
+    (λ c. search needs) (λ c κs. search needs) add-i loop-less loop-again (λ c. search needs) returns)
