@@ -1,6 +1,4 @@
 // Answers questions about layout files: reads them on standard input and writes a line for each (oracle/README.md, version 1).
-mod line;
-
 use file::refusal::Refusal;
 use file::refusal::number;
 use file::refusal::place;
@@ -16,13 +14,13 @@ use lepugaso::rank;
 use lepugaso::size;
 use libc::STDIN_FILENO;
 use libc::STDOUT_FILENO;
-use line::bytes;
-use line::next;
-use line::numbers;
-use line::same;
+use lines::bytes;
+use lines::next;
+use lines::numbers;
+use lines::same;
 ghost use mathlib.Core.Path.{_≡_};
 ghost use lib.ListN.{length};
-ghost use Rattle.answers.specs.Count.{Counted};
+ghost use Rattle.lines.specs.Count.{Counted};
 
 fn say(text: &[u8]) {
     io::write_all(STDOUT_FILENO, text);

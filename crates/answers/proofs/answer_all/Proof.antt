@@ -1,5 +1,5 @@
 -- Each turn passes a newline; the size of the file is a count of the room's front.
-use Rattle.answers.specs.Count.{Counted}
+use Rattle.lines.specs.Count.{Counted}
 use Prim.Native.Nat.{_-_}
 use native.Mathlib.Omega.{arith}
 use borrow.Author.Needs.{needs}

@@ -1,7 +1,7 @@
 // A line of questions: where it ends, its word, its numbers, its bytes.
 ghost use Prim.Native.Nat.{_+_, _≤_};
 ghost use lib.ListN.{length};
-ghost use Rattle.answers.specs.Count.{Counted};
+ghost use Rattle.lines.specs.Count.{Counted};
 
 // Whether a text was numbers or bytes, and how many were put.
 pub struct Put {

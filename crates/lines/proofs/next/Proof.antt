@@ -1,10 +1,10 @@
 -- A plain loop; where it stops is within the text, and so a count of its front.
-use Rattle.answers.proofs.Counts.{counted}
+use Rattle.lines.proofs.Counts.{counted}
 use Prim.Native.Nat.{_-_, _≤_}
 use native.Mathlib.Omega.{arith}
 use borrow.Author.Needs.{needs}
-use Rattle.answers.proofs.line.next.Statement.{statement}
-use Rattle.answers.proofs.line.next.Tie as tie
+use Rattle.lines.proofs.next.Statement.{statement}
+use Rattle.lines.proofs.next.Tie as tie
 
 abbrev Inv-loop : tie.InvT-loop
 Inv-loop text at c n i₀ i = (at ≤ i) × (i ≤ n)

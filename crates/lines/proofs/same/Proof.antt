@@ -2,8 +2,8 @@
 use Prim.Native.Nat.{_-_, _≤_}
 use native.Mathlib.Omega.{arith}
 use borrow.Author.Needs.{needs}
-use Rattle.answers.proofs.line.same.Statement.{statement}
-use Rattle.answers.proofs.line.same.Tie as tie
+use Rattle.lines.proofs.same.Statement.{statement}
+use Rattle.lines.proofs.same.Tie as tie
 
 abbrev Inv-loop : tie.InvT-loop
 Inv-loop a b n i₀ i = i ≤ n

@@ -4,9 +4,9 @@ use native.Mathlib.Omega.{arith}
 use borrow.Author.Needs.{needs}
 use mathlib.Core.Path.{_≡_}
 use lib.ListN.{length, length-set}
-use Rattle.answers.proofs.Counts.{counted}
-use Rattle.answers.proofs.line.numbers.Statement.{statement}
-use Rattle.answers.proofs.line.numbers.Tie as tie
+use Rattle.lines.proofs.Counts.{counted}
+use Rattle.lines.proofs.numbers.Statement.{statement}
+use Rattle.lines.proofs.numbers.Tie as tie
 
 abbrev Inv-loop : tie.InvT-loop
 Inv-loop line at out₀ n count₀ i₀ out count i = (length out ≡ length out₀) × (count ≤ length out)
