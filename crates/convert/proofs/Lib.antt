@@ -1,3 +1,1 @@
-pub mod Folds
-pub mod Named
 pub mod Questions

@@ -28,7 +28,7 @@ use Rattle.table.specs.declared.Checked.{Checked}
 use Rattle.table.specs.declared.Checked.the-variants.{Types, Refused}
 use Rattle.rank.specs.Ranked.{Pair}
 use Rattle.rank.proofs.Entries.{getElem-getD}
-use Rattle.convert.specs.Chosen.{allBelow, Listed, entryIn, entriesIn, numberIn}
+use Rattle.common.specs.Chosen.{allBelow, Listed, entryIn, entriesIn, numberIn}
 
 -- ---- the entries of a list
 

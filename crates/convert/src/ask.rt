@@ -1,7 +1,7 @@
 // The two questions on conversion.
-use crate::common::Chosen;
-use crate::common::all_below;
-use crate::common::common_of_all;
+use common::Chosen;
+use common::all_below;
+use common::common_of_all;
 use file::refusal::Refusal;
 use file::trailer::wide;
 use layout::ask::Number;

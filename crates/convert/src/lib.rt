@@ -1,3 +1,2 @@
-// Conversion ranks and common types, over the promises of crates/layout and crates/rank.
+// The questions on conversion, over the promises of crates/table, rank and common.
 pub mod ask;
-pub mod common;

@@ -3,7 +3,7 @@ use mathlib.Core.Path.{ap, sym, _∙_}
 use native.Mathlib.Omega.{arith}
 use borrow.Author.Tests.{not-true, not-false}
 use Rattle.wgsl.specs.Said.{orRefuse}
-use Rattle.convert.specs.Chosen.{chosenIs}
+use Rattle.common.specs.Chosen.{chosenIs}
 use Rattle.convert.proofs.Questions.{Taken, told, common-refused, common-past, common-empty, list-there, common-is}
 use borrow.Author.Needs.{needs}
 use Rattle.convert.proofs.ask.common.Statement.{statement}

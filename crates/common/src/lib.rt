@@ -9,7 +9,7 @@ ghost use lib.ListN.{length};
 ghost use Rattle.wgsl.specs.Types.{Ty};
 ghost use Rattle.wgsl.specs.Rank.{commonOf, commonOfAll};
 ghost use Rattle.rank.specs.Ranked.{Pair};
-ghost use Rattle.convert.specs.Chosen.{Listed, allBelow, chosenIs, entryIn, entriesIn, numberIn};
+ghost use Rattle.common.specs.Chosen.{Listed, allBelow, chosenIs, entryIn, entriesIn, numberIn};
 
 // An entry number, or none.
 pub enum Chosen {

@@ -2,10 +2,10 @@
 use mathlib.Core.Path.{ap}
 use Rattle.rank.specs.Ranked.{rankIs}
 use borrow.Author.Needs.{needs}
-use Rattle.convert.proofs.Named.{swapped, renamed, rank-named}
-use Rattle.convert.proofs.Folds.{common-second, common-first, common-none}
-use Rattle.convert.proofs.common.common_of_two.Statement.{statement}
-use Rattle.convert.proofs.common.common_of_two.Tie as tie
+use Rattle.common.proofs.Named.{swapped, renamed, rank-named}
+use Rattle.common.proofs.Folds.{common-second, common-first, common-none}
+use Rattle.common.proofs.common_of_two.Statement.{statement}
+use Rattle.common.proofs.common_of_two.Tie as tie
 
 entry-rank-requires : tie.Need-entry-rank-requires
 entry-rank-requires c κs =

@@ -12,7 +12,7 @@ use Rattle.wgsl.specs.Said.{good}
 use Rattle.wgsl.specs.File.{trailerOf}
 use Rattle.wgsl.specs.Rule.{typesOf}
 use Rattle.wgsl.specs.Rank.{Entry}
-use Rattle.convert.specs.declared.common.Chosen.{Chosen}
+use Rattle.common.specs.declared.Chosen.{Chosen}
 
 abbrev pub chosenIs : Chosen → Option ℕ
 chosenIs (Chosen.Is e) = some e

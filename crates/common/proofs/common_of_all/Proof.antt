@@ -6,10 +6,10 @@ use native.Mathlib.Omega.{arith}
 use borrow.Author.Needs.{needs}
 use lib.ListN.{length}
 use Rattle.wgsl.specs.Types.{Ty}
-use Rattle.convert.specs.Chosen.{chosenIs, Listed}
-use Rattle.convert.proofs.Folds.{Folded, folded-start, folded-end, folded-pair, folded-step, folded-none}
-use Rattle.convert.proofs.common.common_of_all.Statement.{statement}
-use Rattle.convert.proofs.common.common_of_all.Tie as tie
+use Rattle.common.specs.Chosen.{chosenIs, Listed}
+use Rattle.common.proofs.Folds.{Folded, folded-start, folded-end, folded-pair, folded-step, folded-none}
+use Rattle.common.proofs.common_of_all.Statement.{statement}
+use Rattle.common.proofs.common_of_all.Tie as tie
 
 abbrev Inv-loop : tie.InvT-loop
 Inv-loop f start list n found₀ i₀ found i =

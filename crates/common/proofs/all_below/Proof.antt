@@ -4,10 +4,10 @@ use mathlib.Core.Path.{_≡_, refl, sym, _∙_}
 use native.Mathlib.Omega.{arith}
 use borrow.Author.Needs.{needs}
 use lib.ListN.{length, drop}
-use Rattle.convert.specs.Chosen.{allBelow}
-use Rattle.convert.proofs.Folds.{all-below-end, all-below-step, all-below-bad}
-use Rattle.convert.proofs.common.all_below.Statement.{statement}
-use Rattle.convert.proofs.common.all_below.Tie as tie
+use Rattle.common.specs.Chosen.{allBelow}
+use Rattle.common.proofs.Folds.{all-below-end, all-below-step, all-below-bad}
+use Rattle.common.proofs.all_below.Statement.{statement}
+use Rattle.common.proofs.all_below.Tie as tie
 
 abbrev Inv-loop : tie.InvT-loop
 Inv-loop list types n i₀ i = (i ≤ length list) × (allBelow (drop i list) types ≡ allBelow list types)

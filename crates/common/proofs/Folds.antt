@@ -19,7 +19,7 @@ use Rattle.wgsl.specs.Rank.{rankOf, Entry, firstOf, commonOf, commonWith, commo
 use Rattle.wgsl.proofs.Absent.{both-hold}
 use Rattle.wgsl.proofs.Rank.{common-one}
 use Rattle.rank.specs.Ranked.{Pair}
-use Rattle.convert.specs.Chosen.{allBelow, Listed, entryIn, entriesIn, numberIn}
+use Rattle.common.specs.Chosen.{allBelow, Listed, entryIn, entriesIn, numberIn}
 
 drop-none : (l : List ℕ) (i : ℕ) → length l ≤ i → drop i l ≡ []
 drop-none [] zero h = refl
