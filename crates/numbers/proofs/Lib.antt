@@ -1,3 +1,4 @@
 pub mod Stores
 pub mod Limits
 pub mod One
+pub mod Masks

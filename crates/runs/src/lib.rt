@@ -1,25 +1,59 @@
-// Runs: words of one width that lie one after the other, as the scalars of a vector, of a matrix column and of an array of scalars do.
+// Runs: words of one width that lie one after the other, as the scalars of a vector, of a matrix column and of an array of scalars do;
+// and parts, runs that each begin a stride after the one before.
 use numbers::bytes::store_u16;
 use numbers::bytes::store_u32;
 use numbers::bytes::u16_at;
 use numbers::bytes::u32_at;
 ghost use mathlib.Core.Path.{_≡_};
 ghost use Prim.Native.Nat.{_+_, _*_, _≤_};
-ghost use lib.ListN.{length, drop};
-ghost use lib.Seq.{sets};
-ghost use Rattle.wgsl.specs.Place.{storeWords, wordsRead, checkWords};
-ghost use Rattle.runs.specs.Run.{runPlaces, saidScan};
+ghost use lib.ListN.{length};
+ghost use Rattle.wgsl.specs.Said.{good};
+ghost use Rattle.folds.specs.Fold.{overPlaces, storing, loading, testing};
+ghost use Rattle.folds.specs.Run.{runPlaces, partPlaces};
+ghost use Rattle.runs.specs.Run.{Room, saidScan};
 
-// That every word fits, or the position of the first that does not.
+// `count` runs of `unit` words of `width` bytes, each a `stride` after the one before.
+pub struct Parts {
+    pub count: usize,
+    pub unit: usize,
+    pub width: usize,
+    pub stride: usize,
+}
+
+// That any words would fit, that these do, or the position of the first that does not.
 pub enum Scan {
+    Any,
     Fine,
     Bad(usize),
 }
 
+// At most four words of four bytes: a vector or a column. Too short for a loop that is worth its start.
+pub fn write_few(words: &[u32], k: usize, n: usize, buf: &mut [u8], at: usize)
+    requires { ⌜ (n ≤ 4) × (k + n ≤ length (now words)) × (at + n * 4 ≤ length (now buf)) ⌝ }
+    ensures { λ _. ⌜ now (buf .exit) ≡ overPlaces (storing (now (words .entry))) (runPlaces n 4 at) k (now (buf .entry)) ⌝ }
+{
+    if n == 0 {
+        return;
+    }
+    store_u32(buf, at, words[k]);
+    if n == 1 {
+        return;
+    }
+    store_u32(buf, at + 4, words[k + 1]);
+    if n == 2 {
+        return;
+    }
+    store_u32(buf, at + 8, words[k + 2]);
+    if n == 3 {
+        return;
+    }
+    store_u32(buf, at + 12, words[k + 3]);
+}
+
 // Stores `n` words, from word `k` on, in the bytes from `at` on, four each. Every other byte stays.
-pub fn write_four(words: &[u32], k: usize, n: usize, buf: &mut [u8], at: usize)
+fn write_four(words: &[u32], k: usize, n: usize, buf: &mut [u8], at: usize)
     requires { ⌜ (k + n ≤ length (now words)) × (at + n * 4 ≤ length (now buf)) ⌝ }
-    ensures { λ _. ⌜ now (buf .exit) ≡ storeWords (runPlaces n 4 at) (drop k (now (words .entry))) (now (buf .entry)) ⌝ }
+    ensures { λ _. ⌜ now (buf .exit) ≡ overPlaces (storing (now (words .entry))) (runPlaces n 4 at) k (now (buf .entry)) ⌝ }
 {
     let mut i: usize = 0;
     while i < n {
@@ -29,9 +63,9 @@ pub fn write_four(words: &[u32], k: usize, n: usize, buf: &mut [u8], at: usize)
 }
 
 // Stores `n` words, from word `k` on, in the bytes from `at` on, the two lowest bytes of each.
-pub fn write_two(words: &[u32], k: usize, n: usize, buf: &mut [u8], at: usize)
+fn write_two(words: &[u32], k: usize, n: usize, buf: &mut [u8], at: usize)
     requires { ⌜ (k + n ≤ length (now words)) × (at + n * 2 ≤ length (now buf)) ⌝ }
-    ensures { λ _. ⌜ now (buf .exit) ≡ storeWords (runPlaces n 2 at) (drop k (now (words .entry))) (now (buf .entry)) ⌝ }
+    ensures { λ _. ⌜ now (buf .exit) ≡ overPlaces (storing (now (words .entry))) (runPlaces n 2 at) k (now (buf .entry)) ⌝ }
 {
     let mut i: usize = 0;
     while i < n {
@@ -40,10 +74,72 @@ pub fn write_two(words: &[u32], k: usize, n: usize, buf: &mut [u8], at: usize)
     }
 }
 
+// Stores `n` words, from word `k` on, in the bytes from `at` on, `width` each.
+fn write_run(words: &[u32], k: usize, n: usize, width: usize, buf: &mut [u8], at: usize)
+    requires { ⌜ ((width ≡ 2) ⊎ (width ≡ 4)) × (k + n ≤ length (now words)) × (at + n * width ≤ length (now buf)) ⌝ }
+    ensures { λ _. ⌜ now (buf .exit) ≡ overPlaces (storing (now (words .entry))) (runPlaces n width at) k (now (buf .entry)) ⌝ }
+{
+    if width == 2 {
+        write_two(words, k, n, buf, at);
+        return;
+    }
+    if n <= 4 {
+        write_few(words, k, n, buf, at);
+        return;
+    }
+    write_four(words, k, n, buf, at);
+}
+
+// Stores the words from `k` on in parts from byte `at` on. Every byte that no word takes stays.
+pub fn write_parts(words: &[u32], k: usize, p: Parts, buf: &mut [u8], at: usize)
+    requires { ⌜ Room p at (length (now buf)) k (length (now words)) ⌝ }
+    ensures { λ _. ⌜ now (buf .exit) ≡ overPlaces (storing (now (words .entry))) (partPlaces (p .count) (p .unit) (p .width) (p .stride) at) k (now (buf .entry)) ⌝ }
+{
+    if p.stride == p.unit * p.width {
+        write_run(words, k, p.count * p.unit, p.width, buf, at);
+        return;
+    }
+    let mut i: usize = 0;
+    while i < p.count {
+        write_run(
+            words,
+            k + i * p.unit,
+            p.unit,
+            p.width,
+            buf,
+            at + i * p.stride,
+        );
+        i += 1;
+    }
+}
+
+// At most four words of four bytes.
+pub fn read_few(buf: &[u8], at: usize, n: usize, words: &mut [u32], k: usize)
+    requires { ⌜ (n ≤ 4) × (at + n * 4 ≤ length (now buf)) × (k + n ≤ length (now words)) ⌝ }
+    ensures { λ _. ⌜ now (words .exit) ≡ overPlaces (loading (now (buf .entry))) (runPlaces n 4 at) k (now (words .entry)) ⌝ }
+{
+    if n == 0 {
+        return;
+    }
+    words[k] = u32_at(buf, at);
+    if n == 1 {
+        return;
+    }
+    words[k + 1] = u32_at(buf, at + 4);
+    if n == 2 {
+        return;
+    }
+    words[k + 2] = u32_at(buf, at + 8);
+    if n == 3 {
+        return;
+    }
+    words[k + 3] = u32_at(buf, at + 12);
+}
+
 // Puts `n` words of four bytes each, from byte `at` on, into the words from `k` on. Every other word stays.
-pub fn read_four(buf: &[u8], at: usize, n: usize, words: &mut [u32], k: usize)
+fn read_four(buf: &[u8], at: usize, n: usize, words: &mut [u32], k: usize)
     requires { ⌜ (at + n * 4 ≤ length (now buf)) × (k + n ≤ length (now words)) ⌝ }
-    ensures { λ _. ⌜ now (words .exit) ≡ sets (now (words .entry)) k (wordsRead (runPlaces n 4 at) (now (buf .entry))) ⌝ }
+    ensures { λ _. ⌜ now (words .exit) ≡ overPlaces (loading (now (buf .entry))) (runPlaces n 4 at) k (now (words .entry)) ⌝ }
 {
     let mut i: usize = 0;
     while i < n {
@@ -53,9 +149,9 @@ pub fn read_four(buf: &[u8], at: usize, n: usize, words: &mut [u32], k: usize)
 }
 
 // Puts `n` words of two bytes each, from byte `at` on, into the words from `k` on. Every other word stays.
-pub fn read_two(buf: &[u8], at: usize, n: usize, words: &mut [u32], k: usize)
+fn read_two(buf: &[u8], at: usize, n: usize, words: &mut [u32], k: usize)
     requires { ⌜ (at + n * 2 ≤ length (now buf)) × (k + n ≤ length (now words)) ⌝ }
-    ensures { λ _. ⌜ now (words .exit) ≡ sets (now (words .entry)) k (wordsRead (runPlaces n 2 at) (now (buf .entry))) ⌝ }
+    ensures { λ _. ⌜ now (words .exit) ≡ overPlaces (loading (now (buf .entry))) (runPlaces n 2 at) k (now (words .entry)) ⌝ }
 {
     let mut i: usize = 0;
     while i < n {
@@ -64,10 +160,50 @@ pub fn read_two(buf: &[u8], at: usize, n: usize, words: &mut [u32], k: usize)
     }
 }
 
+// Puts `n` words of `width` bytes each, from byte `at` on, into the words from `k` on.
+fn read_run(buf: &[u8], at: usize, n: usize, width: usize, words: &mut [u32], k: usize)
+    requires { ⌜ ((width ≡ 2) ⊎ (width ≡ 4)) × (at + n * width ≤ length (now buf)) × (k + n ≤ length (now words)) ⌝ }
+    ensures { λ _. ⌜ now (words .exit) ≡ overPlaces (loading (now (buf .entry))) (runPlaces n width at) k (now (words .entry)) ⌝ }
+{
+    if width == 2 {
+        read_two(buf, at, n, words, k);
+        return;
+    }
+    if n <= 4 {
+        read_few(buf, at, n, words, k);
+        return;
+    }
+    read_four(buf, at, n, words, k);
+}
+
+// Puts the words of parts from byte `at` on into the words from `k` on. Every other word stays.
+pub fn read_parts(buf: &[u8], at: usize, p: Parts, words: &mut [u32], k: usize)
+    requires { ⌜ Room p at (length (now buf)) k (length (now words)) ⌝ }
+    ensures { λ _. ⌜ now (words .exit) ≡ overPlaces (loading (now (buf .entry))) (partPlaces (p .count) (p .unit) (p .width) (p .stride) at) k (now (words .entry)) ⌝ }
+{
+    if p.stride == p.unit * p.width {
+        read_run(buf, at, p.count * p.unit, p.width, words, k);
+        return;
+    }
+    let mut i: usize = 0;
+    while i < p.count {
+        read_run(
+            buf,
+            at + i * p.stride,
+            p.unit,
+            p.width,
+            words,
+            k + i * p.unit,
+        );
+        i += 1;
+    }
+}
+
 // Whether `n` words from word `k` on fit into two bytes each.
 pub fn scan_two(words: &[u32], k: usize, n: usize) -> Scan
     requires { ⌜ k + n ≤ length (now words) ⌝ }
-    ensures { λ r. ⌜ saidScan r ≡ checkWords k (runPlaces n 2 0) (drop k (now (words .entry))) ⌝ }
+    ensures { λ r. ⌜ saidScan r ≡ overPlaces (testing (now (words .entry))) (runPlaces n 2 0) k (good tt) ⌝ }
+    ensures tested { λ r. ⌜ (r ≡ Scan.Any → ⊥) ⌝ }
 {
     let mut i: usize = 0;
     while i < n {

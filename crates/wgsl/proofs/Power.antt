@@ -37,7 +37,7 @@ below-found (suc k) j a l e =
     (λ (h : j ≡ k). rw (eq-eqb a (2 ^ k) (rw (← h) e)))
     (λ (h : j < k). rw (below-found k j a h e) (or-true (eqb a (2 ^ k)))) (eq-or-lt-of-le m)
 
-exponent-small : {a : ℕ} (p : IsPower a) → a < 2 ^ 32 → p .exponent < 32
+pub exponent-small : {a : ℕ} (p : IsPower a) → a < 2 ^ 32 → p .exponent < 32
 exponent-small {a} p h = lt-of-not-le (λ l. lt-irrefl a (lt-of-lt-of-le h (rw (p .is) (pow-mono l))))
 
 -- The test holds of every power of two of 32 bits.
