@@ -1,0 +1,112 @@
+-- Writing and reading whole entries, step by step: the calls of crates/wgsl (specs/Call) once the entry is found, and what the code's
+-- functions ask.
+--
+-- In order: 17, 9 and 10; write and read after those; an entry whose rows are there; an open entry's runtime array; a call's entry.
+-- Definitions only. Assumes nothing.
+use Prim.Native.Nat.{ℕ, _+_, _-_, _*_, _≤_}
+use mathlib.Core.Path.{_≡_}
+use mathlib.Core.Bool.{true, cond, not}
+use mathlib.Core.List.{List, _++_}
+use lib.Dec.{eqb, ltb}
+use lib.ListN.{length, drop}
+use Rattle.wgsl.specs.Round.{withinLimit}
+use Rattle.wgsl.specs.Types.{Ty, runtime, isOpen, everywhere}
+use Rattle.wgsl.specs.Size.{hasLayout, isStorable}
+use Rattle.wgsl.specs.Said.{Said, good, refused, _>>_, refuse}
+use Rattle.wgsl.specs.Rule.{isWellFormed}
+use Rattle.wgsl.specs.Place.{Tail, extentOf, elementsIn, shapeOf, places, wordCount, written, wordsRead, checkWords}
+use Rattle.wgsl.specs.Call.{Done, entryOf, isShort, elementsFor, isWrongCount}
+use Rattle.wgsl.proofs.Opened.{Opened}
+use Rattle.file.specs.Refusal.{numberOf, placeOf}
+use Rattle.kinds.specs.declared.value.Layout.{Layout}
+use Rattle.kinds.specs.Value.{valueOf}
+use Rattle.folds.specs.Run.{runPlaces}
+use Rattle.rows.specs.declared.Row.{Row}
+use Rattle.rows.specs.Row.{rowAt, memberAt}
+use Rattle.rows.specs.Tree.{Many, Tree}
+use Rattle.plan.specs.declared.Ground.{Ground}
+use Rattle.plan.specs.Plan.{withCount, memberBytes, groundOf}
+use Rattle.words.specs.declared.Allowed.{Allowed}
+use Rattle.words.specs.declared.Allowed.the-variants.{Yes, Refused}
+
+-- ---- 17, 9 and 10
+
+unfoldable pub allowedFor : Ty → ℕ → Said (Unit {0})
+allowedFor t bytes = do
+  refuse 17 0 (not (withinLimit bytes))
+  refuse 9 0 (not (hasLayout t))
+  refuse 10 0 (not (isStorable t))
+
+abbrev pub saidAllowed : Allowed → Said (Unit {0})
+saidAllowed Yes = good tt
+saidAllowed (Refused r) = refused (numberOf r) (placeOf r)
+
+-- ---- write and read after those
+
+unfoldable pub writtenAs : Ty → List ℕ → List ℕ → Said Done
+writtenAs t ws b = do
+  refuse 14 0 (isWrongCount t ws)
+  let n = elementsFor (length ws) t
+  refuse 15 0 (ltb (length b) (extentOf n t))
+  checkWords 0 (places n t) ws
+  good (record { value = extentOf n t; contents = written n t ws b })
+
+unfoldable pub readAs : Ty → List ℕ → List ℕ → Said Done
+readAs t b ws = do
+  refuse 15 0 (isShort t b)
+  let n = elementsIn (length b) t
+  refuse 14 0 (ltb (length ws) (wordCount n t))
+  good (record { value = wordCount n t; contents = wordsRead (places n t) b ++ drop (wordCount n t) ws })
+
+-- ---- an entry whose rows are there
+
+-- a run over all the bytes of the type with n elements
+pub record Covered (t : Ty) (n : ℕ) : Type 0 where
+  pub width : ℕ
+  pub count : ℕ
+  pub places-are : places n t ≡ runPlaces count width 0
+  pub extent-is : extentOf n t ≡ count * width
+
+-- entry e, of the type t and the layout l
+pub record Ready (ms rows : List ℕ) (e : ℕ) (l : Layout) (t : Ty) : Type 0 where
+  pub layout-is : l ≡ valueOf t
+  pub well-formed : everywhere isWellFormed t ≡ true
+  pub storable : isStorable t ≡ true
+  pub inside : 10 * e + 10 ≤ length rows
+  pub tree : Tree ms rows e (shapeOf 0 t)
+  pub covered : (rowAt rows e .run ≡ 0 → ⊥) → (n : ℕ) → Covered t n
+
+-- ---- an open entry's runtime array
+
+-- the entry of the runtime array that entry e is or ends in
+unfoldable pub runtimeOf : List ℕ → List ℕ → ℕ → ℕ
+runtimeOf ms rows e =
+    let r : Row = rowAt rows e in
+    cond (eqb (r .kind) 10) e (memberAt ms (r .reference + r .count - 1) .type)
+
+abbrev pub runtimeRow : List ℕ → List ℕ → ℕ → Row
+runtimeRow ms rows e = rowAt rows (runtimeOf ms rows e)
+
+-- what finding it asks
+pub record Findable (ms rows : List ℕ) (e : ℕ) : Type 0 where
+  pub inside : 10 * e + 10 ≤ length rows
+  pub some-members : (rowAt rows e .kind ≡ 10 → ⊥) → 1 ≤ rowAt rows e .count
+  pub member-inside : (rowAt rows e .kind ≡ 10 → ⊥) → 12 * (rowAt rows e .reference + rowAt rows e .count) ≤ length ms
+
+pub record Tailed (ms rows : List ℕ) (e : ℕ) (l : Layout) (t : Ty) : Type 0 where
+  pub ready : Ready ms rows e l t
+  pub findable : Findable ms rows e
+  pub element : Ty
+  pub opened : Opened t element (record { offset = l .offset; stride = l .stride })
+  pub row-inside : 10 * runtimeOf ms rows e + 10 ≤ length rows
+  pub many : (n : ℕ) → Many ms rows (withCount n (runtimeRow ms rows e)) (shapeOf n (runtime element))
+  pub unit-is : (n : ℕ) → wordCount n element ≡ runtimeRow ms rows e .unit
+
+-- ---- a call's entry
+
+pub record Entry (f : List ℕ) (e : ℕ) (g : Ground) (rows : List ℕ) (t : Ty) : Type 0 where
+  pub entry-is : entryOf f e ≡ good t
+  pub ground-is : g ≡ groundOf f t
+  pub bytes-inside : (g .start ≤ g .end) × (g .end ≤ length f)
+  pub ready : isStorable t ≡ true → Ready (memberBytes f) rows e (valueOf t) t
+  pub tailed : isStorable t ≡ true → isOpen t ≡ true → Tailed (memberBytes f) rows e (valueOf t) t

@@ -1,0 +1,4 @@
+// Writing and reading whole entries. Every refusal is decided before the first byte or word is stored.
+pub mod decide;
+pub mod reading;
+pub mod writing;
