@@ -1,0 +1,67 @@
+use Prim.Native.Nat.{ℕ, _+_, _-_, _*_, _≤_}
+use mathlib.Core.Path.{_≡_, sym, _∙_}
+use native.Mathlib.Omega.{arith}
+use borrow.Author.Needs.{needs}
+use denote.Ref.{now}
+use Rattle.wgsl.specs.Said.{good}
+use Rattle.folds.specs.Fold.{overPlaces, testing}
+use Rattle.folds.specs.Run.{runPlaces}
+use Rattle.folds.proofs.Folds.{tested-refused}
+use Rattle.runs.proofs.Runs.{run-all, run-next, run-none, test-fits, test-past}
+use Rattle.runs.proofs.scan_two.Statement.{statement}
+use Rattle.runs.proofs.scan_two.Tie as tie
+
+abbrev Inv-loop : tie.InvT-loop
+Inv-loop words k n i₀ i =
+    (overPlaces (testing words) (runPlaces (n - i) 2 (0 + i * 2)) (k + i) (good tt) ≡ overPlaces (testing words) (runPlaces n 2 0) k (good tt)) × (i ≤ n)
+
+abbrev μ-loop : tie.MeasureT-loop
+μ-loop words k n i₀ i = n - i
+
+loop-holds : tie.Need-loop-holds Inv-loop μ-loop
+loop-holds c = (run-all (testing (now (c .args .words))) (c .args .n) 2 0 (c .args .k) (good tt), omega arith)
+
+add-if1 : tie.Need-add-if1 Inv-loop μ-loop
+add-if1 c = omega arith
+
+mul-if1 : tie.Need-mul-if1 Inv-loop μ-loop
+mul-if1 c = omega arith
+
+add-t10 : tie.Need-add-t10 Inv-loop μ-loop
+add-t10 c = omega arith
+
+returns : tie.Need-returns Inv-loop μ-loop
+returns c =
+    let l = c .before .before .before .loop in
+    let a = c .before .before .before .before .args in
+    let ws = now (a .words) in
+    let next = run-next (testing ws) (a .n) 2 0 (a .k) (good tt) (l .i) (omega arith) in
+    let past = test-past ws (record { at = 0 + l .i * 2; width = 2 }) (a .k + l .i) (omega arith) in
+    let stays = tested-refused ws (runPlaces (a .n - (l .i + 1)) 2 (0 + (l .i + 1) * 2)) (a .k + (l .i + 1)) 16 (a .k + l .i) in
+    (sym stays ∙ (rw past at next) ∙ l .inv .0, λ e. let z : _≡_ {A = ℕ} 0 1 = cc in omega arith)
+
+add-i : tie.Need-add-i Inv-loop μ-loop
+add-i c = omega arith
+
+loop-less : tie.Need-loop-less Inv-loop μ-loop
+loop-less c = omega arith
+
+loop-again : tie.Need-loop-again Inv-loop μ-loop
+loop-again c =
+    let l = c .before .before .before .loop in
+    let a = c .before .before .before .before .args in
+    let ws = now (a .words) in
+    let next = run-next (testing ws) (a .n) 2 0 (a .k) (good tt) (l .i) (omega arith) in
+    let fits = test-fits ws (record { at = 0 + l .i * 2; width = 2 }) (a .k + l .i) (omega arith) in
+    ((rw fits at next) ∙ l .inv .0, omega arith)
+
+returns-2 : tie.Need-returns-2 Inv-loop μ-loop
+returns-2 c =
+    let l = c .before .loop in
+    let a = c .before .before .args in
+    (sym (run-none (testing (now (a .words))) (a .n) 2 (0 + l .i * 2) (a .k + l .i) (good tt) (l .i) (omega arith)) ∙ l .inv .0, λ e. let z : _≡_ {A = ℕ} 0 1 = cc in omega arith)
+
+pub scan-two-spec : {M : Type 1} → statement M
+scan-two-spec =
+    tie.close (tie.spec
+    Inv-loop μ-loop loop-holds add-if1 mul-if1 (λ c. search needs) add-t10 returns add-i loop-less loop-again returns-2)
