@@ -1,6 +1,7 @@
 -- Passes over a run, turn by turn (crates/folds, proofs/Folds), and what one word of two bytes is stored and tested as.
 --
--- In order: what is left of a run; a run one word longer; widths, and room for a part; the two lowest bytes of a word; a word that fits, and one that does not.
+-- In order: what is left of a run; a run one word longer; widths, and room for a part; the two lowest bytes of a word;
+-- a word that fits, and one that does not.
 -- Assumes nothing.
 use Prim.Native.Nat.{ℕ, suc, _+_, _-_, _*_, _/_, _%_, _^_, _<_, _≤_}
 use mathlib.Core.Path.{_≡_, refl, sym, _∙_}
@@ -54,9 +55,10 @@ inside i count size stride at end h fits room = omega (arith, mul-le-mul-right s
 
 -- Where there is room for all parts, there is room for the i-th.
 pub part-room : {p : Parts} {at bytes k words : ℕ} (i : ℕ) → Room p at bytes k words → i < p .count → (at + i * p .stride + p .unit * p .width ≤ bytes) × (k + i * p .unit + p .unit ≤ words)
-part-room {p} {at} {bytes} {k} {words} i room h =
-    (inside i (p .count) (p .unit * p .width) (p .stride) at bytes h (room .fits) (room .bytes-there),
-    inside i (p .count) (p .unit) (p .unit) k words h (omega arith) (room .words-there))
+part-room {p} {at} {bytes} {k} {words} i room h = (
+  inside i (p .count) (p .unit * p .width) (p .stride) at bytes h (room .fits) (room .bytes-there),
+  inside i (p .count) (p .unit) (p .unit) k words h (omega arith) (room .words-there),
+)
 
 -- ---- the two lowest bytes
 
@@ -65,7 +67,7 @@ pub store-two : (b : List ℕ) (at n : ℕ) → store 2 b at (n % 65536) ≡ sto
 unfolding store bytesOf
 store-two b at n =
     let low : n % 65536 % 256 ≡ n % 256 = omega arith in
-    rw (low, rest (n / 256) (n / 65536) (n % 65536 / 256) (omega arith) (omega arith)) refl
+    rw (low, rest (n / 256) (n / 65536) (n % 65536 / 256) (omega arith) (omega arith))
   where
     rest : (y q x : ℕ) → y ≡ 256 * q + x → x < 256 → x % 256 ≡ y % 256
     rest y q x e h = omega arith

@@ -13,24 +13,15 @@ use Rattle.folds.proofs.Folds.{over-all, over-next, over-none, run-length, part
 use Rattle.runs.proofs.Runs.{part-room}
 use Rattle.runs.proofs.read_parts.Statement.{statement}
 use Rattle.runs.proofs.read_parts.Tie as tie
-use Rattle.runs.proofs.read_parts.Reads as reads
-use Rattle.runs.proofs.read_parts.Lts as lts
-use Rattle.runs.proofs.read_run.Reads as read-run-reads
 
 abbrev Inv-loop : tie.InvT-loop
 Inv-loop buf at p words₀ k i₀ words i =
     (overPlaces (loading buf) (partPlaces (p .count - i) (p .unit) (p .width) (p .stride) (at + i * p .stride)) (k + i * p .unit) words
-      ≡ overPlaces (loading buf) (partPlaces (p .count) (p .unit) (p .width) (p .stride) at) k words₀)
+    ≡ overPlaces (loading buf) (partPlaces (p .count) (p .unit) (p .width) (p .stride) at) k words₀)
     × (i ≤ p .count) × (length words ≡ length words₀)
 
 abbrev μ-loop : tie.MeasureT-loop
 μ-loop buf at p words₀ k i₀ words i = p .count - i
-
-mul-if1 : tie.Need-mul-if1 Inv-loop μ-loop
-mul-if1 c = omega arith
-
-mul-read-run : tie.Need-mul-read-run Inv-loop μ-loop
-mul-read-run c = omega arith
 
 read-run-requires : tie.Need-read-run-requires Inv-loop μ-loop
 read-run-requires c κs =
@@ -39,9 +30,6 @@ read-run-requires c κs =
     let e : p .stride ≡ p .unit * p .width = omega arith in
     let l = rw (e, sym (mul-assoc (p .count) (p .unit) (p .width))) at (room .bytes-there) in
     (room .width, l, room .words-there)
-
-same-length : tie.Need-same-length Inv-loop μ-loop
-same-length c = search needs
 
 returns : tie.Need-returns Inv-loop μ-loop
 returns c =
@@ -54,31 +42,42 @@ loop-holds : tie.Need-loop-holds Inv-loop μ-loop
 unfolding partPlaces
 loop-holds c =
     let a = c .before .before .before .before .before .args in
-    let p = a .p in
-    (over-all (loading (now (a .buf))) (λ q. runPlaces (p .unit) (p .width) q) (p .count) (p .stride) (p .unit) (a .at) (a .k) (now (a .words)), omega arith, refl)
+    let p = a .p in (
+      over-all (loading (now (a .buf))) (λ q. runPlaces (p .unit) (p .width) q) (p .count)
+          (p .stride) (p .unit) (a .at) (a .k) (now (a .words)),
+      omega arith,
+      refl,
+    )
 
 mul-read-run-2 : tie.Need-mul-read-run-2 Inv-loop μ-loop
-mul-read-run-2 c = let room = part-room (c .before .before .before .loop .i) (c .before .before .before .before .before .before .before .before .before .pre) (omega arith) in omega arith
+mul-read-run-2 c =
+    let room = part-room (c .before .before .before .loop .i)
+    (c .before .before .before .before .before .before .before .before .before .pre) (omega arith) in
+    omega arith
 
 add-read-run : tie.Need-add-read-run Inv-loop μ-loop
-add-read-run c = let room = part-room (c .before .before .before .loop .i) (c .before .before .before .before .before .before .before .before .before .pre) (omega arith) in omega arith
+add-read-run c =
+    let room = part-room (c .before .before .before .loop .i)
+    (c .before .before .before .before .before .before .before .before .before .pre) (omega arith) in
+    omega arith
 
 mul-read-run-3 : tie.Need-mul-read-run-3 Inv-loop μ-loop
-mul-read-run-3 c = let room = part-room (c .before .before .before .before .before .loop .i) (c .before .before .before .before .before .before .before .before .before .before .before .pre) (omega arith) in omega arith
+mul-read-run-3 c =
+    let room = part-room (c .before .before .before .before .before .loop .i)
+    (c .before .before .before .before .before .before .before .before .before .before .before .pre) (omega arith) in
+    omega arith
 
 add-read-run-2 : tie.Need-add-read-run-2 Inv-loop μ-loop
-add-read-run-2 c = let room = part-room (c .before .before .before .before .before .loop .i) (c .before .before .before .before .before .before .before .before .before .before .before .pre) (omega arith) in omega arith
+add-read-run-2 c =
+    let room = part-room (c .before .before .before .before .before .loop .i)
+    (c .before .before .before .before .before .before .before .before .before .before .before .pre) (omega arith) in
+    omega arith
 
 read-run-requires-2 : tie.Need-read-run-requires-2 Inv-loop μ-loop
 read-run-requires-2 c κs =
-    let room = part-room (c .before .before .before .before .before .loop .i) (c .before .before .before .before .before .before .before .before .before .before .before .pre) (omega arith) in
+    let room = part-room (c .before .before .before .before .before .loop .i)
+    (c .before .before .before .before .before .before .before .before .before .before .before .pre) (omega arith) in
     (c .before .before .before .before .before .before .before .before .before .before .before .pre .width, omega arith, omega arith)
-
-add-i : tie.Need-add-i Inv-loop μ-loop
-add-i c = omega arith
-
-loop-less : tie.Need-loop-less Inv-loop μ-loop
-loop-less c = omega arith
 
 loop-again : tie.Need-loop-again Inv-loop μ-loop
 unfolding partPlaces
@@ -90,11 +89,11 @@ loop-again c =
     let part = runPlaces (p .unit) (p .width) (a .at + l .i * p .stride) in
     let done = c .before .before .read-run2 .ensures in
     let next = over-next f (λ q. runPlaces (p .unit) (p .width) q) (p .count) (p .stride) (p .unit) (a .at) (a .k) (l .words) (l .i)
-               (λ q. run-length (p .unit) (p .width) q) (omega arith) in
-    (rw done (next ∙ l .inv .0), omega arith, ap length done ∙ length-loading (now (a .buf)) part (a .k + l .i * p .unit) (l .words) ∙ l .inv .2)
-
-same-length-2 : tie.Need-same-length-2 Inv-loop μ-loop
-same-length-2 c = search needs
+    (λ q. run-length (p .unit) (p .width) q) (omega arith) in (
+      rw done (next ∙ l .inv .0),
+      omega arith,
+      ap length done ∙ length-loading (now (a .buf)) part (a .k + l .i * p .unit) (l .words) ∙ l .inv .2,
+    )
 
 returns-2 : tie.Need-returns-2 Inv-loop μ-loop
 unfolding partPlaces
@@ -102,27 +101,12 @@ returns-2 c =
     let l = c .before .before .loop in
     let a = c .before .before .before .before .before .before .before .before .args in
     let p = a .p in
-    sym (over-none (loading (now (a .buf))) (λ q. runPlaces (p .unit) (p .width) q) (p .count) (p .stride) (a .at + l .i * p .stride) (a .k + l .i * p .unit) (l .words) (l .i) (omega arith)) ∙ l .inv .0
+    sym (over-none (loading (now (a .buf))) (λ q. runPlaces (p .unit) (p .width) q) (p .count)
+    (p .stride) (a .at + l .i * p .stride) (a .k + l .i * p .unit) (l .words) (l .i) (omega arith)) ∙ l .inv .0
 
 pub read-parts-spec : {M : Type 1} → statement M
 read-parts-spec =
-    tie.close
-    (tie.spec
-    Inv-loop
-    μ-loop
-    mul-if1
-    mul-read-run
-    read-run-requires
-    same-length
-    returns
-    loop-holds
-    mul-read-run-2
-    add-read-run
-    mul-read-run-3
-    add-read-run-2
-    read-run-requires-2
-    add-i
-    loop-less
-    loop-again
-    same-length-2
-    returns-2)
+    tie.close (tie.spec
+    Inv-loop μ-loop (λ c. search needs) (λ c. search needs) read-run-requires (λ c. search needs) returns loop-holds
+    mul-read-run-2 add-read-run mul-read-run-3 add-read-run-2 read-run-requires-2 (λ c. search needs)
+    (λ c. search needs) loop-again (λ c. search needs) returns-2)

@@ -1,3 +1,5 @@
+-- Each turn of the loop tests one word of what is left; the first that does not fit decides.
+-- Assumes nothing.
 use Prim.Native.Nat.{ℕ, _+_, _-_, _*_, _≤_}
 use mathlib.Core.Path.{_≡_, sym, _∙_}
 use native.Mathlib.Omega.{arith}
@@ -13,22 +15,14 @@ use Rattle.runs.proofs.scan_two.Tie as tie
 
 abbrev Inv-loop : tie.InvT-loop
 Inv-loop words k n i₀ i =
-    (overPlaces (testing words) (runPlaces (n - i) 2 (0 + i * 2)) (k + i) (good tt) ≡ overPlaces (testing words) (runPlaces n 2 0) k (good tt)) × (i ≤ n)
+    (overPlaces (testing words) (runPlaces (n - i) 2 (0 + i * 2)) (k + i) (good tt)
+    ≡ overPlaces (testing words) (runPlaces n 2 0) k (good tt)) × (i ≤ n)
 
 abbrev μ-loop : tie.MeasureT-loop
 μ-loop words k n i₀ i = n - i
 
 loop-holds : tie.Need-loop-holds Inv-loop μ-loop
 loop-holds c = (run-all (testing (now (c .args .words))) (c .args .n) 2 0 (c .args .k) (good tt), omega arith)
-
-add-if1 : tie.Need-add-if1 Inv-loop μ-loop
-add-if1 c = omega arith
-
-mul-if1 : tie.Need-mul-if1 Inv-loop μ-loop
-mul-if1 c = omega arith
-
-add-t10 : tie.Need-add-t10 Inv-loop μ-loop
-add-t10 c = omega arith
 
 returns : tie.Need-returns Inv-loop μ-loop
 returns c =
@@ -39,12 +33,6 @@ returns c =
     let past = test-past ws (record { at = 0 + l .i * 2; width = 2 }) (a .k + l .i) (omega arith) in
     let stays = tested-refused ws (runPlaces (a .n - (l .i + 1)) 2 (0 + (l .i + 1) * 2)) (a .k + (l .i + 1)) 16 (a .k + l .i) in
     (sym stays ∙ (rw past at next) ∙ l .inv .0, λ e. let z : _≡_ {A = ℕ} 0 1 = cc in omega arith)
-
-add-i : tie.Need-add-i Inv-loop μ-loop
-add-i c = omega arith
-
-loop-less : tie.Need-loop-less Inv-loop μ-loop
-loop-less c = omega arith
 
 loop-again : tie.Need-loop-again Inv-loop μ-loop
 loop-again c =
@@ -64,4 +52,5 @@ returns-2 c =
 pub scan-two-spec : {M : Type 1} → statement M
 scan-two-spec =
     tie.close (tie.spec
-    Inv-loop μ-loop loop-holds add-if1 mul-if1 (λ c. search needs) add-t10 returns add-i loop-less loop-again returns-2)
+    Inv-loop μ-loop loop-holds (λ c. search needs) (λ c. search needs) (λ c. search needs) (λ c. search needs) returns
+    (λ c. search needs) (λ c. search needs) loop-again returns-2)

@@ -1,3 +1,5 @@
+-- Each turn of the loop stores one word of what is left.
+-- Assumes nothing.
 use Prim.Native.Nat.{_+_, _-_, _*_, _≤_}
 use mathlib.Core.Path.{_≡_, refl, ap, sym, _∙_}
 use native.Mathlib.Omega.{arith}
@@ -13,7 +15,9 @@ use Rattle.runs.proofs.write_four.Tie as tie
 
 abbrev Inv-loop : tie.InvT-loop
 Inv-loop words k n buf₀ at i₀ buf i =
-    (overPlaces (storing words) (runPlaces (n - i) 4 (at + i * 4)) (k + i) buf ≡ overPlaces (storing words) (runPlaces n 4 at) k buf₀) × (i ≤ n) × (length buf ≡ length buf₀)
+    (overPlaces (storing words) (runPlaces (n - i) 4 (at + i * 4)) (k + i) buf
+    ≡ overPlaces (storing words) (runPlaces n 4 at) k buf₀) × (i ≤ n)
+    × (length buf ≡ length buf₀)
 
 abbrev μ-loop : tie.MeasureT-loop
 μ-loop words k n buf₀ at i₀ buf i = n - i
@@ -22,24 +26,6 @@ loop-holds : tie.Need-loop-holds Inv-loop μ-loop
 loop-holds c =
     let a = c .before .before .args in
     (run-all (storing (now (a .words))) (a .n) 4 (a .at) (a .k) (now (a .buf)), omega arith, refl)
-
-mul-store-u32 : tie.Need-mul-store-u32 Inv-loop μ-loop
-mul-store-u32 c = omega arith
-
-add-store-u32 : tie.Need-add-store-u32 Inv-loop μ-loop
-add-store-u32 c = omega arith
-
-add-store-u32-2 : tie.Need-add-store-u32-2 Inv-loop μ-loop
-add-store-u32-2 c = omega arith
-
-mul-store-u32-2 : tie.Need-mul-store-u32-2 Inv-loop μ-loop
-mul-store-u32-2 c = omega arith
-
-add-i : tie.Need-add-i Inv-loop μ-loop
-add-i c = omega arith
-
-loop-less : tie.Need-loop-less Inv-loop μ-loop
-loop-less c = omega arith
 
 loop-again : tie.Need-loop-again Inv-loop μ-loop
 unfolding storing
@@ -59,5 +45,5 @@ returns c =
 pub write-four-spec : {M : Type 1} → statement M
 write-four-spec =
     tie.close (tie.spec
-    Inv-loop μ-loop loop-holds mul-store-u32 add-store-u32 add-store-u32-2 mul-store-u32-2 (λ c. search needs)
-    (λ c κs. search needs) add-i loop-less loop-again (λ c. search needs) returns)
+    Inv-loop μ-loop loop-holds (λ c. search needs) (λ c. search needs) (λ c. search needs) (λ c. search needs) (λ c.
+    search needs) (λ c κs. search needs) (λ c. search needs) (λ c. search needs) loop-again (λ c. search needs) returns)

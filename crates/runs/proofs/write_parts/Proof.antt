@@ -13,24 +13,15 @@ use Rattle.folds.proofs.Folds.{over-all, over-next, over-none, run-length, part
 use Rattle.runs.proofs.Runs.{part-room}
 use Rattle.runs.proofs.write_parts.Statement.{statement}
 use Rattle.runs.proofs.write_parts.Tie as tie
-use Rattle.runs.proofs.write_parts.Reads as reads
-use Rattle.runs.proofs.write_parts.Lts as lts
-use Rattle.runs.proofs.write_run.Reads as write-run-reads
 
 abbrev Inv-loop : tie.InvT-loop
 Inv-loop words k p buf₀ at i₀ buf i =
     (overPlaces (storing words) (partPlaces (p .count - i) (p .unit) (p .width) (p .stride) (at + i * p .stride)) (k + i * p .unit) buf
-      ≡ overPlaces (storing words) (partPlaces (p .count) (p .unit) (p .width) (p .stride) at) k buf₀)
+    ≡ overPlaces (storing words) (partPlaces (p .count) (p .unit) (p .width) (p .stride) at) k buf₀)
     × (i ≤ p .count) × (length buf ≡ length buf₀)
 
 abbrev μ-loop : tie.MeasureT-loop
 μ-loop words k p buf₀ at i₀ buf i = p .count - i
-
-mul-if1 : tie.Need-mul-if1 Inv-loop μ-loop
-mul-if1 c = omega arith
-
-mul-write-run : tie.Need-mul-write-run Inv-loop μ-loop
-mul-write-run c = omega arith
 
 write-run-requires : tie.Need-write-run-requires Inv-loop μ-loop
 write-run-requires c κs =
@@ -39,9 +30,6 @@ write-run-requires c κs =
     let e : p .stride ≡ p .unit * p .width = omega arith in
     let l = rw (e, sym (mul-assoc (p .count) (p .unit) (p .width))) at (room .bytes-there) in
     (room .width, room .words-there, l)
-
-same-length : tie.Need-same-length Inv-loop μ-loop
-same-length c = search needs
 
 returns : tie.Need-returns Inv-loop μ-loop
 returns c =
@@ -54,31 +42,42 @@ loop-holds : tie.Need-loop-holds Inv-loop μ-loop
 unfolding partPlaces
 loop-holds c =
     let a = c .before .before .before .before .before .args in
-    let p = a .p in
-    (over-all (storing (now (a .words))) (λ q. runPlaces (p .unit) (p .width) q) (p .count) (p .stride) (p .unit) (a .at) (a .k) (now (a .buf)), omega arith, refl)
+    let p = a .p in (
+      over-all (storing (now (a .words))) (λ q. runPlaces (p .unit) (p .width) q) (p .count)
+          (p .stride) (p .unit) (a .at) (a .k) (now (a .buf)),
+      omega arith,
+      refl,
+    )
 
 mul-write-run-2 : tie.Need-mul-write-run-2 Inv-loop μ-loop
-mul-write-run-2 c = let room = part-room (c .before .before .before .loop .i) (c .before .before .before .before .before .before .before .before .before .pre) (omega arith) in omega arith
+mul-write-run-2 c =
+    let room = part-room (c .before .before .before .loop .i)
+    (c .before .before .before .before .before .before .before .before .before .pre) (omega arith) in
+    omega arith
 
 add-write-run : tie.Need-add-write-run Inv-loop μ-loop
-add-write-run c = let room = part-room (c .before .before .before .loop .i) (c .before .before .before .before .before .before .before .before .before .pre) (omega arith) in omega arith
+add-write-run c =
+    let room = part-room (c .before .before .before .loop .i)
+    (c .before .before .before .before .before .before .before .before .before .pre) (omega arith) in
+    omega arith
 
 mul-write-run-3 : tie.Need-mul-write-run-3 Inv-loop μ-loop
-mul-write-run-3 c = let room = part-room (c .before .before .before .before .before .loop .i) (c .before .before .before .before .before .before .before .before .before .before .before .pre) (omega arith) in omega arith
+mul-write-run-3 c =
+    let room = part-room (c .before .before .before .before .before .loop .i)
+    (c .before .before .before .before .before .before .before .before .before .before .before .pre) (omega arith) in
+    omega arith
 
 add-write-run-2 : tie.Need-add-write-run-2 Inv-loop μ-loop
-add-write-run-2 c = let room = part-room (c .before .before .before .before .before .loop .i) (c .before .before .before .before .before .before .before .before .before .before .before .pre) (omega arith) in omega arith
+add-write-run-2 c =
+    let room = part-room (c .before .before .before .before .before .loop .i)
+    (c .before .before .before .before .before .before .before .before .before .before .before .pre) (omega arith) in
+    omega arith
 
 write-run-requires-2 : tie.Need-write-run-requires-2 Inv-loop μ-loop
 write-run-requires-2 c κs =
-    let room = part-room (c .before .before .before .before .before .loop .i) (c .before .before .before .before .before .before .before .before .before .before .before .pre) (omega arith) in
+    let room = part-room (c .before .before .before .before .before .loop .i)
+    (c .before .before .before .before .before .before .before .before .before .before .before .pre) (omega arith) in
     (c .before .before .before .before .before .before .before .before .before .before .before .pre .width, omega arith, omega arith)
-
-add-i : tie.Need-add-i Inv-loop μ-loop
-add-i c = omega arith
-
-loop-less : tie.Need-loop-less Inv-loop μ-loop
-loop-less c = omega arith
 
 loop-again : tie.Need-loop-again Inv-loop μ-loop
 unfolding partPlaces
@@ -90,11 +89,11 @@ loop-again c =
     let part = runPlaces (p .unit) (p .width) (a .at + l .i * p .stride) in
     let done = c .before .before .write-run2 .ensures in
     let next = over-next f (λ q. runPlaces (p .unit) (p .width) q) (p .count) (p .stride) (p .unit) (a .at) (a .k) (l .buf) (l .i)
-               (λ q. run-length (p .unit) (p .width) q) (omega arith) in
-    (rw done (next ∙ l .inv .0), omega arith, ap length done ∙ length-storing (now (a .words)) part (a .k + l .i * p .unit) (l .buf) ∙ l .inv .2)
-
-same-length-2 : tie.Need-same-length-2 Inv-loop μ-loop
-same-length-2 c = search needs
+    (λ q. run-length (p .unit) (p .width) q) (omega arith) in (
+      rw done (next ∙ l .inv .0),
+      omega arith,
+      ap length done ∙ length-storing (now (a .words)) part (a .k + l .i * p .unit) (l .buf) ∙ l .inv .2,
+    )
 
 returns-2 : tie.Need-returns-2 Inv-loop μ-loop
 unfolding partPlaces
@@ -102,27 +101,12 @@ returns-2 c =
     let l = c .before .before .loop in
     let a = c .before .before .before .before .before .before .before .before .args in
     let p = a .p in
-    sym (over-none (storing (now (a .words))) (λ q. runPlaces (p .unit) (p .width) q) (p .count) (p .stride) (a .at + l .i * p .stride) (a .k + l .i * p .unit) (l .buf) (l .i) (omega arith)) ∙ l .inv .0
+    sym (over-none (storing (now (a .words))) (λ q. runPlaces (p .unit) (p .width) q) (p .count)
+    (p .stride) (a .at + l .i * p .stride) (a .k + l .i * p .unit) (l .buf) (l .i) (omega arith)) ∙ l .inv .0
 
 pub write-parts-spec : {M : Type 1} → statement M
 write-parts-spec =
-    tie.close
-    (tie.spec
-    Inv-loop
-    μ-loop
-    mul-if1
-    mul-write-run
-    write-run-requires
-    same-length
-    returns
-    loop-holds
-    mul-write-run-2
-    add-write-run
-    mul-write-run-3
-    add-write-run-2
-    write-run-requires-2
-    add-i
-    loop-less
-    loop-again
-    same-length-2
-    returns-2)
+    tie.close (tie.spec
+    Inv-loop μ-loop (λ c. search needs) (λ c. search needs) write-run-requires (λ c. search needs) returns loop-holds
+    mul-write-run-2 add-write-run mul-write-run-3 add-write-run-2 write-run-requires-2 (λ c. search needs)
+    (λ c. search needs) loop-again (λ c. search needs) returns-2)

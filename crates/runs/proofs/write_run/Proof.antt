@@ -6,67 +6,36 @@ use borrow.Author.Needs.{needs}
 use Rattle.runs.proofs.Runs.{width-four}
 use Rattle.runs.proofs.write_run.Statement.{statement}
 use Rattle.runs.proofs.write_run.Tie as tie
-use Rattle.runs.proofs.write_run.Reads as reads
-use Rattle.runs.proofs.write_run.Lts as lts
-use Rattle.runs.proofs.write_few.Reads as write-few-reads
-use Rattle.runs.proofs.write_four.Reads as write-four-reads
-use Rattle.runs.proofs.write_two.Reads as write-two-reads
 
--- src/lib.rt:84:9
 write-two-requires : tie.Need-write-two-requires
 write-two-requires c κs =
     let w : c .before .before .before .before .args .width ≡ 2 = omega arith in
     let p = c .before .before .before .before .pre in
     (p .1, rw w at (p .2))
 
--- src/lib.rt:85:9
-same-length : tie.Need-same-length
-same-length c = search needs
-
--- src/lib.rt:85:9
 returns : tie.Need-returns
 returns c = let w : c .before .before .before .before .before .before .before .args .width ≡ 2 = omega arith in rw w (c .before .before .write-two .ensures)
 
--- src/lib.rt:88:9
 write-few-requires : tie.Need-write-few-requires
 write-few-requires c κs =
     let w : c .before .before .before .before .before .args .width ≡ 4 = width-four (c .before .before .before .before .before .pre .0) (λ e. omega arith) in
     let p = c .before .before .before .before .before .pre in
     (omega arith, p .1, rw w at (p .2))
 
--- src/lib.rt:89:9
-same-length-2 : tie.Need-same-length-2
-same-length-2 c = search needs
-
--- src/lib.rt:89:9
 returns-2 : tie.Need-returns-2
 returns-2 c = let w : c .before .before .before .before .before .before .before .before .args .width ≡ 4 = width-four (c .before .before .before .before .before .before .before .before .pre .0) (λ e. omega arith) in rw w (c .before .before .write-few .ensures)
 
--- src/lib.rt:91:5
 write-four-requires : tie.Need-write-four-requires
 write-four-requires c κs =
     let w : c .before .before .before .before .before .args .width ≡ 4 = width-four (c .before .before .before .before .before .pre .0) (λ e. omega arith) in
     let p = c .before .before .before .before .before .pre in
     (p .1, rw w at (p .2))
 
--- src/lib.rt:79:1
-same-length-3 : tie.Need-same-length-3
-same-length-3 c = search needs
-
--- src/lib.rt:79:1
 returns-3 : tie.Need-returns-3
 returns-3 c = let w : c .before .before .before .before .before .before .before .before .args .width ≡ 4 = width-four (c .before .before .before .before .before .before .before .before .pre .0) (λ e. omega arith) in rw w (c .before .before .write-four .ensures)
 
 pub write-run-spec : {M : Type 1} → statement M
 write-run-spec =
-    tie.close
-    (tie.spec
-    write-two-requires
-    same-length
-    returns
-    write-few-requires
-    same-length-2
-    returns-2
-    write-four-requires
-    same-length-3
-    returns-3)
+    tie.close (tie.spec
+    write-two-requires (λ c. search needs) returns write-few-requires (λ c. search needs) returns-2 write-four-requires
+    (λ c. search needs) returns-3)
