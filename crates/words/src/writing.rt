@@ -1,9 +1,15 @@
 // `write`: document 01's order is 1 to 8, 17, 9, 10, 14, 15, 16.
 use crate::decide::Allowed;
+use crate::decide::Found;
+use crate::decide::Tail;
 use crate::decide::allow;
+use crate::decide::closed_tail;
+use crate::decide::elements_for;
+use crate::decide::extent_for;
 use crate::decide::fit;
+use crate::decide::no_rows;
+use crate::decide::open_tail;
 use crate::decide::runtime_of;
-use crate::decide::with_count;
 use file::refusal::Refusal;
 use file::trailer::wide;
 use kinds::value::Layout;
@@ -11,8 +17,6 @@ use layout::ask::Number;
 use plan::Ground;
 use plan::Planned;
 use plan::lay;
-use plan::no_rows;
-use rows::Row;
 use rows::row_at;
 use runs::Scan;
 use scanner::scan_entry;
@@ -25,14 +29,12 @@ ghost use mathlib.Core.List.{_++_};
 ghost use Prim.Native.Nat.{ℕ, _+_, _*_, _≤_};
 ghost use lib.ListN.{length, drop, replicate};
 ghost use Rattle.wgsl.specs.Types.{Ty, isOpen};
-ghost use Rattle.wgsl.specs.Said.{good};
 ghost use Rattle.wgsl.specs.Place.{extentOf, places, wordCount, written, checkWords};
 ghost use Rattle.wgsl.specs.Call.{answerOf, contentsOf, writeCall};
 ghost use Rattle.layout.specs.Answer.{saidNumber};
 ghost use Rattle.runs.specs.Run.{saidScan};
 ghost use Rattle.rows.specs.Row.{rowAt};
-ghost use Rattle.plan.specs.Plan.{withCount};
-ghost use Rattle.words.specs.Whole.{writtenAs, Ready, Tailed, runtimeRow, Entry};
+ghost use Rattle.words.specs.Whole.{writtenAs, Ready, Tailed, Whole, heldAs, storedAs, Entry};
 
 // "zero where no scalar lies": the first `n` bytes.
 fn zero(buf: &mut [u8], n: usize)
@@ -59,17 +61,67 @@ fn clear(rows: &[u32], e: usize, buf: &mut [u8], n: usize)
     zero(buf, n);
 }
 
-// Stores the words of a type of fixed size. Everything is decided.
-fn store_closed(members: &[u8], rows: &[u32], e: usize, size: usize, words: &[u32], buf: &mut [u8])
-    requires { ⌜ ((l : Layout) × (t : Ty) × Ready (now members) (now rows) e l t × (isOpen t ≡ false) × (size ≡ extentOf 0 t) × (size ≤ length (now buf)) × (length (now words) ≡ wordCount 0 t)) ⌝ }
-    ensures { λ _. ⌜ ((l : Layout) (t : Ty) → Ready (now (members .entry)) (now (rows .entry)) e l t → size ≡ extentOf 0 t → size ≤ length (now (buf .entry)) → length (now (words .entry)) ≡ wordCount 0 t → now (buf .exit) ≡ written 0 t (now (words .entry)) (now (buf .entry))) ⌝ }
+// Tests the words of an entry: the fixed part, then the tail.
+fn scan(members: &[u8], rows: &[u32], e: usize, x: Tail, words: &[u32]) -> Scan
+    requires { ⌜ ((t : Ty) × (n : ℕ) × Whole (now members) (now rows) e x t n × (length (now words) ≡ wordCount n t)) ⌝ }
+    ensures { λ r. ⌜ ((t : Ty) (n : ℕ) → Whole (now (members .entry)) (now (rows .entry)) e x t n → length (now (words .entry)) ≡ wordCount n t → saidScan r ≡ checkWords 0 (places n t) (now (words .entry))) ⌝ }
 {
-    clear(rows, e, buf, size);
-    write_entry(members, rows, e, 0, words, 0, buf);
+    match scan_entry(members, rows, e, words, 0) {
+        Scan::Bad(k) => Scan::Bad(k),
+        _ => scan_many(members, rows, x.row, words, x.fixed),
+    }
 }
 
-// A type of fixed size.
-fn write_closed(members: &[u8], rows: &[u32], e: usize, l: Layout, words: &[u32], buf: &mut [u8]) -> Number
+// Stores the words of an entry of so many bytes: the fixed part, then the tail.
+fn store(
+    members: &[u8],
+    rows: &[u32],
+    e: usize,
+    x: Tail,
+    extent: usize,
+    words: &[u32],
+    buf: &mut [u8],
+)
+    requires { ⌜ ((t : Ty) × (n : ℕ) × Whole (now members) (now rows) e x t n × (length (now words) ≡ wordCount n t) × (extent ≡ extentOf n t) × (extent ≤ length (now buf))) ⌝ }
+    ensures { λ _. ⌜ ((t : Ty) (n : ℕ) → Whole (now (members .entry)) (now (rows .entry)) e x t n → length (now (words .entry)) ≡ wordCount n t → extent ≡ extentOf n t → extent ≤ length (now (buf .entry)) → now (buf .exit) ≡ written n t (now (words .entry)) (now (buf .entry))) ⌝ }
+{
+    clear(rows, e, buf, extent);
+    write_entry(members, rows, e, 0, words, 0, buf);
+    write_many(members, rows, x.row, x.offset, words, x.fixed, buf);
+}
+
+// The words are right in number, and the bytes are there.
+fn write_whole(
+    members: &[u8],
+    rows: &[u32],
+    e: usize,
+    x: Tail,
+    extent: u32,
+    words: &[u32],
+    buf: &mut [u8],
+) -> Number
+    requires { ⌜ ((t : Ty) × (n : ℕ) × Whole (now members) (now rows) e x t n × (length (now words) ≡ wordCount n t) × (extent ≡ extentOf n t) × (extent ≤ length (now buf))) ⌝ }
+    ensures answer { λ r. ⌜ ((t : Ty) (n : ℕ) → Whole (now (members .entry)) (now (rows .entry)) e x t n → length (now (words .entry)) ≡ wordCount n t → extent ≡ extentOf n t → extent ≤ length (now (buf .entry)) → saidNumber r ≡ answerOf (storedAs n t (now (words .entry)) (now (buf .entry)))) ⌝ }
+    ensures buffer { λ _. ⌜ ((t : Ty) (n : ℕ) → Whole (now (members .entry)) (now (rows .entry)) e x t n → length (now (words .entry)) ≡ wordCount n t → extent ≡ extentOf n t → extent ≤ length (now (buf .entry)) → now (buf .exit) ≡ contentsOf (now (buf .entry)) (storedAs n t (now (words .entry)) (now (buf .entry)))) ⌝ }
+{
+    match fit(scan(members, rows, e, x, words)) {
+        Allowed::Refused(r) => Number::Refused(r),
+        Allowed::Yes => {
+            store(members, rows, e, x, wide(extent), words, buf);
+            Number::Is(extent)
+        }
+    }
+}
+
+// 14, 15, 16 for a type of fixed size.
+fn write_closed(
+    members: &[u8],
+    rows: &[u32],
+    e: usize,
+    l: Layout,
+    words: &[u32],
+    buf: &mut [u8],
+) -> Number
     requires { ⌜ ((t : Ty) × Ready (now members) (now rows) e l t × (isOpen t ≡ false)) ⌝ }
     ensures answer { λ r. ⌜ ((t : Ty) → Ready (now (members .entry)) (now (rows .entry)) e l t → isOpen t ≡ false → saidNumber r ≡ answerOf (writtenAs t (now (words .entry)) (now (buf .entry)))) ⌝ }
     ensures buffer { λ _. ⌜ ((t : Ty) → Ready (now (members .entry)) (now (rows .entry)) e l t → isOpen t ≡ false → now (buf .exit) ≡ contentsOf (now (buf .entry)) (writtenAs t (now (words .entry)) (now (buf .entry)))) ⌝ }
@@ -77,15 +129,98 @@ fn write_closed(members: &[u8], rows: &[u32], e: usize, l: Layout, words: &[u32]
     if words.len() != wide(l.words) {
         return Number::Refused(Refusal::Count);
     }
-    let size = wide(l.size);
-    if buf.len() < size {
+    if buf.len() < wide(l.size) {
         return Number::Refused(Refusal::Buffer);
     }
-    match fit(scan_entry(members, rows, e, words, 0)) {
+    write_whole(members, rows, e, closed_tail(l), l.size, words, buf)
+}
+
+// 15 and 16 for an open type with `n` elements.
+fn write_elements(
+    members: &[u8],
+    rows: &[u32],
+    e: usize,
+    l: Layout,
+    n: usize,
+    words: &[u32],
+    buf: &mut [u8],
+) -> Number
+    requires { ⌜ ((t : Ty) × Tailed (now members) (now rows) e l t × (length (now buf) ≤ 4294967295) × (length (now words) ≡ wordCount n t)) ⌝ }
+    ensures answer { λ r. ⌜ ((t : Ty) → Tailed (now (members .entry)) (now (rows .entry)) e l t → length (now (words .entry)) ≡ wordCount n t → saidNumber r ≡ answerOf (heldAs n t (now (words .entry)) (now (buf .entry)))) ⌝ }
+    ensures buffer { λ _. ⌜ ((t : Ty) → Tailed (now (members .entry)) (now (rows .entry)) e l t → length (now (words .entry)) ≡ wordCount n t → now (buf .exit) ≡ contentsOf (now (buf .entry)) (heldAs n t (now (words .entry)) (now (buf .entry)))) ⌝ }
+{
+    match extent_for(buf.len(), l.offset, l.stride, n) {
+        Found::No => Number::Refused(Refusal::Buffer),
+        Found::Is(extent) => {
+            let r = row_at(rows, runtime_of(members, rows, e));
+            write_whole(
+                members,
+                rows,
+                e,
+                open_tail(r, l, n as u32),
+                extent as u32,
+                words,
+                buf,
+            )
+        }
+    }
+}
+
+// 14, 15, 16 for an open type.
+fn write_open(
+    members: &[u8],
+    rows: &[u32],
+    e: usize,
+    l: Layout,
+    words: &[u32],
+    buf: &mut [u8],
+) -> Number
+    requires { ⌜ ((t : Ty) × Tailed (now members) (now rows) e l t × (length (now buf) ≤ 4294967295)) ⌝ }
+    ensures answer { λ r. ⌜ ((t : Ty) → Tailed (now (members .entry)) (now (rows .entry)) e l t → saidNumber r ≡ answerOf (writtenAs t (now (words .entry)) (now (buf .entry)))) ⌝ }
+    ensures buffer { λ _. ⌜ ((t : Ty) → Tailed (now (members .entry)) (now (rows .entry)) e l t → now (buf .exit) ≡ contentsOf (now (buf .entry)) (writtenAs t (now (words .entry)) (now (buf .entry)))) ⌝ }
+{
+    let r = row_at(rows, runtime_of(members, rows, e));
+    match elements_for(words.len(), l.words, r.unit) {
+        Found::No => Number::Refused(Refusal::Count),
+        Found::Is(n) => write_elements(members, rows, e, l, n, words, buf),
+    }
+}
+
+// 17, 9, 10, and then the rest.
+fn write_entry_at(
+    file: &[u8],
+    e: usize,
+    g: Ground,
+    rows: &[u32],
+    words: &[u32],
+    buf: &mut [u8],
+) -> Number
+    requires { ⌜ ((t : Ty) × Entry (now file) e g (now rows) t) ⌝ }
+    ensures answer { λ r. ⌜ ((t : Ty) → Entry (now (file .entry)) e g (now (rows .entry)) t → saidNumber r ≡ answerOf (writeCall (now (file .entry)) e (now (words .entry)) (now (buf .entry)))) ⌝ }
+    ensures buffer { λ _. ⌜ ((t : Ty) → Entry (now (file .entry)) e g (now (rows .entry)) t → now (buf .exit) ≡ contentsOf (now (buf .entry)) (writeCall (now (file .entry)) e (now (words .entry)) (now (buf .entry)))) ⌝ }
+{
+    let l = g.layout;
+    match allow(l, buf.len()) {
         Allowed::Refused(r) => Number::Refused(r),
         Allowed::Yes => {
-            store_closed(members, rows, e, size, words, buf);
-            Number::Is(l.size)
+            let members = &file[g.start..g.end];
+            if l.opens {
+                return write_open(members, rows, e, l, words, buf);
+            }
+            write_closed(members, rows, e, l, words, buf)
         }
+    }
+}
+
+// Writes the words of entry `entry`, each at its place, and zero where none lies; answers the byte count.
+// Refuses 1 to 7 (file), 8, 17, 9 (no layout), 10, 14, 15, 16.
+pub fn write(file: &[u8], entry: u32, words: &[u32], buf: &mut [u8]) -> Number
+    ensures answer { λ r. ⌜ saidNumber r ≡ answerOf (writeCall (now (file .entry)) entry (now (words .entry)) (now (buf .entry))) ⌝ }
+    ensures buffer { λ _. ⌜ now (buf .exit) ≡ contentsOf (now (buf .entry)) (writeCall (now (file .entry)) entry (now (words .entry)) (now (buf .entry))) ⌝ }
+{
+    let mut rows = no_rows();
+    match lay(file, entry, &mut rows) {
+        Planned::Refused(r) => Number::Refused(r),
+        Planned::Is(g) => write_entry_at(file, wide(entry), g, &rows, words, buf),
     }
 }
