@@ -1,51 +1,32 @@
 -- Writing and reading whole entries, step by step: the calls of crates/wgsl (specs/Call) once the entry is found, and what the code's
 -- functions ask.
 --
--- In order: 17, 9 and 10; write and read after those; an entry whose rows are there; how many elements there are; an open entry's runtime
--- array; an entry with n elements; a call's entry.
+-- In order: write and read after 10; an entry whose rows are there; an open entry; an entry with n elements; a call's entry.
 -- Definitions only. Assumes nothing.
-use Prim.Native.Nat.{ℕ, _+_, _-_, _*_, _/_, _≤_}
+use Prim.Native.Nat.{ℕ, _+_, _*_, _≤_}
 use mathlib.Core.Path.{_≡_}
-use mathlib.Core.Bool.{true, cond, not, _&&_}
+use mathlib.Core.Bool.{true}
 use mathlib.Core.List.{List, _++_}
-use lib.Dec.{eqb, ltb, leb}
+use lib.Dec.{ltb}
 use lib.ListN.{length, drop}
-use Rattle.wgsl.specs.Round.{withinLimit}
 use Rattle.wgsl.specs.Types.{Ty, runtime, isOpen, everywhere}
-use Rattle.wgsl.specs.Size.{hasLayout, isStorable}
-use Rattle.wgsl.specs.Said.{Said, good, refused, _>>_, refuse}
+use Rattle.wgsl.specs.Size.{isStorable}
+use Rattle.wgsl.specs.Said.{Said, good, _>>_, refuse}
 use Rattle.wgsl.specs.Rule.{isWellFormed}
 use Rattle.wgsl.specs.Place.{extentOf, elementsIn, Shape, shapeOf, spanOf, placesOf, places, wordCount, written, wordsRead, checkWords}
 use Rattle.wgsl.specs.Call.{Done, entryOf, isShort, elementsFor, isWrongCount}
 use Rattle.wgsl.proofs.Opened.{Opened}
-use Rattle.file.specs.Refusal.{numberOf, placeOf}
 use Rattle.kinds.specs.declared.value.Layout.{Layout}
 use Rattle.kinds.specs.Value.{valueOf}
 use Rattle.folds.specs.Run.{runPlaces}
-use Rattle.rows.specs.declared.Row.{Row}
-use Rattle.rows.specs.Row.{rowAt, memberAt}
+use Rattle.rows.specs.Row.{rowAt, withCount}
 use Rattle.rows.specs.Tree.{Many, Tree}
 use Rattle.plan.specs.declared.Ground.{Ground}
-use Rattle.plan.specs.Plan.{withCount, memberBytes, groundOf}
-use Rattle.words.specs.declared.decide.Allowed.{Allowed}
-use Rattle.words.specs.declared.decide.Allowed.the-variants.{Yes, Refused}
-use Rattle.words.specs.declared.decide.Tail.{Tail}
-use Rattle.words.specs.declared.decide.Found.{Found}
-use Rattle.words.specs.declared.decide.Found.the-variants.{Is, No}
+use Rattle.plan.specs.Plan.{memberBytes, groundOf}
+use Rattle.decide.specs.declared.Tail.{Tail}
+use Rattle.decide.specs.Decide.{runtimeOf, runtimeRow, Findable}
 
--- ---- 17, 9 and 10
-
-unfoldable pub allowedFor : Ty → ℕ → Said (Unit {0})
-allowedFor t bytes = do
-  refuse 17 0 (not (withinLimit bytes))
-  refuse 9 0 (not (hasLayout t))
-  refuse 10 0 (not (isStorable t))
-
-abbrev pub saidAllowed : Allowed → Said (Unit {0})
-saidAllowed Yes = good tt
-saidAllowed (Refused r) = refused (numberOf r) (placeOf r)
-
--- ---- write and read after those
+-- ---- write and read after 10
 
 unfoldable pub writtenAs : Ty → List ℕ → List ℕ → Said Done
 writtenAs t ws b = do
@@ -80,42 +61,8 @@ pub record Ready (ms rows : List ℕ) (e : ℕ) (l : Layout) (t : Ty) : Type 0 w
   pub tree : Tree ms rows e (shapeOf 0 t)
   pub covered : (rowAt rows e .run ≡ 0 → ⊥) → (n : ℕ) → Covered t n
 
--- ---- how many elements there are
+-- ---- an open entry
 
--- "the words beyond the fixed part are a positive multiple of one element's": how many elements
-unfoldable pub elementsOf : ℕ → ℕ → ℕ → Found
-elementsOf words fixed unit =
-    let n : ℕ = (words - fixed) / unit in
-    cond (eqb words (fixed + n * unit) && not (eqb n 0)) (Is n) No
-
--- "array offset + elements x stride", if so many bytes are there
-unfoldable pub extentFor : ℕ → ℕ → ℕ → ℕ → Found
-extentFor bytes offset stride n = cond (leb (offset + n * stride) bytes) (Is (offset + n * stride)) No
-
--- "elements = floor((length - array offset) / stride), at least 1"
-unfoldable pub elementsFound : ℕ → ℕ → ℕ → Found
-elementsFound bytes offset stride =
-    let n : ℕ = (bytes - offset) / stride in
-    cond (eqb n 0) No (Is n)
-
--- ---- an open entry's runtime array
-
--- the entry of the runtime array that entry e is or ends in
-unfoldable pub runtimeOf : List ℕ → List ℕ → ℕ → ℕ
-runtimeOf ms rows e =
-    let r : Row = rowAt rows e in
-    cond (eqb (r .kind) 10) e (memberAt ms (r .reference + r .count - 1) .type)
-
-abbrev pub runtimeRow : List ℕ → List ℕ → ℕ → Row
-runtimeRow ms rows e = rowAt rows (runtimeOf ms rows e)
-
--- what finding it asks
-pub record Findable (ms rows : List ℕ) (e : ℕ) : Type 0 where
-  pub inside : 10 * e + 10 ≤ length rows
-  pub some-members : (rowAt rows e .kind ≡ 10 → ⊥) → 1 ≤ rowAt rows e .count
-  pub member-inside : (rowAt rows e .kind ≡ 10 → ⊥) → 12 * (rowAt rows e .reference + rowAt rows e .count) ≤ length ms
-
--- entry e is open
 pub record Tailed (ms rows : List ℕ) (e : ℕ) (l : Layout) (t : Ty) : Type 0 where
   pub ready : Ready ms rows e l t
   pub findable : Findable ms rows e
@@ -126,20 +73,6 @@ pub record Tailed (ms rows : List ℕ) (e : ℕ) (l : Layout) (t : Ty) : Type 0 
   pub unit-is : (n : ℕ) → wordCount n element ≡ runtimeRow ms rows e .unit
 
 -- ---- an entry with n elements
-
--- the row r of a runtime array, of n elements
-unfoldable pub openTail : List ℕ → List ℕ → ℕ → Layout → ℕ → Tail
-openTail ms rows e l n =
-    record { row = withCount n (runtimeRow ms rows e); offset = l .offset; fixed = l .words }
-
--- nothing after the fixed part: no words of four bytes
-unfoldable pub closedTail : Layout → Tail
-closedTail l =
-    record {
-      row = record { kind = 0; run = 0; width = 4; reference = 0; count = 0; unit = 0; stride = 0; size = 0; align = 0; words = 0 };
-      offset = 0;
-      fixed = l .words;
-    }
 
 -- entry e, of the type t with n elements: its fixed part, and the tail x after it
 pub record Whole (ms rows : List ℕ) (e : ℕ) (x : Tail) (t : Ty) (n : ℕ) : Type 0 where

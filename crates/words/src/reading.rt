@@ -1,13 +1,13 @@
 // `read`: document 01's order is 1 to 8, 17, 9, 10, 15, 14.
-use crate::decide::Allowed;
-use crate::decide::Found;
-use crate::decide::Tail;
-use crate::decide::allow;
-use crate::decide::closed_tail;
-use crate::decide::elements_in;
-use crate::decide::no_rows;
-use crate::decide::open_tail;
-use crate::decide::runtime_of;
+use decide::Allowed;
+use decide::Found;
+use decide::Tail;
+use decide::allow;
+use decide::closed_tail;
+use decide::elements_in;
+use decide::no_rows;
+use decide::open_tail;
+use decide::runtime_of;
 use file::refusal::Refusal;
 use file::trailer::wide;
 use kinds::value::Layout;

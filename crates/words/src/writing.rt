@@ -1,15 +1,15 @@
 // `write`: document 01's order is 1 to 8, 17, 9, 10, 14, 15, 16.
-use crate::decide::Allowed;
-use crate::decide::Found;
-use crate::decide::Tail;
-use crate::decide::allow;
-use crate::decide::closed_tail;
-use crate::decide::elements_for;
-use crate::decide::extent_for;
-use crate::decide::fit;
-use crate::decide::no_rows;
-use crate::decide::open_tail;
-use crate::decide::runtime_of;
+use decide::Allowed;
+use decide::Found;
+use decide::Tail;
+use decide::allow;
+use decide::closed_tail;
+use decide::elements_for;
+use decide::extent_for;
+use decide::fit;
+use decide::no_rows;
+use decide::open_tail;
+use decide::runtime_of;
 use file::refusal::Refusal;
 use file::trailer::wide;
 use kinds::value::Layout;

@@ -1,4 +1,4 @@
-// What both calls decide before they store anything.
+// What reading and writing decide before they store anything.
 use file::fields::member_at;
 use file::refusal::Refusal;
 use file::trailer::wide;
@@ -12,10 +12,10 @@ ghost use Rattle.wgsl.specs.Types.{Ty, everywhere};
 ghost use Rattle.wgsl.specs.Rule.{isWellFormed};
 ghost use Rattle.kinds.specs.Value.{valueOf};
 ghost use Rattle.runs.specs.Run.{saidScan};
-ghost use Rattle.plan.specs.Plan.{withCount};
+ghost use Rattle.rows.specs.Row.{withCount};
 ghost use Prim.Native.Nat.{_<_};
 ghost use lib.ListN.{length};
-ghost use Rattle.words.specs.Whole.{allowedFor, saidAllowed, elementsOf, extentFor, elementsFound, runtimeOf, Findable, closedTail};
+ghost use Rattle.decide.specs.Decide.{allowedFor, saidAllowed, elementsOf, extentFor, elementsFound, runtimeOf, Findable, closedTail};
 
 pub enum Allowed {
     Yes,
