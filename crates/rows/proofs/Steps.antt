@@ -103,6 +103,63 @@ each-room {count} {unit} {i} room h =
       words-there = omega (arith, room .unit-is, room .words-there, mul-le-mul-right {m = i + 1} {n = count} unit (omega arith));
     }
 
+-- Parts that are entries, with the numbers of their row: an entry for each, and room; and so of any shape that the row has.
+pub record Each (ms rows : List ℕ) (r : Row) (element count unit stride at bytes k ws : ℕ) : Type 0 where
+  pub y : Shape
+  pub tree : Tree ms rows element y
+  pub room : EachRoom y count unit stride at bytes k ws
+  pub deep : depth r ≡ 5 * element + 5
+  pub any : (x : Shape) → Many ms rows r x → (z : Shape) × Tree ms rows element z × (x ≡ parts count stride z)
+
+pub each-entry : {ms rows : List ℕ} {r : Row} {x : Shape} {element count unit stride at bytes k ws : ℕ} → Many ms rows r x → r .width ≡ 0 → Room x at bytes k ws → element ≡ r .reference → count ≡ r .count → unit ≡ r .unit → stride ≡ r .stride → Each ms rows r element count unit stride at bytes k ws
+each-entry {r} m w room e c u s =
+    let m₀ = many-each m w in
+    rw (e, c, u, s)
+    (record {
+      y = m₀ .part;
+      tree = m₀ .tree;
+      room = parts-room (m₀ .elements) (rw (m₀ .is) at room);
+      deep = depth-each r w;
+      any = λ x m′. (many-each m′ w .part, many-each m′ w .tree, many-each m′ w .is);
+    })
+
+-- ---- a member at its place
+
+module _ {ms rows : List ℕ} {m end : ℕ} {y : Shape} {at bytes k ws : ℕ} (ready : MemberRoom ms rows m end y at bytes k ws) {p : Placed} (is : p ≡ placedAt ms rows m end) where
+  pub type-is : p .ty ≡ memberAt ms m .type
+  unfolding placedAt
+  type-is = ap (λ (q : Placed). q .ty) is
+
+  words-is : p .words ≡ rowAt rows (p .ty) .words
+  unfolding placedAt
+  words-is = rw is refl
+
+  pub type-inside : 10 * p .ty + 10 ≤ length rows
+  type-inside = rw type-is (ready .placeable .row-inside)
+
+  pub type-tree : Tree ms rows (p .ty) y
+  type-tree = rw type-is (ready .tree)
+
+  pub member-words : words y ≡ p .words
+  member-words = tree-rowed type-tree .words-are ∙ sym words-is
+
+  pub member-room : Room y (at + p .start) bytes k ws
+  member-room = rw is (ready .room)
+
+  -- Its words lie one after the other, if its type's row r says so.
+  module _ {r : Row} (row-is : r ≡ rowAt rows (p .ty)) (run : r .run ≡ 4) where
+    runs-on : rowAt rows (p .ty) .run ≡ 4
+    runs-on = rw row-is at run
+
+    pub run-places : {z : Shape} → Tree ms rows (placedAt ms rows m end .ty) z → (q : ℕ) → placesOf z q ≡ runPlaces (p .words) 4 q
+    run-places t q = rw words-is (tree-rowed (rw (← is) at t) .run-is runs-on q)
+
+    pub run-room : (k + p .words ≤ ws) × (at + p .start + p .words * 4 ≤ bytes)
+    run-room = (
+      omega (arith, member-room .words-there, member-words),
+      omega (arith, member-room .bytes-there, tree-rowed type-tree .run-fits runs-on, words-is),
+    )
+
 -- ---- parts in turn
 
 -- i parts are done, which led from s₀ to s; the others from s on are all parts from s₀ on
@@ -194,26 +251,23 @@ module _ {S : Type 0} {f : Place → ℕ → S → S} {ms rows : List ℕ} {e at
         };
       }
 
-  -- its words
-  pub walk-words : (h : 0 < left) → words (walk-first h .y) ≡ placedAt ms rows m end .words
-  unfolding placedAt
-  walk-words h = tree-rowed (walk-first h .tree) .words-are
+  module _ (h : 0 < left) {p : Placed} (is : p ≡ placedAt ms rows m end) where
+    pub walk-words : next + p .words ≤ ws
+    walk-words = omega (arith, walk-room h .room .words-there, member-words (walk-room h) is)
 
-  pub walk-next : {s′ : S} → 0 < left → ((y : Shape) → Tree ms rows (placedAt ms rows m end .ty) y → s′ ≡ overPlaces f (placesOf y (at + placedAt ms rows m end .start)) next s) → Walk f ms rows e at bytes k ws s₀ (left - 1) (m + 1) (placedAt ms rows m end .end) (next + placedAt ms rows m end .words) s′
-  unfolding spanOf words placedAt
-  walk-next h done =
-      record {
-        rest = walk-first h .rest;
-        rest-left = walk-first h .rest-left;
-        room = record {
-          bytes-there = field-room h .bytes-there;
-          words-there = omega (arith, field-room h .words-there, walk-words h);
-        };
-        same = λ x t.
-          rw (done (walk-first h .y) (walk-first h .tree), ← walk-words h)
-          (over-field f (placedAt ms rows m end .start) (walk-first h .y) (walk-first h .rest) at next s
-          ∙ (rw (walk-first h .is) at (now .same x t)));
-      }
+    pub walk-next : {s′ : S} → ((y : Shape) → Tree ms rows (placedAt ms rows m end .ty) y → s′ ≡ overPlaces f (placesOf y (at + placedAt ms rows m end .start)) next s) → Walk f ms rows e at bytes k ws s₀ (left - 1) (m + 1) (p .end) (next + p .words) s′
+    unfolding spanOf words
+    walk-next done =
+        let w : words (walk-first h .y) ≡ p .words = member-words (walk-room h) is in
+        record {
+          rest = walk-first h .rest;
+          rest-left = rw is (walk-first h .rest-left);
+          room = record { bytes-there = field-room h .bytes-there; words-there = omega (arith, field-room h .words-there, w) };
+          same = λ x t.
+            rw (done (walk-first h .y) (rw (← is) (type-tree (walk-room h) is)), ← w)
+            (over-field f (placedAt ms rows m end .start) (walk-first h .y) (walk-first h .rest) at next s
+            ∙ (rw (walk-first h .is) at (now .same x t)));
+        }
 
   pub walk-none : left ≤ 0 → (x : Shape) → Tree ms rows e x → s ≡ overPlaces f (placesOf x at) k s₀
   unfolding overPlaces
