@@ -151,8 +151,8 @@ module _ {ms rows : List ℕ} {m end : ℕ} {y : Shape} {at bytes k ws : ℕ} (r
     runs-on : rowAt rows (p .ty) .run ≡ 4
     runs-on = rw row-is at run
 
-    pub run-places : {z : Shape} → Tree ms rows (placedAt ms rows m end .ty) z → (q : ℕ) → placesOf z q ≡ runPlaces (p .words) 4 q
-    run-places t q = rw words-is (tree-rowed (rw (← is) at t) .run-is runs-on q)
+    pub run-places : {z : Shape} → Tree ms rows (placedAt ms rows m end .ty) z → (q : ℕ) → placesOf z q ≡ runPlaces (placedAt ms rows m end .words) 4 q
+    run-places t q = rw (← is, words-is) (tree-rowed (rw (← is) at t) .run-is runs-on q)
 
     pub run-room : (k + p .words ≤ ws) × (at + p .start + p .words * 4 ≤ bytes)
     run-room = (
