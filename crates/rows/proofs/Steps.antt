@@ -1,25 +1,26 @@
 -- The steps of walks over rows (specs/Tree), for any pass over places (crates/folds, specs/Fold).
 --
--- In order: what a tree says of its row; how deep a walk goes; room; a member that is a run; parts in turn; members in turn.
+-- In order: what a tree says of its row; how deep a walk goes; room; a member at its place; parts in turn; members in turn.
+-- A loop's turns leave "what is left, from here on, is the whole, from the start on" as it is: `Turn` over parts, `Walk` over members.
 -- Assumes nothing.
-use Prim.Native.Nat.{ℕ, zero, suc, _+_, _-_, _*_, _<_, _≤_}
+use Prim.Native.Nat.{ℕ, _+_, _-_, _*_, _<_, _≤_}
 use mathlib.Core.Bool.{Bool, true, false, cond}
 use mathlib.Core.List.{List, [], append-nil}
 use mathlib.Core.Path.{_≡_, refl, ap, sym, _∙_}
 use native.Mathlib.Numerals.{add-one, sub-one}
 use native.Mathlib.Nat.{mul-le-mul-right}
 use native.Mathlib.Omega.{arith}
-use borrow.Author.Tests.{eqb-true, eq-eqb}
+use borrow.Author.Tests.{eqb-true}
 use lib.Dec.{eqb}
 use lib.ListN.{length}
-use Rattle.wgsl.specs.Place.{Shape, parts, field, whole, spanOf, Place, repeated, placesOf}
+use Rattle.wgsl.specs.Place.{Shape, parts, field, spanOf, Place, repeated, placesOf}
 use Rattle.wgsl.proofs.Count.{words, places-words}
 use Rattle.folds.specs.Fold.{overPlaces}
-use Rattle.folds.specs.Run.{runPlaces, partPlaces}
+use Rattle.folds.specs.Run.{runPlaces}
 use Rattle.folds.proofs.Folds.{over-append, over-all, over-next, over-none}
 use Rattle.rows.specs.declared.Row.{Row}
 use Rattle.rows.specs.declared.Placed.{Placed}
-use Rattle.rows.specs.Row.{rowAt, memberAt, placedAt, Placeable}
+use Rattle.rows.specs.Row.{rowAt, memberAt, placedAt}
 use Rattle.rows.specs.Tree.{Runs, Elements, Member, Rowed, Many, runs, each, Left, none, more, Tree, many, members, Room, EachRoom, MemberRoom}
 use Rattle.rows.proofs.Unique.{run-width, tree-one}
 
@@ -73,7 +74,7 @@ depth-below (members R k l) h = absurd (h k)
 
 -- ---- room
 
--- One entry is so many parts as 1.
+-- One entry is one part.
 pub one-room : {ms rows : List ℕ} {e : ℕ} {x : Shape} {at bytes k ws : ℕ} → Tree ms rows e x → Room x at bytes k ws → EachRoom x 1 (rowAt rows e .words) 0 at bytes k ws
 one-room t room =
     record {
@@ -178,10 +179,10 @@ module _ {S : Type 0} {f : Place → ℕ → S → S} {ms rows : List ℕ} {e co
       record {
         within = omega arith;
         same = λ x t′.
-          rw (done x t′)
-          (over-next f (λ p. placesOf x p) count stride unit at k s i
-          (λ p. places-words x p ∙ tree-rowed t′ .words-are ∙ sym (tree-rowed t .words-are) ∙ u) h
-          ∙ now .same x t′);
+            rw (done x t′)
+            (over-next f (λ p. placesOf x p) count stride unit at k s i
+            (λ p. places-words x p ∙ tree-rowed t′ .words-are ∙ sym (tree-rowed t .words-are) ∙ u) h
+            ∙ now .same x t′);
       }
 
   pub turn-none : count ≤ i → (y : Shape) → Tree ms rows e y → s ≡ overPlaces f (placesOf (parts count stride y) at) k s₀
@@ -264,9 +265,9 @@ module _ {S : Type 0} {f : Place → ℕ → S → S} {ms rows : List ℕ} {e at
           rest-left = rw is (walk-first h .rest-left);
           room = record { bytes-there = field-room h .bytes-there; words-there = omega (arith, field-room h .words-there, w) };
           same = λ x t.
-            rw (done (walk-first h .y) (rw (← is) (type-tree (walk-room h) is)), ← w)
-            (over-field f (placedAt ms rows m end .start) (walk-first h .y) (walk-first h .rest) at next s
-            ∙ (rw (walk-first h .is) at (now .same x t)));
+              rw (done (walk-first h .y) (rw (← is) (type-tree (walk-room h) is)), ← w)
+              (over-field f (placedAt ms rows m end .start) (walk-first h .y) (walk-first h .rest) at next s
+              ∙ (rw (walk-first h .is) at (now .same x t)));
         }
 
   pub walk-none : left ≤ 0 → (x : Shape) → Tree ms rows e x → s ≡ overPlaces f (placesOf x at) k s₀

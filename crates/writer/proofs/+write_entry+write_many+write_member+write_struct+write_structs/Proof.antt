@@ -8,7 +8,6 @@ use mathlib.Core.Path.{_≡_, refl, _∙_}
 use native.Mathlib.Omega.{arith}
 use borrow.Author.Needs.{needs}
 use lib.ListN.{length}
-use Rattle.wgsl.specs.Place.{Shape}
 use Rattle.folds.specs.Fold.{storing}
 use Rattle.rows.specs.Row.{memberAt}
 use Rattle.rows.proofs.Steps.{tree-rowed, tree-many, many-runs, depth, depth-below, one-room, one-places, each-entry, each-room, type-is, type-inside, type-tree, member-room, run-places, run-room, Each, Turn, turn-start, turn-next, turn-none, Walk, walk-start, walk-first, walk-room, walk-words, walk-next, walk-none}
@@ -97,8 +96,15 @@ module _ (t : ℕ) where
       let then1 = after-wide .before in
       let after-row-at = then1 .before .before in
       let start = after-row-at .before .before .before .before .before in
-      let row = after-row-at .row-at .ensures in
-      (omega (arith, start .pre .0), (start .pre .1 .0, start .pre .1 .1, rw row at (then1 .if1 .taken), rw (after-wide .wide .ensures .0, row) (one-room (start .pre .1 .1) (start .pre .1 .2))))
+      let row = after-row-at .row-at .ensures in (
+        omega (arith, start .pre .0),
+        (
+          start .pre .1 .0,
+          start .pre .1 .1,
+          rw row at (then1 .if1 .taken),
+          rw (after-wide .wide .ensures .0, row) (one-room (start .pre .1 .1) (start .pre .1 .2)),
+        ),
+      )
 
   write-entry-same-length : write-entry-lts.Need-same-length (write-entry-calls t) (write-entry-at t) write-entry.Post
   write-entry-same-length c = c .before .before .write-structs .kept .1 .1 .1 .1 .1 .1 .1 .1 .1 .0
@@ -112,8 +118,10 @@ module _ (t : ℕ) where
       let after-row-at = else1 .before .before in
       let start = after-row-at .before .before .before .before .before in
       let row = after-row-at .row-at .ensures in
-      let no = rw row at (else1 .if1 .left) in
-      (rw row (omega (arith, start .pre .0, depth-below (start .pre .1 .1) no)), (start .pre .1 .0, rw row (tree-many (start .pre .1 .1) no), start .pre .1 .2))
+      let no = rw row at (else1 .if1 .left) in (
+        rw row (omega (arith, start .pre .0, depth-below (start .pre .1 .1) no)),
+        (start .pre .1 .0, rw row (tree-many (start .pre .1 .1) no), start .pre .1 .2),
+      )
 
   write-entry-same-length-2 : write-entry-lts.Need-same-length-2 (write-entry-calls t) (write-entry-at t) write-entry.Post
   write-entry-same-length-2 c = c .before .before .write-many .kept .1 .1 .1 .1 .1 .1 .0
@@ -140,12 +148,12 @@ write-many-calls t = (wide-reads.Asked, wide-reads.Learnt, write-parts-reads.Ask
 
 module _ (t : ℕ) where
   write-many-each : (c : write-many-lts.After-wide5 (write-many-calls t) (write-many-at t) write-many.Post write-many-Inv-loop write-many-μ-loop) →
-    let else1 = c .before in
-    let after-wide3 = else1 .before .before in
-    let after-wide2 = after-wide3 .before in
-    let after-wide = after-wide2 .before in
-    let args = after-wide .before .before .before .before .before .args in
-    Each (args .members .now) (args .rows .now) (args .r) (c .wide5 .result) (after-wide .wide .result) (after-wide2 .wide2 .result) (after-wide3 .wide3 .result) (args .at) (length (args .buf .now)) (args .k) (length (args .words .now))
+      let else1 = c .before in
+      let after-wide3 = else1 .before .before in
+      let after-wide2 = after-wide3 .before in
+      let after-wide = after-wide2 .before in
+      let args = after-wide .before .before .before .before .before .args in
+      Each (args .members .now) (args .rows .now) (args .r) (c .wide5 .result) (after-wide .wide .result) (after-wide2 .wide2 .result) (after-wide3 .wide3 .result) (args .at) (length (args .buf .now)) (args .k) (length (args .words .now))
   write-many-each c =
       let else1 = c .before in
       let after-wide3 = else1 .before .before in
@@ -183,8 +191,8 @@ module _ (t : ℕ) where
       let after-wide2 = after-wide3 .before in
       let after-wide = after-wide2 .before in
       λ x m.
-        rw (many-runs m (then1 .if1 .taken) .places-are)
-        (rw (after-wide .wide .ensures .0, after-wide2 .wide2 .ensures .0, after-wide3 .wide3 .ensures .0, after-wide4 .wide4 .ensures .0) at (after-write-parts .write-parts .ensures))
+      rw (many-runs m (then1 .if1 .taken) .places-are)
+      (rw (after-wide .wide .ensures .0, after-wide2 .wide2 .ensures .0, after-wide3 .wide3 .ensures .0, after-wide4 .wide4 .ensures .0) at (after-write-parts .write-parts .ensures))
 
   write-many-row-at-requires : write-many-lts.Need-row-at-requires (write-many-calls t) (write-many-at t) write-many.Post write-many-Inv-loop write-many-μ-loop
   write-many-row-at-requires c κs =
@@ -197,8 +205,10 @@ module _ (t : ℕ) where
       let after-row-at = then2 .before .before in
       let after-wide5 = after-row-at .before in
       let start = after-wide5 .before .before .before .before .before .before .before .before .before .before in
-      let each = write-many-each after-wide5 in
-      (omega (arith, start .pre .0, each .deep), (each .y, each .tree, rw (after-row-at .row-at .ensures) at (then2 .if2 .taken), each .room))
+      let each = write-many-each after-wide5 in (
+        omega (arith, start .pre .0, each .deep),
+        (each .y, each .tree, rw (after-row-at .row-at .ensures) at (then2 .if2 .taken), each .room),
+      )
 
   write-many-same-length-2 : write-many-lts.Need-same-length-2 (write-many-calls t) (write-many-at t) write-many.Post write-many-Inv-loop write-many-μ-loop
   write-many-same-length-2 c = c .before .before .write-structs .kept .1 .1 .1 .1 .1 .1 .1 .1 .1 .0
@@ -270,8 +280,10 @@ module _ (t : ℕ) where
       let in-loop = after-write-entry .before .before in
       let at-loop = in-loop .before in
       let after-wide5 = at-loop .before .before .before .before in
-      let each = write-many-each after-wide5 in
-      (turn-next (at-loop .loop .inv .0) (each .tree) (each .room .unit-is) (in-loop .loop-test .taken) (after-write-entry .write-entry .ensures), after-write-entry .write-entry .kept .1 .1 .1 .1 .1 .1 .0 ∙ at-loop .loop .inv .1)
+      let each = write-many-each after-wide5 in (
+        turn-next (at-loop .loop .inv .0) (each .tree) (each .room .unit-is) (in-loop .loop-test .taken) (after-write-entry .write-entry .ensures),
+        after-write-entry .write-entry .kept .1 .1 .1 .1 .1 .1 .0 ∙ at-loop .loop .inv .1,
+      )
 
   write-many-same-length-3 : write-many-lts.Need-same-length-3 (write-many-calls t) (write-many-at t) write-many.Post write-many-Inv-loop write-many-μ-loop
   write-many-same-length-3 c = c .before .loop .inv .1
@@ -324,8 +336,10 @@ module _ (t : ℕ) where
       let then1 = after-write-few .before .before .before .before .before in
       let after-row-at = then1 .before .before in
       let after-place = after-row-at .before in
-      let start = after-place .before .before .before .before .before in
-      (after-place .place .ensures, λ y u. rw (run-places (start .pre .1 .1) (after-place .place .ensures) (after-row-at .row-at .ensures) (then1 .if1 .taken) u) (rw (after-place .place .ensures) at (after-write-few .write-few .ensures)))
+      let start = after-place .before .before .before .before .before in (
+        after-place .place .ensures,
+        λ y u. rw (run-places (start .pre .1 .1) (after-place .place .ensures) (after-row-at .row-at .ensures) (then1 .if1 .taken) u) (rw (after-place .place .ensures) at (after-write-few .write-few .ensures)),
+      )
 
   write-member-add-write-entry : write-member-lts.Need-add-write-entry (write-member-calls t) (write-member-at t) write-member.Post
   write-member-add-write-entry c =
@@ -337,8 +351,10 @@ module _ (t : ℕ) where
   write-member-write-entry-requires c κs =
       let after-place = c .before .before .before .before .before in
       let start = after-place .before .before .before .before .before in
-      let is = after-place .place .ensures in
-      (omega (arith, start .pre .0, type-is (start .pre .1 .1) is), (start .pre .1 .0, type-tree (start .pre .1 .1) is, member-room (start .pre .1 .1) is))
+      let is = after-place .place .ensures in (
+        omega (arith, start .pre .0, type-is (start .pre .1 .1) is),
+        (start .pre .1 .0, type-tree (start .pre .1 .1) is, member-room (start .pre .1 .1) is),
+      )
 
   write-member-same-length-2 : write-member-lts.Need-same-length-2 (write-member-calls t) (write-member-at t) write-member.Post
   write-member-same-length-2 c = c .before .before .write-entry .kept .1 .1 .1 .1 .1 .1 .0
@@ -346,8 +362,10 @@ module _ (t : ℕ) where
   write-member-returns-2 : write-member-lts.Need-returns-2 (write-member-calls t) (write-member-at t) write-member.Post
   write-member-returns-2 c =
       let after-write-entry = c .before .before in
-      let after-place = after-write-entry .before .before .before .before .before .before in
-      (after-place .place .ensures, rw (after-place .place .ensures) at (after-write-entry .write-entry .ensures))
+      let after-place = after-write-entry .before .before .before .before .before .before in (
+        after-place .place .ensures,
+        rw (after-place .place .ensures) at (after-write-entry .write-entry .ensures),
+      )
 
 -- ---- write_struct
 
@@ -369,8 +387,10 @@ module _ (t : ℕ) where
   write-struct-loop-holds c =
       let after-wide = c .before in
       let after-row-at = after-wide .before in
-      let start = after-row-at .before .before .before .before .before in
-      (rw (after-wide .wide .ensures .0, c .wide2 .ensures .0, after-row-at .row-at .ensures) (walk-start _ _ (start .pre .1 .1) (start .pre .1 .2) (start .pre .1 .3)), refl)
+      let start = after-row-at .before .before .before .before .before in (
+        rw (after-wide .wide .ensures .0, c .wide2 .ensures .0, after-row-at .row-at .ensures) (walk-start _ _ (start .pre .1 .1) (start .pre .1 .2) (start .pre .1 .3)),
+        refl,
+      )
 
   write-struct-write-member-requires : write-struct-lts.Need-write-member-requires (write-struct-calls t) (write-struct-at t) write-struct.Post write-struct-Inv-loop write-struct-μ-loop
   write-struct-write-member-requires c κs =
@@ -378,8 +398,10 @@ module _ (t : ℕ) where
       let at-loop = in-loop .before in
       let start = at-loop .before .before .before .before .before .before .before .before in
       let walk = at-loop .loop .inv .0 in
-      let more = in-loop .loop-test .taken in
-      (omega (arith, start .pre .0, walk-first walk more .member .lower), (walk-first walk more .y, rw (at-loop .loop .inv .1) (walk-room walk more)))
+      let more = in-loop .loop-test .taken in (
+        omega (arith, start .pre .0, walk-first walk more .member .lower),
+        (walk-first walk more .y, rw (at-loop .loop .inv .1) (walk-room walk more)),
+      )
 
   write-struct-add-next : write-struct-lts.Need-add-next (write-struct-calls t) (write-struct-at t) write-struct.Post write-struct-Inv-loop write-struct-μ-loop
   write-struct-add-next c =
@@ -407,8 +429,10 @@ module _ (t : ℕ) where
       let after-write-member = c .before .before .before in
       let in-loop = after-write-member .before .before in
       let at-loop = in-loop .before in
-      let call = after-write-member .write-member in
-      (walk-next (at-loop .loop .inv .0) (in-loop .loop-test .taken) (call .ensures .0) (call .ensures .1), call .kept .1 .1 .1 .1 .1 .1 .1 .0 ∙ at-loop .loop .inv .1)
+      let call = after-write-member .write-member in (
+        walk-next (at-loop .loop .inv .0) (in-loop .loop-test .taken) (call .ensures .0) (call .ensures .1),
+        call .kept .1 .1 .1 .1 .1 .1 .1 .0 ∙ at-loop .loop .inv .1,
+      )
 
   write-struct-same-length : write-struct-lts.Need-same-length (write-struct-calls t) (write-struct-at t) write-struct.Post write-struct-Inv-loop write-struct-μ-loop
   write-struct-same-length c = c .before .loop .inv .1
@@ -463,8 +487,10 @@ module _ (t : ℕ) where
       let in-loop = c .before in
       let at-loop = in-loop .before in
       let start = at-loop .before .before .before .before .before in
-      let turn = each-room (start .pre .1 .3) (in-loop .loop-test .taken) in
-      (omega (arith, start .pre .0), (start .pre .1 .0, start .pre .1 .1, start .pre .1 .2, rw (at-loop .loop .inv .1) turn))
+      let turn = each-room (start .pre .1 .3) (in-loop .loop-test .taken) in (
+        omega (arith, start .pre .0),
+        (start .pre .1 .0, start .pre .1 .1, start .pre .1 .2, rw (at-loop .loop .inv .1) turn),
+      )
 
   write-structs-add-i : write-structs-lts.Need-add-i (write-structs-calls t) (write-structs-at t) write-structs.Post write-structs-Inv-loop write-structs-μ-loop
   write-structs-add-i c =
@@ -481,8 +507,10 @@ module _ (t : ℕ) where
       let in-loop = after-write-struct .before .before in
       let at-loop = in-loop .before in
       let start = at-loop .before .before .before .before .before in
-      let call = after-write-struct .write-struct in
-      (turn-next (at-loop .loop .inv .0) (start .pre .1 .1) (start .pre .1 .3 .unit-is) (in-loop .loop-test .taken) (call .ensures), call .kept .1 .1 .1 .1 .1 .1 .0 ∙ at-loop .loop .inv .1)
+      let call = after-write-struct .write-struct in (
+        turn-next (at-loop .loop .inv .0) (start .pre .1 .1) (start .pre .1 .3 .unit-is) (in-loop .loop-test .taken) (call .ensures),
+        call .kept .1 .1 .1 .1 .1 .1 .0 ∙ at-loop .loop .inv .1,
+      )
 
   write-structs-same-length : write-structs-lts.Need-same-length (write-structs-calls t) (write-structs-at t) write-structs.Post write-structs-Inv-loop write-structs-μ-loop
   write-structs-same-length c = c .before .loop .inv .1
