@@ -1,23 +1,21 @@
+-- Each answer is a law of `Allowing`.
+use mathlib.Core.Path.{sym}
+use native.Mathlib.Omega.{arith}
+use Rattle.decide.proofs.Allowing.{too-long, no-layout, allowed, unstorable}
 use Rattle.decide.proofs.allow.Statement.{statement}
 use Rattle.decide.proofs.allow.Tie as tie
-use Rattle.decide.proofs.allow.Reads as reads
-use Rattle.decide.proofs.allow.Lts as lts
 
--- src/lib.rt:30:9
 returns : tie.Need-returns
-returns c = ?
+returns c t is w = sym (too-long t _ (omega arith))
 
--- src/lib.rt:34:9
 returns-2 : tie.Need-returns-2
-returns-2 c = ?
+returns-2 c t is w = sym (no-layout t _ is w _ (omega arith) (omega arith))
 
--- src/lib.rt:37:9
 returns-3 : tie.Need-returns-3
-returns-3 c = ?
+returns-3 c t is w = sym (allowed t _ is w _ (omega arith) (c .if3 .taken))
 
--- src/lib.rt:26:1
 returns-4 : tie.Need-returns-4
-returns-4 c = ?
+returns-4 c t is w = sym (unstorable t _ is w _ (omega arith) (λ e. omega (arith, e)) (c .if3 .left))
 
 pub allow-spec : {M : Type 1} → statement M
 allow-spec = tie.close (tie.spec returns returns-2 returns-3 returns-4)

@@ -1,61 +1,41 @@
+-- Each answer is a law of `Counts`.
+use Prim.Native.Nat.{ℕ, _+_, _-_, _*_, _/_, _<_, _≤_}
+use mathlib.Core.Path.{_≡_, sym}
+use native.Mathlib.Omega.{arith}
+use native.Mathlib.Nat.{div-mul-le-self}
 use borrow.Author.Needs.{needs}
+use Rattle.decide.proofs.Counts.{elements-few, elements-right, elements-wrong}
 use Rattle.decide.proofs.elements_for.Statement.{statement}
 use Rattle.decide.proofs.elements_for.Tie as tie
-use Rattle.decide.proofs.elements_for.Reads as reads
-use Rattle.decide.proofs.elements_for.Lts as lts
-use Rattle.file.proofs.trailer.wide.Reads as wide-reads
 
--- src/lib.rt:64:9
-wide-requires : tie.Need-wide-requires
-wide-requires c κs = search needs
-
--- src/lib.rt:65:9
-wide-requires-2 : tie.Need-wide-requires-2
-wide-requires-2 c κs = search needs
-
--- src/lib.rt:66:16
-add-if1 : tie.Need-add-if1
-add-if1 c = search needs
-
--- src/lib.rt:67:9
 returns : tie.Need-returns
-returns c = ?
+returns c =
+    let a = c .before .before .before .args in
+    sym (elements-few (a .words) (a .fixed) (a .unit) (c .before .before .before .pre) (omega arith))
 
--- src/lib.rt:69:14
-sub-n : tie.Need-sub-n
-sub-n c = search needs
+-- the words of the elements are words
+some-fit : (words first each : ℕ) → (words - first) / each * each ≤ words - first
+some-fit words first each = div-mul-le-self (words - first) each
 
--- src/lib.rt:69:13
-div-n : tie.Need-div-n
-div-n c = search needs
-
--- src/lib.rt:70:16
 mul-if2 : tie.Need-mul-if2
-mul-if2 c = ?
+mul-if2 c =
+    omega (arith, some-fit (c .before .before .before .args .words) (c .before .before .wide .result) (c .before .wide2 .result))
 
--- src/lib.rt:70:8
 add-if2 : tie.Need-add-if2
-add-if2 c = ?
+add-if2 c =
+    omega (arith, some-fit (c .before .before .before .args .words) (c .before .before .wide .result) (c .before .wide2 .result))
 
--- src/lib.rt:71:9
 returns-2 : tie.Need-returns-2
-returns-2 c = ?
+returns-2 c =
+    let f = c .before .before .before .wide .ensures .0 in
+    let u = c .before .before .wide2 .ensures .0 in
+    rw (sym f, sym u) (sym (elements-right _ _ _ (omega arith) (omega arith) (omega arith)))
 
--- src/lib.rt:60:1
 returns-3 : tie.Need-returns-3
-returns-3 c = ?
+returns-3 c =
+    let f = c .before .before .before .wide .ensures .0 in
+    let u = c .before .before .wide2 .ensures .0 in
+    rw (sym f, sym u) (sym (elements-wrong _ _ _ (omega arith) (λ e. omega (arith, e))))
 
 pub elements-for-spec : {M : Type 1} → statement M
-elements-for-spec =
-    tie.close
-    (tie.spec
-    wide-requires
-    wide-requires-2
-    add-if1
-    returns
-    sub-n
-    div-n
-    mul-if2
-    add-if2
-    returns-2
-    returns-3)
+elements-for-spec = tie.close (tie.spec (λ c κs. search needs) (λ c κs. search needs) (λ c. search needs) returns (λ c. search needs) (λ c. search needs) mul-if2 add-if2 returns-2 returns-3)

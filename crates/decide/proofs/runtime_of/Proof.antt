@@ -1,63 +1,41 @@
+use Prim.Native.Nat.{ℕ, _+_, _-_, _*_, _≤_}
+use mathlib.Core.Bool.{cond}
+use mathlib.Core.Path.{_≡_, refl, sym, ap, _∙_}
+use native.Mathlib.Omega.{arith}
 use borrow.Author.Needs.{needs}
+use borrow.Author.Tests.{eq-eqb, ne-eqb}
+use denote.Ref.{now}
+use Rattle.wgsl.specs.File.{MemberEntry}
+use Rattle.rows.specs.declared.Row.{Row}
+use Rattle.rows.specs.Row.{rowAt, memberAt}
+use Rattle.decide.specs.Decide.{runtimeOf}
 use Rattle.decide.proofs.runtime_of.Statement.{statement}
 use Rattle.decide.proofs.runtime_of.Tie as tie
-use Rattle.decide.proofs.runtime_of.Reads as reads
-use Rattle.decide.proofs.runtime_of.Lts as lts
-use Rattle.file.proofs.fields.member_at.Reads as member-at-reads
-use Rattle.file.proofs.trailer.wide.Reads as wide-reads
-use Rattle.rows.proofs.row_at.Reads as row-at-reads
 
--- src/lib.rt:113:9
-row-at-requires : tie.Need-row-at-requires
-row-at-requires c κs = search needs
-
--- src/lib.rt:115:9
 returns : tie.Need-returns
-returns c = ?
+unfolding runtimeOf
+returns c =
+    let r = c .before .before .row-at .ensures in
+    rw (← r, eq-eqb (c .before .before .row-at .result .kind) 10 (omega arith))
 
--- src/lib.rt:117:38
-wide-requires : tie.Need-wide-requires
-wide-requires c κs = search needs
-
--- src/lib.rt:117:58
-wide-requires-2 : tie.Need-wide-requires-2
-wide-requires-2 c κs = search needs
-
--- src/lib.rt:117:38
-add-member-at : tie.Need-add-member-at
-add-member-at c = search needs
-
--- src/lib.rt:117:38
 sub-member-at : tie.Need-sub-member-at
-sub-member-at c = ?
+sub-member-at c =
+    let r = c .before .before .before .before .row-at .ensures in
+    let p = c .before .before .before .before .before .before .before .pre in
+    omega (arith, rw (← r) at (p .some-members) (λ e. omega (arith, e)))
 
--- src/lib.rt:117:32
-mul-member-at : tie.Need-mul-member-at
-mul-member-at c = search needs
-
--- src/lib.rt:117:9
 member-at-requires : tie.Need-member-at-requires
-member-at-requires c κs = ?
+member-at-requires c κs =
+    let r = c .before .before .before .before .row-at .ensures in
+    let p = c .before .before .before .before .before .before .before .pre in
+    omega (arith, rw (← r) at (p .some-members) (λ e. omega (arith, e)), rw (← r) at (p .member-inside) (λ e. omega (arith, e)))
 
--- src/lib.rt:118:5
-wide-requires-3 : tie.Need-wide-requires-3
-wide-requires-3 c κs = search needs
-
--- src/lib.rt:109:1
 returns-2 : tie.Need-returns-2
-returns-2 c = ?
+unfolding runtimeOf
+returns-2 c =
+    let at = c .before .before .before .before .before .before in
+    rw (← at .row-at .ensures, ne-eqb (at .row-at .result .kind) 10 (λ e. omega (arith, e)), c .wide3 .ensures .0, ← c .before .before .before .wide .ensures .0, ← c .before .before .wide2 .ensures .0)
+    (ap (λ (y : MemberEntry). y .type) (c .before .member-at .ensures))
 
 pub runtime-of-spec : {M : Type 1} → statement M
-runtime-of-spec =
-    tie.close
-    (tie.spec
-    row-at-requires
-    returns
-    wide-requires
-    wide-requires-2
-    add-member-at
-    sub-member-at
-    mul-member-at
-    member-at-requires
-    wide-requires-3
-    returns-2)
+runtime-of-spec = tie.close (tie.spec (λ c κs. search needs) returns (λ c κs. search needs) (λ c κs. search needs) (λ c. search needs) sub-member-at (λ c. search needs) member-at-requires (λ c κs. search needs) returns-2)
