@@ -27,7 +27,8 @@ ghost use Rattle.wgsl.specs.Types.{Ty, isOpen};
 ghost use Rattle.wgsl.specs.Place.{extentOf, places, wordCount, wordsRead};
 ghost use Rattle.wgsl.specs.Call.{answerOf, contentsOf, readCall};
 ghost use Rattle.layout.specs.Answer.{saidNumber};
-ghost use Rattle.words.specs.Whole.{readAs, Ready, Tailed, Whole, loadedAs, Entry};
+ghost use Rattle.decide.specs.Whole.{readAs, Ready, Tailed, Whole, loadedAs};
+ghost use Rattle.words.specs.Entry.{Entry};
 
 // Puts the words of an entry down: the fixed part, then the tail.
 fn load(members: &[u8], rows: &[u32], e: usize, x: Tail, buf: &[u8], words: &mut [u32])

@@ -34,7 +34,8 @@ ghost use Rattle.wgsl.specs.Call.{answerOf, contentsOf, writeCall};
 ghost use Rattle.layout.specs.Answer.{saidNumber};
 ghost use Rattle.runs.specs.Run.{saidScan};
 ghost use Rattle.rows.specs.Row.{rowAt};
-ghost use Rattle.words.specs.Whole.{writtenAs, Ready, Tailed, Whole, heldAs, storedAs, Entry};
+ghost use Rattle.decide.specs.Whole.{writtenAs, Ready, Tailed, Whole, heldAs, storedAs};
+ghost use Rattle.words.specs.Entry.{Entry};
 
 // "zero where no scalar lies": the first `n` bytes.
 fn zero(buf: &mut [u8], n: usize)

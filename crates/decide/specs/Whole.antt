@@ -1,7 +1,7 @@
 -- Writing and reading whole entries, step by step: the calls of crates/wgsl (specs/Call) once the entry is found, and what the code's
 -- functions ask.
 --
--- In order: write and read after 10; an entry whose rows are there; an open entry; an entry with n elements; a call's entry.
+-- In order: write and read after 10; an entry whose rows are there; an open entry; an entry with n elements.
 -- Definitions only. Assumes nothing.
 use Prim.Native.Nat.{ℕ, _+_, _*_, _≤_}
 use mathlib.Core.Path.{_≡_}
@@ -21,10 +21,8 @@ use Rattle.kinds.specs.Value.{valueOf}
 use Rattle.folds.specs.Run.{runPlaces}
 use Rattle.rows.specs.Row.{rowAt, withCount}
 use Rattle.rows.specs.Tree.{Many, Tree}
-use Rattle.plan.specs.declared.Ground.{Ground}
-use Rattle.plan.specs.Plan.{memberBytes, groundOf}
 use Rattle.decide.specs.declared.Tail.{Tail}
 use Rattle.decide.specs.Decide.{runtimeOf, runtimeRow, Findable}
 
 -- ---- write and read after 10
 
@@ -103,12 +101,3 @@ unfoldable pub loadedAs : ℕ → Ty → List ℕ → List ℕ → Said Done
 loadedAs n t b ws = do
   refuse 14 0 (ltb (length ws) (wordCount n t))
   good (record { value = wordCount n t; contents = wordsRead (places n t) b ++ drop (wordCount n t) ws })
-
--- ---- a call's entry
-
-pub record Entry (f : List ℕ) (e : ℕ) (g : Ground) (rows : List ℕ) (t : Ty) : Type 0 where
-  pub entry-is : entryOf f e ≡ good t
-  pub ground-is : g ≡ groundOf f t
-  pub bytes-inside : (g .start ≤ g .end) × (g .end ≤ length f)
-  pub ready : isStorable t ≡ true → Ready (memberBytes f) rows e (valueOf t) t
-  pub tailed : isStorable t ≡ true → isOpen t ≡ true → Tailed (memberBytes f) rows e (valueOf t) t
