@@ -3,8 +3,8 @@
 -- In order: what is left of a run; a run one word longer; widths, and room for a part; the two lowest bytes of a word;
 -- a word that fits, and one that does not.
 -- Assumes nothing.
-use Prim.Native.Nat.{ℕ, suc, _+_, _-_, _*_, _/_, _%_, _^_, _<_, _≤_}
-use mathlib.Core.Path.{_≡_, refl, sym, _∙_}
+use Prim.Native.Nat.{ℕ, _+_, _-_, _*_, _/_, _%_, _^_, _<_, _≤_}
+use mathlib.Core.Path.{_≡_, refl}
 use mathlib.Core.Logic.{_⊎_, ⊎-elim}
 use mathlib.Core.List.{List, [], _∷_}
 use native.Mathlib.Nat.{mul-one, mul-le-mul-right}
@@ -16,9 +16,9 @@ use Rattle.wgsl.specs.Said.{good, refused, _>>_, refuse}
 use Rattle.wgsl.specs.Place.{Place, repeated, canHold}
 use Rattle.folds.specs.Fold.{overPlaces, testing}
 use Rattle.folds.specs.Run.{runPlaces}
+use Rattle.folds.proofs.Folds.{over-append, over-all, over-next, over-none, run-length, run-append}
 use Rattle.runs.specs.declared.Parts.{Parts}
 use Rattle.runs.specs.Run.{Room}
-use Rattle.folds.proofs.Folds.{over-append, over-all, over-next, over-none, run-length, run-append, tested-refused}
 
 -- ---- what is left of a run
 
@@ -43,7 +43,8 @@ run-none f n width p k s i h = over-none f (λ q. word width q) n width p k s i 
 pub run-more : {S : Type 0} (f : Place → ℕ → S → S) (i width at k : ℕ) (s t : S) → t ≡ overPlaces f (runPlaces i width at) k s → f (record { at = at + i * width; width = width }) (k + i) t ≡ overPlaces f (runPlaces (i + 1) width at) k s
 unfolding runPlaces repeated overPlaces
 run-more f i width at k s t e =
-    rw (e, run-append i 1 width at, over-append f (runPlaces i width at) (word width (at + i * width)) k s, run-length i width at)
+    let last = word width (at + i * width) in
+    rw (e, run-append i 1 width at, over-append f (runPlaces i width at) last k s, run-length i width at)
 
 -- ---- widths and room
 

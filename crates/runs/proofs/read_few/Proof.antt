@@ -64,25 +64,37 @@ unfolding overPlaces runPlaces repeated
 returns c = let e : c .before .before .before .args .n ≡ 0 = omega arith in rw e
 
 returns-2 : tie.Need-returns-2
-returns-2 c = let e : c .before .before .before .before .before .args .n ≡ 1 = omega arith in rw e (one (c .before))
+returns-2 c =
+    let a = c .before .before .before .before .before .args in
+    let e : a .n ≡ 1 = omega arith in
+    rw e (one (c .before))
 
 slice-write-words-2 : tie.Need-slice-write-words-2
 slice-write-words-2 c = simp length-set (omega arith)
 
 returns-3 : tie.Need-returns-3
-returns-3 c = let e : c .before .before .before .before .before .before .before .args .n ≡ 2 = omega arith in rw e (two (c .before))
+returns-3 c =
+    let a = c .before .before .before .before .before .before .before .args in
+    let e : a .n ≡ 2 = omega arith in
+    rw e (two (c .before))
 
 slice-write-words-3 : tie.Need-slice-write-words-3
 slice-write-words-3 c = simp length-set (omega arith)
 
 returns-4 : tie.Need-returns-4
-returns-4 c = let e : c .before .before .before .before .before .before .before .before .before .args .n ≡ 3 = omega arith in rw e (three (c .before))
+returns-4 c =
+    let a = c .before .before .before .before .before .before .before .before .before .args in
+    let e : a .n ≡ 3 = omega arith in
+    rw e (three (c .before))
 
 slice-write-words-4 : tie.Need-slice-write-words-4
 slice-write-words-4 c = simp length-set (omega arith)
 
 returns-5 : tie.Need-returns-5
-returns-5 c = let e : c .before .before .before .before .before .before .before .before .before .before .args .n ≡ 4 = omega arith in rw e (four (c))
+returns-5 c =
+    let a = c .before .before .before .before .before .before .before .before .before .before .args in
+    let e : a .n ≡ 4 = omega arith in
+    rw e (four (c))
 
 pub read-few-spec : {M : Type 1} → statement M
 read-few-spec =

@@ -51,33 +51,33 @@ loop-holds c =
 
 mul-read-run-2 : tie.Need-mul-read-run-2 Inv-loop μ-loop
 mul-read-run-2 c =
-    let room = part-room (c .before .before .before .loop .i)
-    (c .before .before .before .before .before .before .before .before .before .pre) (omega arith) in
+    let s = c .before .before .before .before .before .before .before .before .before in
+    let room = part-room (c .before .before .before .loop .i) (s .pre) (omega arith) in
     omega arith
 
 add-read-run : tie.Need-add-read-run Inv-loop μ-loop
 add-read-run c =
-    let room = part-room (c .before .before .before .loop .i)
-    (c .before .before .before .before .before .before .before .before .before .pre) (omega arith) in
+    let s = c .before .before .before .before .before .before .before .before .before in
+    let room = part-room (c .before .before .before .loop .i) (s .pre) (omega arith) in
     omega arith
 
 mul-read-run-3 : tie.Need-mul-read-run-3 Inv-loop μ-loop
 mul-read-run-3 c =
-    let room = part-room (c .before .before .before .before .before .loop .i)
-    (c .before .before .before .before .before .before .before .before .before .before .before .pre) (omega arith) in
+    let s = c .before .before .before .before .before .before .before .before .before .before .before in
+    let room = part-room (c .before .before .before .before .before .loop .i) (s .pre) (omega arith) in
     omega arith
 
 add-read-run-2 : tie.Need-add-read-run-2 Inv-loop μ-loop
 add-read-run-2 c =
-    let room = part-room (c .before .before .before .before .before .loop .i)
-    (c .before .before .before .before .before .before .before .before .before .before .before .pre) (omega arith) in
+    let s = c .before .before .before .before .before .before .before .before .before .before .before in
+    let room = part-room (c .before .before .before .before .before .loop .i) (s .pre) (omega arith) in
     omega arith
 
 read-run-requires-2 : tie.Need-read-run-requires-2 Inv-loop μ-loop
 read-run-requires-2 c κs =
-    let room = part-room (c .before .before .before .before .before .loop .i)
-    (c .before .before .before .before .before .before .before .before .before .before .before .pre) (omega arith) in
-    (c .before .before .before .before .before .before .before .before .before .before .before .pre .width, omega arith, omega arith)
+    let s = c .before .before .before .before .before .before .before .before .before .before .before in
+    let room = part-room (c .before .before .before .before .before .loop .i) (s .pre) (omega arith) in
+    (s .pre .width, omega arith, omega arith)
 
 loop-again : tie.Need-loop-again Inv-loop μ-loop
 unfolding partPlaces

@@ -9,30 +9,42 @@ use Rattle.runs.proofs.read_run.Tie as tie
 
 read-two-requires : tie.Need-read-two-requires
 read-two-requires c κs =
-    let w : c .before .before .before .before .args .width ≡ 2 = omega arith in
-    let p = c .before .before .before .before .pre in
+    let s = c .before .before .before .before in
+    let w : s .args .width ≡ 2 = omega arith in
+    let p = s .pre in
     (rw w at (p .1), p .2)
 
 returns : tie.Need-returns
-returns c = let w : c .before .before .before .before .before .before .before .args .width ≡ 2 = omega arith in rw w (c .before .before .read-two .ensures)
+returns c =
+    let s = c .before .before .before .before .before .before .before in
+    let w : s .args .width ≡ 2 = omega arith in
+    rw w (c .before .before .read-two .ensures)
 
 read-few-requires : tie.Need-read-few-requires
 read-few-requires c κs =
-    let w : c .before .before .before .before .before .args .width ≡ 4 = width-four (c .before .before .before .before .before .pre .0) (λ e. omega arith) in
-    let p = c .before .before .before .before .before .pre in
+    let s = c .before .before .before .before .before in
+    let w : s .args .width ≡ 4 = width-four (s .pre .0) (λ e. omega arith) in
+    let p = s .pre in
     (omega arith, rw w at (p .1), p .2)
 
 returns-2 : tie.Need-returns-2
-returns-2 c = let w : c .before .before .before .before .before .before .before .before .args .width ≡ 4 = width-four (c .before .before .before .before .before .before .before .before .pre .0) (λ e. omega arith) in rw w (c .before .before .read-few .ensures)
+returns-2 c =
+    let s = c .before .before .before .before .before .before .before .before in
+    let w : s .args .width ≡ 4 = width-four (s .pre .0) (λ e. omega arith) in
+    rw w (c .before .before .read-few .ensures)
 
 read-four-requires : tie.Need-read-four-requires
 read-four-requires c κs =
-    let w : c .before .before .before .before .before .args .width ≡ 4 = width-four (c .before .before .before .before .before .pre .0) (λ e. omega arith) in
-    let p = c .before .before .before .before .before .pre in
+    let s = c .before .before .before .before .before in
+    let w : s .args .width ≡ 4 = width-four (s .pre .0) (λ e. omega arith) in
+    let p = s .pre in
     (rw w at (p .1), p .2)
 
 returns-3 : tie.Need-returns-3
-returns-3 c = let w : c .before .before .before .before .before .before .before .before .args .width ≡ 4 = width-four (c .before .before .before .before .before .before .before .before .pre .0) (λ e. omega arith) in rw w (c .before .before .read-four .ensures)
+returns-3 c =
+    let s = c .before .before .before .before .before .before .before .before in
+    let w : s .args .width ≡ 4 = width-four (s .pre .0) (λ e. omega arith) in
+    rw w (c .before .before .read-four .ensures)
 
 pub read-run-spec : {M : Type 1} → statement M
 read-run-spec =

@@ -50,16 +50,28 @@ unfolding overPlaces runPlaces repeated
 returns c = let e : c .before .before .before .args .n ≡ 0 = omega arith in rw e
 
 returns-2 : tie.Need-returns-2
-returns-2 c = let e : c .before .before .before .before .before .before .before .before .before .args .n ≡ 1 = omega arith in rw e (one (c .before .before .before))
+returns-2 c =
+    let a = c .before .before .before .before .before .before .before .before .before .args in
+    let e : a .n ≡ 1 = omega arith in
+    rw e (one (c .before .before .before))
 
 returns-3 : tie.Need-returns-3
-returns-3 c = let e : c .before .before .before .before .before .before .before .before .before .before .before .before .before .before .before .args .n ≡ 2 = omega arith in rw e (two (c .before .before .before))
+returns-3 c =
+    let a = c .before .before .before .before .before .before .before .before .before .before .before .before .before .before .before .args in
+    let e : a .n ≡ 2 = omega arith in
+    rw e (two (c .before .before .before))
 
 returns-4 : tie.Need-returns-4
-returns-4 c = let e : c .before .before .before .before .before .before .before .before .before .before .before .before .before .before .before .before .before .before .before .before .before .args .n ≡ 3 = omega arith in rw e (three (c .before .before .before))
+returns-4 c =
+    let a = c .before .before .before .before .before .before .before .before .before .before .before .before .before .before .before .before .before .before .before .before .before .args in
+    let e : a .n ≡ 3 = omega arith in
+    rw e (three (c .before .before .before))
 
 returns-5 : tie.Need-returns-5
-returns-5 c = let e : c .before .before .before .before .before .before .before .before .before .before .before .before .before .before .before .before .before .before .before .before .before .before .before .before .before .before .args .n ≡ 4 = omega arith in rw e (four (c .before .before))
+returns-5 c =
+    let a = c .before .before .before .before .before .before .before .before .before .before .before .before .before .before .before .before .before .before .before .before .before .before .before .before .before .before .args in
+    let e : a .n ≡ 4 = omega arith in
+    rw e (four (c .before .before))
 
 pub write-few-spec : {M : Type 1} → statement M
 write-few-spec =

@@ -51,33 +51,33 @@ loop-holds c =
 
 mul-write-run-2 : tie.Need-mul-write-run-2 Inv-loop μ-loop
 mul-write-run-2 c =
-    let room = part-room (c .before .before .before .loop .i)
-    (c .before .before .before .before .before .before .before .before .before .pre) (omega arith) in
+    let s = c .before .before .before .before .before .before .before .before .before in
+    let room = part-room (c .before .before .before .loop .i) (s .pre) (omega arith) in
     omega arith
 
 add-write-run : tie.Need-add-write-run Inv-loop μ-loop
 add-write-run c =
-    let room = part-room (c .before .before .before .loop .i)
-    (c .before .before .before .before .before .before .before .before .before .pre) (omega arith) in
+    let s = c .before .before .before .before .before .before .before .before .before in
+    let room = part-room (c .before .before .before .loop .i) (s .pre) (omega arith) in
     omega arith
 
 mul-write-run-3 : tie.Need-mul-write-run-3 Inv-loop μ-loop
 mul-write-run-3 c =
-    let room = part-room (c .before .before .before .before .before .loop .i)
-    (c .before .before .before .before .before .before .before .before .before .before .before .pre) (omega arith) in
+    let s = c .before .before .before .before .before .before .before .before .before .before .before in
+    let room = part-room (c .before .before .before .before .before .loop .i) (s .pre) (omega arith) in
     omega arith
 
 add-write-run-2 : tie.Need-add-write-run-2 Inv-loop μ-loop
 add-write-run-2 c =
-    let room = part-room (c .before .before .before .before .before .loop .i)
-    (c .before .before .before .before .before .before .before .before .before .before .before .pre) (omega arith) in
+    let s = c .before .before .before .before .before .before .before .before .before .before .before in
+    let room = part-room (c .before .before .before .before .before .loop .i) (s .pre) (omega arith) in
     omega arith
 
 write-run-requires-2 : tie.Need-write-run-requires-2 Inv-loop μ-loop
 write-run-requires-2 c κs =
-    let room = part-room (c .before .before .before .before .before .loop .i)
-    (c .before .before .before .before .before .before .before .before .before .before .before .pre) (omega arith) in
-    (c .before .before .before .before .before .before .before .before .before .before .before .pre .width, omega arith, omega arith)
+    let s = c .before .before .before .before .before .before .before .before .before .before .before in
+    let room = part-room (c .before .before .before .before .before .loop .i) (s .pre) (omega arith) in
+    (s .pre .width, omega arith, omega arith)
 
 loop-again : tie.Need-loop-again Inv-loop μ-loop
 unfolding partPlaces

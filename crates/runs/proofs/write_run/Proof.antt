@@ -9,30 +9,42 @@ use Rattle.runs.proofs.write_run.Tie as tie
 
 write-two-requires : tie.Need-write-two-requires
 write-two-requires c κs =
-    let w : c .before .before .before .before .args .width ≡ 2 = omega arith in
-    let p = c .before .before .before .before .pre in
+    let s = c .before .before .before .before in
+    let w : s .args .width ≡ 2 = omega arith in
+    let p = s .pre in
     (p .1, rw w at (p .2))
 
 returns : tie.Need-returns
-returns c = let w : c .before .before .before .before .before .before .before .args .width ≡ 2 = omega arith in rw w (c .before .before .write-two .ensures)
+returns c =
+    let s = c .before .before .before .before .before .before .before in
+    let w : s .args .width ≡ 2 = omega arith in
+    rw w (c .before .before .write-two .ensures)
 
 write-few-requires : tie.Need-write-few-requires
 write-few-requires c κs =
-    let w : c .before .before .before .before .before .args .width ≡ 4 = width-four (c .before .before .before .before .before .pre .0) (λ e. omega arith) in
-    let p = c .before .before .before .before .before .pre in
+    let s = c .before .before .before .before .before in
+    let w : s .args .width ≡ 4 = width-four (s .pre .0) (λ e. omega arith) in
+    let p = s .pre in
     (omega arith, p .1, rw w at (p .2))
 
 returns-2 : tie.Need-returns-2
-returns-2 c = let w : c .before .before .before .before .before .before .before .before .args .width ≡ 4 = width-four (c .before .before .before .before .before .before .before .before .pre .0) (λ e. omega arith) in rw w (c .before .before .write-few .ensures)
+returns-2 c =
+    let s = c .before .before .before .before .before .before .before .before in
+    let w : s .args .width ≡ 4 = width-four (s .pre .0) (λ e. omega arith) in
+    rw w (c .before .before .write-few .ensures)
 
 write-four-requires : tie.Need-write-four-requires
 write-four-requires c κs =
-    let w : c .before .before .before .before .before .args .width ≡ 4 = width-four (c .before .before .before .before .before .pre .0) (λ e. omega arith) in
-    let p = c .before .before .before .before .before .pre in
+    let s = c .before .before .before .before .before in
+    let w : s .args .width ≡ 4 = width-four (s .pre .0) (λ e. omega arith) in
+    let p = s .pre in
     (p .1, rw w at (p .2))
 
 returns-3 : tie.Need-returns-3
-returns-3 c = let w : c .before .before .before .before .before .before .before .before .args .width ≡ 4 = width-four (c .before .before .before .before .before .before .before .before .pre .0) (λ e. omega arith) in rw w (c .before .before .write-four .ensures)
+returns-3 c =
+    let s = c .before .before .before .before .before .before .before .before in
+    let w : s .args .width ≡ 4 = width-four (s .pre .0) (λ e. omega arith) in
+    rw w (c .before .before .write-four .ensures)
 
 pub write-run-spec : {M : Type 1} → statement M
 write-run-spec =
