@@ -59,7 +59,8 @@ wide-append (p ∷ ps) qs a b = (a .0, wide-append ps qs (a .1) b)
 wide-repeated : (n stride : ℕ) (g : ℕ → List Place) (at : ℕ) → ((p : ℕ) → AllWide (g p)) → AllWide (repeated n stride g at)
 unfolding repeated AllWide
 wide-repeated zero stride g at h = tt
-wide-repeated (suc n) stride g at h = wide-append (g at) (repeated n stride g (at + stride)) (h at) (wide-repeated n stride g (at + stride) h)
+wide-repeated (suc n) stride g at h =
+    wide-append (g at) (repeated n stride g (at + stride)) (h at) (wide-repeated n stride g (at + stride) h)
 
 wide-run : (n at : ℕ) → AllWide (runPlaces n 4 at)
 unfolding runPlaces AllWide
@@ -67,7 +68,9 @@ wide-run n at = wide-repeated n 4 (λ p. record { at = p; width = 4 } ∷ []) at
 
 wide-runs : {r : Row} {x : Shape} → Runs r x → r .width ≡ 4 → Wide x
 unfolding Wide partPlaces
-wide-runs {r} R w at = rw (R .places-are at, w) (wide-repeated (r .count) (r .stride) (λ p. runPlaces (r .unit) 4 p) at (wide-run (r .unit)))
+wide-runs {r} R w at =
+    rw (R .places-are at, w)
+    (wide-repeated (r .count) (r .stride) (λ p. runPlaces (r .unit) 4 p) at (wide-run (r .unit)))
 
 wide-parts : (n stride : ℕ) (y : Shape) → Wide y → Wide (parts n stride y)
 unfolding Wide placesOf
@@ -108,10 +111,6 @@ says-fine h = record { said = h; any = λ e. let z : _≡_ {A = ℕ} 0 1 = cc in
 
 says-bad : {ws : List ℕ} {k : ℕ} {P : Shape → Type 0} {q : ℕ} → ((x : Shape) → P x → refused 16 q ≡ overPlaces (testing ws) (placesOf x 0) k (good tt)) → Says ws k P (Bad q)
 says-bad h = record { said = h; any = λ e. let z : _≡_ {A = ℕ} 0 1 = cc in absurd (omega arith) }
-
--- What is said of more shapes is said of fewer.
-pub says-of : {ws : List ℕ} {k : ℕ} {P Q : Shape → Type 0} {r : Scan} → ((x : Shape) → Q x → P x) → Says ws k P r → Says ws k Q r
-says-of f h = record { said = λ x q. h .said x (f x q); any = λ e x q. h .any e x (f x q) }
 
 -- ---- parts
 
@@ -179,7 +178,8 @@ module _ {ms rows : List ℕ} {r : Row} {element count unit bytes k n : ℕ} (al
 
 -- ---- members
 
--- so many members are left, from member m and word `next` on, and those before have passed; if `any`, then any words would have
+-- so many members are left, from member m and word `next` on, and those before have passed;
+-- if `any`, any words would have
 pub record Scanned (ms rows ws : List ℕ) (e k left m end next : ℕ) (any : Bool) : Type 0 where
   pub bytes : ℕ
   pub walk : Walk (testing ws) ms rows e 0 bytes k (length ws) (good tt) left m end next (good tt)

@@ -1,5 +1,5 @@
 -- Entries, parts and members are tested as the rows say; each law is one of proofs/Scans.
--- The measures: an entry goes down to a struct or to parts, those to entries below.
+-- The measures: an entry goes down to a struct or to parts, those to entries below. Assumes nothing.
 use Prim.Native.Nat.{ℕ, _+_, _*_, _-_, _≤_, _<_}
 use mathlib.Core.Logic.{⊎-elim, inl, inr}
 use mathlib.Core.Path.{_≡_, sym, ap, _∙_}
@@ -116,20 +116,26 @@ entry-returns-2 t c =
 
 -- what is said of the parts
 abbrev Parts-said : (t : ℕ) → many-lts.Start (many-claims t) (many-at t) many.Post Inv-many μ-many-loop → Scan → Type 0
-Parts-said t s = Says (now (s .args .words)) (s .args .k) (λ x. Many (now (s .args .members)) (now (s .args .rows)) (s .args .r) x)
+Parts-said t s =
+    Says (now (s .args .words)) (s .args .k) (λ x. Many (now (s .args .members)) (now (s .args .rows)) (s .args .r) x)
 
 many-low : (t : ℕ) (c : many-lts.After-shared-slice-known3 (many-claims t) (many-at t) many.Post Inv-many μ-many-loop) → Words32 (now (c .before .before .before .args .words))
 many-low t c = record { below = λ i. c .shared-slice-known3 .given i .fits }
 
+-- where the function begins
+abbrev begun : (t : ℕ) → many-lts.After-wide3 (many-claims t) (many-at t) many.Post Inv-many μ-many-loop → many-lts.Start (many-claims t) (many-at t) many.Post Inv-many μ-many-loop
+begun t c = c .before .before .before .before .before .before .before .before .before .before
+
 many-returns : (t : ℕ) → many-lts.Need-returns (many-claims t) (many-at t) many.Post Inv-many μ-many-loop
 many-returns t c =
-    let says : Parts-said t (c .before .before .before .before .before .before .before) Any = says-four (many-low t (c .before .before .before .before)) (c .if1 .taken) in
+    let says : Parts-said t (c .before .before .before .before .before .before .before) Any =
+    says-four (many-low t (c .before .before .before .before)) (c .if1 .taken) in
     (says .said, says .any)
 
 many-two : (t : ℕ) (c : many-lts.Then2 (many-claims t) (many-at t) many.Post Inv-many μ-many-loop) → c .before .before .before .before .before .before .before .before .before .args .k + c .before .before .before .before .before .wide .result * c .before .before .before .before .wide2 .result ≤ length (now (c .before .before .before .before .before .before .before .before .before .args .words))
 many-two t c =
-    rw (c .before .before .before .before .before .wide .ensures .0, c .before .before .before .before .wide2 .ensures .0)
-    (runs-room (c .before .before .before .before .before .before .before .before .before .pre .1 .1) (c .before .before .before .before .before .before .before .before .before .pre .1 .2) (c .if2 .taken))
+    let pre = c .before .before .before .before .before .before .before .before .before .pre .1 in
+    rw (c .before .before .before .before .before .wide .ensures .0, c .before .before .before .before .wide2 .ensures .0) (runs-room (pre .1) (pre .2) (c .if2 .taken))
 
 many-mul-scan-two : (t : ℕ) → many-lts.Need-mul-scan-two (many-claims t) (many-at t) many.Post Inv-many μ-many-loop
 many-mul-scan-two t c =
@@ -137,72 +143,85 @@ many-mul-scan-two t c =
 
 many-returns-2 : (t : ℕ) → many-lts.Need-returns-2 (many-claims t) (many-at t) many.Post Inv-many μ-many-loop
 many-returns-2 t c =
-    let n : c .before .before .before .before .before .before .wide .result * c .before .before .before .before .before .wide2 .result ≡ c .before .before .before .before .before .before .before .before .before .before .args .r .count * c .before .before .before .before .before .before .before .before .before .before .args .r .unit =
-    rw (c .before .before .before .before .before .before .wide .ensures .0, c .before .before .before .before .before .wide2 .ensures .0) in
-    let says : Parts-said t (c .before .before .before .before .before .before .before .before .before .before) (c .scan-two .result) =
-    says-two (now (c .before .before .before .before .before .before .before .before .before .before .args .words)) (c .before .if2 .taken) n (c .scan-two .ensures .0) (c .scan-two .ensures .1) in
+    let s = c .before .before .before .before .before .before .before .before .before .before in
+    let count = c .before .before .before .before .before .before .wide in
+    let unit = c .before .before .before .before .before .wide2 in
+    let n : count .result * unit .result ≡ s .args .r .count * s .args .r .unit = rw (count .ensures .0, unit .ensures .0) in
+    let says : Parts-said t s (c .scan-two .result) =
+    says-two (now (s .args .words)) (c .before .if2 .taken) n (c .scan-two .ensures .0) (c .scan-two .ensures .1) in
     (says .said, says .any)
 
 -- The parts are entries.
-many-each : (t : ℕ) (c : many-lts.After-wide3 (many-claims t) (many-at t) many.Post Inv-many μ-many-loop) → Each (now (c .before .before .before .before .before .before .before .before .before .before .args .members)) (now (c .before .before .before .before .before .before .before .before .before .before .args .rows)) (c .before .before .before .before .before .before .before .before .before .before .args .r) (c .wide3 .result) (c .before .before .before .before .before .before .wide .result) (c .before .before .before .before .before .wide2 .result) (c .before .before .before .before .before .before .before .before .before .before .args .r .stride) 0 (spanOf (c .before .before .before .before .before .before .before .before .before .before .pre .1 .0)) (c .before .before .before .before .before .before .before .before .before .before .args .k) (length (now (c .before .before .before .before .before .before .before .before .before .before .args .words)))
+many-each : (t : ℕ) (c : many-lts.After-wide3 (many-claims t) (many-at t) many.Post Inv-many μ-many-loop) → Each (now (begun t c .args .members)) (now (begun t c .args .rows)) (begun t c .args .r) (c .wide3 .result) (c .before .before .before .before .before .before .wide .result) (c .before .before .before .before .before .wide2 .result) (begun t c .args .r .stride) 0 (spanOf (begun t c .pre .1 .0)) (begun t c .args .k) (length (now (begun t c .args .words)))
 many-each t c =
-    let pre = c .before .before .before .before .before .before .before .before .before .before .pre .1 in
-    each-there (pre .1) (c .before .before .before .if1 .left) (c .before .if2 .left) (pre .2) (c .wide3 .ensures .0) (c .before .before .before .before .before .before .wide .ensures .0)
-    (c .before .before .before .before .before .wide2 .ensures .0)
+    let pre = begun t c .pre .1 in
+    each-there (pre .1) (c .before .before .before .if1 .left) (c .before .if2 .left) (pre .2)
+    (c .wide3 .ensures .0) (c .before .before .before .before .before .before .wide .ensures .0) (c .before .before .before .before .before .wide2 .ensures .0)
 
-many-room : (t : ℕ) (c : many-lts.In-loop (many-claims t) (many-at t) many.Post Inv-many μ-many-loop) → Room (many-each t (c .before .before) .y) (0 + c .before .loop .i * c .before .before .before .before .before .before .before .before .before .before .before .before .args .r .stride) (spanOf (c .before .before .before .before .before .before .before .before .before .before .before .before .pre .1 .0)) (c .before .before .before .before .before .before .before .before .before .before .before .before .args .k + c .before .loop .i * c .before .before .before .before .before .before .before .wide2 .result) (length (now (c .before .before .before .before .before .before .before .before .before .before .before .before .args .words)))
+many-room : (t : ℕ) (c : many-lts.In-loop (many-claims t) (many-at t) many.Post Inv-many μ-many-loop) → Room (many-each t (c .before .before) .y) (0 + c .before .loop .i * begun t (c .before .before) .args .r .stride) (spanOf (begun t (c .before .before) .pre .1 .0)) (begun t (c .before .before) .args .k + c .before .loop .i * c .before .before .before .before .before .before .before .wide2 .result) (length (now (begun t (c .before .before) .args .words)))
 many-room t c = each-room (many-each t (c .before .before) .room) (c .loop-test .taken)
 
 many-mul-scan-entry : (t : ℕ) → many-lts.Need-mul-scan-entry (many-claims t) (many-at t) many.Post Inv-many μ-many-loop
-many-mul-scan-entry t c =
-    omega (arith, many-room t c .words-there, c .before .before .before .before .before .before .before .before .before .before .before .before .good)
+many-mul-scan-entry t c = omega (arith, many-room t c .words-there, begun t (c .before .before) .good)
 
 many-add-scan-entry : (t : ℕ) → many-lts.Need-add-scan-entry (many-claims t) (many-at t) many.Post Inv-many μ-many-loop
-many-add-scan-entry t c =
-    omega (arith, many-room t c .words-there, c .before .before .before .before .before .before .before .before .before .before .before .before .good)
+many-add-scan-entry t c = omega (arith, many-room t c .words-there, begun t (c .before .before) .good)
 
 many-scan-entry-requires : (t : ℕ) → many-lts.Need-scan-entry-requires (many-claims t) (many-at t) many.Post Inv-many μ-many-loop
 many-scan-entry-requires t c κs =
-    let all = many-each t (c .before .before) in
-    (omega (arith, c .before .before .before .before .before .before .before .before .before .before .before .before .pre .0, all .deep), (all .y, all .tree, record { words-there = many-room t c .words-there }))
+    let all = many-each t (c .before .before) in (
+      omega (arith, begun t (c .before .before) .pre .0, all .deep),
+      (all .y, all .tree, record { words-there = many-room t c .words-there }),
+    )
 
 -- what is said of one part
-many-said : (t : ℕ) (c : many-lts.After-scan-entry (many-claims t) (many-at t) many.Post Inv-many μ-many-loop) → Says (now (c .before .before .before .before .before .before .before .before .before .before .before .before .before .args .words)) (c .before .before .before .before .before .before .before .before .before .before .before .before .before .args .k + c .before .before .loop .i * c .before .before .before .before .before .before .before .before .wide2 .result) (λ x. Tree (now (c .before .before .before .before .before .before .before .before .before .before .before .before .before .args .members)) (now (c .before .before .before .before .before .before .before .before .before .before .before .before .before .args .rows)) (c .before .before .before .wide3 .result) x) (c .scan-entry .result)
+many-said : (t : ℕ) (c : many-lts.After-scan-entry (many-claims t) (many-at t) many.Post Inv-many μ-many-loop) → Says (now (begun t (c .before .before .before) .args .words)) (begun t (c .before .before .before) .args .k + c .before .before .loop .i * c .before .before .before .before .before .before .before .before .wide2 .result) (λ x. Tree (now (begun t (c .before .before .before) .args .members)) (now (begun t (c .before .before .before) .args .rows)) (c .before .before .before .wide3 .result) x) (c .scan-entry .result)
 many-said t c = record { said = c .scan-entry .ensures .0; any = c .scan-entry .ensures .1 }
 
 many-returns-3 : (t : ℕ) → many-lts.Need-returns-3 (many-claims t) (many-at t) many.Post Inv-many μ-many-loop
 many-returns-3 t c =
-    let says : Parts-said t (c .before .before .before .before .before .before .before .before .before .before .before .before .before .before .before) Any =
-    turns-any (many-each t (c .before .before .before .before .before)) (many-low t (c .before .before .before .before .before .before .before .before .before .before .before .before)) (many-said t (c .before .before)) (c .enum-told .given .1) in
+    let l = c .before .before .before .before .before in
+    let says : Parts-said t (begun t l) Any =
+    turns-any (many-each t l) (many-low t (l .before .before .before .before .before .before .before)) (many-said t (c .before .before))
+    (c .enum-told .given .1) in
     (says .said, says .any)
 
 many-returns-4 : (t : ℕ) → many-lts.Need-returns-4 (many-claims t) (many-at t) many.Post Inv-many μ-many-loop
 many-returns-4 t c =
-    let says : Parts-said t (c .before .before .before .before .before .before .before .before .before .before .before .before .before .before .before .before) (Bad (c .before .p .given .0 .0)) =
-    turns-bad (many-each t (c .before .before .before .before .before .before)) (c .before .before .before .before .before .loop .inv) (c .before .before .before .before .loop-test .taken) (many-said t (c .before .before .before)) (c .before .p .given .1) in
+    let l = c .before .before .before .before .before .before in
+    let turn = c .before .before .before .before in
+    let says : Parts-said t (begun t l) (Bad (c .before .p .given .0 .0)) =
+    turns-bad (many-each t l) (turn .before .loop .inv) (turn .loop-test .taken) (many-said t (c .before .before .before))
+    (c .before .p .given .1) in
     (says .said, says .any)
 
 many-add-i : (t : ℕ) → many-lts.Need-add-i (many-claims t) (many-at t) many.Post Inv-many μ-many-loop
 many-add-i t c =
-    omega (arith, c .before .before .before .loop-test .taken, c .before .before .before .before .before .before .before .before .before .before .before .wide .ensures .1)
+    let turn = c .before .before .before in
+    let wide = turn .before .before .before .before .before .before .before .before .wide in
+    omega (arith, turn .loop-test .taken, wide .ensures .1)
 
 many-loop-less : (t : ℕ) → many-lts.Need-loop-less (many-claims t) (many-at t) many.Post Inv-many μ-many-loop
 many-loop-less t c = omega (arith, c .before .before .before .loop-test .taken)
 
 many-loop-again : (t : ℕ) → many-lts.Need-loop-again (many-claims t) (many-at t) many.Post Inv-many μ-many-loop
 many-loop-again t c =
-    turns-fine (many-each t (c .before .before .before .before .before)) (c .before .before .before .before .loop .inv) (c .before .before .before .loop-test .taken) (many-said t (c .before .before)) (c .enum-told2 .given .1)
+    let turn = c .before .before .before in
+    turns-fine (many-each t (turn .before .before)) (turn .before .loop .inv) (turn .loop-test .taken) (many-said t (c .before .before))
+    (c .enum-told2 .given .1)
 
 many-returns-5 : (t : ℕ) → many-lts.Need-returns-5 (many-claims t) (many-at t) many.Post Inv-many μ-many-loop
 many-returns-5 t c =
-    let says : Parts-said t (c .before .before .before .before .before .before .before .before .before .before .before .before) Fine = turns-none (many-each t (c .before .before)) (c .before .loop .inv) (c .loop-test .left) in
+    let says : Parts-said t (begun t (c .before .before)) Fine =
+    turns-none (many-each t (c .before .before)) (c .before .loop .inv) (c .loop-test .left) in
     (says .said, says .any)
 
 -- ---- scan_struct
 
 -- what is said of the entry
 abbrev Entry-said : (t : ℕ) → struct-lts.Start (struct-claims t) (struct-at t) struct.Post Inv-struct μ-struct-loop → Scan → Type 0
-Entry-said t s = Says (now (s .args .words)) (s .args .k) (λ x. Tree (now (s .args .members)) (now (s .args .rows)) (s .args .e) x)
+Entry-said t s =
+    Says (now (s .args .words)) (s .args .k) (λ x. Tree (now (s .args .members)) (now (s .args .rows)) (s .args .e) x)
 
 struct-row-at-requires : (t : ℕ) → struct-lts.Need-row-at-requires (struct-claims t) (struct-at t) struct.Post Inv-struct μ-struct-loop
 struct-row-at-requires t c κs = tree-rowed (c .before .before .before .pre .1 .1) .inside
@@ -221,8 +240,9 @@ struct-scan-entry-requires : (t : ℕ) → struct-lts.Need-scan-entry-requires (
 struct-scan-entry-requires t c κs =
     let w = c .before .before .loop .inv .walk in
     let h = c .before .loop-test .taken in
-    let is = c .place .ensures in (
-      omega (arith, c .before .before .before .before .before .before .before .before .before .pre .0, type-is (walk-room w h) is, walk-first w h .member .lower),
+    let is = c .place .ensures in
+    let s = c .before .before .before .before .before .before .before .before .before in (
+      omega (arith, s .pre .0, type-is (walk-room w h) is, walk-first w h .member .lower),
       (walk-first w h .y, type-tree (walk-room w h) is, record { words-there = walk-room w h .room .words-there }),
     )
 
@@ -232,19 +252,24 @@ struct-said t c = record { said = c .scan-entry .ensures .0; any = c .scan-entry
 
 struct-returns : (t : ℕ) → struct-lts.Need-returns (struct-claims t) (struct-at t) struct.Post Inv-struct μ-struct-loop
 struct-returns t c =
-    let says : Entry-said t (c .before .before .before .before .before .before .before .before .before .before .before .before .before) (Bad (c .before .q .given .0 .0)) =
-    scanned-bad (c .before .before .before .before .before .before .loop .inv) (c .before .before .before .before .before .loop-test .taken) (c .before .before .before .before .place .ensures) (struct-said t (c .before .before .before)) (c .before .q .given .1) in
+    let s = c .before .before .before .before .before .before .before .before .before .before .before .before .before in
+    let turn = c .before .before .before .before .before in
+    let says : Entry-said t s (Bad (c .before .q .given .0 .0)) =
+    scanned-bad (turn .before .loop .inv) (turn .loop-test .taken) (c .before .before .before .before .place .ensures) (struct-said t (c .before .before .before))
+    (c .before .q .given .1) in
     (says .said, says .any)
 
 struct-add-next : (t : ℕ) → struct-lts.Need-add-next (struct-claims t) (struct-at t) struct.Post Inv-struct μ-struct-loop
 struct-add-next t c =
-    let words = walk-words (c .before .before .before .before .before .loop .inv .walk) (c .before .before .before .before .loop-test .taken) (c .before .before .before .place .ensures) in
-    omega (arith, words, c .before .before .before .before .before .before .before .before .before .before .before .before .good)
+    let s = c .before .before .before .before .before .before .before .before .before .before .before .before in
+    let turn = c .before .before .before .before in
+    omega (arith, walk-words (turn .before .loop .inv .walk) (turn .loop-test .taken) (c .before .before .before .place .ensures), s .good)
 
 struct-add-m : (t : ℕ) → struct-lts.Need-add-m (struct-claims t) (struct-at t) struct.Post Inv-struct μ-struct-loop
 struct-add-m t c =
-    let member = walk-room (c .before .before .before .before .before .loop .inv .walk) (c .before .before .before .before .loop-test .taken) in
-    omega (arith, member .placeable .inside, c .before .before .before .before .before .before .before .before .before .before .before .before .good)
+    let s = c .before .before .before .before .before .before .before .before .before .before .before .before in
+    let turn = c .before .before .before .before in
+    omega (arith, walk-room (turn .before .loop .inv .walk) (turn .loop-test .taken) .placeable .inside, s .good)
 
 struct-sub-left : (t : ℕ) → struct-lts.Need-sub-left (struct-claims t) (struct-at t) struct.Post Inv-struct μ-struct-loop
 struct-sub-left t c = omega (arith, c .before .before .before .before .loop-test .taken)
@@ -254,18 +279,21 @@ struct-loop-less t c = omega (arith, c .before .before .before .before .loop-tes
 
 struct-loop-again : (t : ℕ) → struct-lts.Need-loop-again (struct-claims t) (struct-at t) struct.Post Inv-struct μ-struct-loop
 struct-loop-again t c =
-    scanned-next (c .before .before .before .before .before .loop .inv) (c .before .before .before .before .loop-test .taken) (c .before .before .before .place .ensures) (struct-said t (c .before .before))
+    let turn = c .before .before .before .before in
+    scanned-next (turn .before .loop .inv) (turn .loop-test .taken) (c .before .before .before .place .ensures) (struct-said t (c .before .before))
     (⊎-elim (λ w. inl (w .1 .given .1, w .2)) (λ w. inr (w .1 .given .1, w .2)) (c .before .match .came))
 
 struct-returns-2 : (t : ℕ) → struct-lts.Need-returns-2 (struct-claims t) (struct-at t) struct.Post Inv-struct μ-struct-loop
 struct-returns-2 t c =
+    let known = c .before .before .before .before .before .before .shared-slice-known3 in
     let says : Entry-said t (c .before .before .before .before .before .before .before .before .before) Any =
-    says-all-any (c .before .before .loop .inv) (record { below = λ i. c .before .before .before .before .before .before .shared-slice-known3 .given i .fits }) (c .before .loop-test .left) (c .if1 .taken) in
+    says-all-any (c .before .before .loop .inv) (record { below = λ i. known .given i .fits }) (c .before .loop-test .left) (c .if1 .taken) in
     (says .said, says .any)
 
 struct-returns-3 : (t : ℕ) → struct-lts.Need-returns-3 (struct-claims t) (struct-at t) struct.Post Inv-struct μ-struct-loop
 struct-returns-3 t c =
-    let says : Entry-said t (c .before .before .before .before .before .before .before .before .before) Fine = says-all (c .before .before .loop .inv) (c .before .loop-test .left) in
+    let says : Entry-said t (c .before .before .before .before .before .before .before .before .before) Fine =
+    says-all (c .before .before .loop .inv) (c .before .loop-test .left) in
     (says .said, says .any)
 
 pub +scan-entry+scan-many+scan-struct-spec : {M : Type 1} → statement M
