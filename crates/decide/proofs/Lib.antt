@@ -1,2 +1,3 @@
 pub mod Counts
 pub mod Allowing
+pub mod Wholes
