@@ -98,6 +98,38 @@ rowOf x t =
       words = fixedWords t;
     }
 
+-- a row of parts, of a layout and a reference
+unfoldable pub partsRow : ℕ → Layout → ℕ → ℕ → ℕ → ℕ → Row
+partsRow reference l width count unit stride =
+    record {
+      kind = l .kind;
+      run = touching stride unit width;
+      width = width;
+      reference = reference;
+      count = count;
+      unit = unit;
+      stride = stride;
+      size = l .size;
+      align = l .align;
+      words = l .words;
+    }
+
+-- the row of a runtime array with n elements, from the array's row
+unfoldable pub withCount : ℕ → Row → Row
+withCount n r =
+    record {
+      kind = r .kind;
+      run = r .run;
+      width = r .width;
+      reference = r .reference;
+      count = n;
+      unit = r .unit;
+      stride = r .stride;
+      size = r .size;
+      align = r .align;
+      words = r .words;
+    }
+
 -- ---- a file's rows and members
 
 -- rows of the entries below k of a file whose types are ts

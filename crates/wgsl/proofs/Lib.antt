@@ -8,6 +8,7 @@ pub mod Said
 pub mod Align
 pub mod Accepted
 pub mod Fields
+pub mod AtEntry
 pub mod Shape
 pub mod Path
 pub mod PathPlace
