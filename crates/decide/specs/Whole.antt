@@ -3,7 +3,7 @@
 --
 -- In order: write and read after 10; an entry whose rows are there; an open entry; an entry with n elements.
 -- Definitions only. Assumes nothing.
-use Prim.Native.Nat.{ℕ, _+_, _*_, _≤_}
+use Prim.Native.Nat.{ℕ, _+_, _*_, _<_, _≤_}
 use mathlib.Core.Path.{_≡_}
 use mathlib.Core.Bool.{true}
 use mathlib.Core.List.{List, _++_}
@@ -69,6 +69,7 @@ pub record Tailed (ms rows : List ℕ) (e : ℕ) (l : Layout) (t : Ty) : Type 0 
   pub row-inside : 10 * runtimeOf ms rows e + 10 ≤ length rows
   pub many : (n : ℕ) → Many ms rows (withCount n (runtimeRow ms rows e)) (shapeOf n (runtime element))
   pub unit-is : (n : ℕ) → wordCount n element ≡ runtimeRow ms rows e .unit
+  pub unit-above : 0 < runtimeRow ms rows e .unit
 
 -- ---- an entry with n elements
 

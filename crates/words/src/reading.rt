@@ -121,7 +121,9 @@ fn read_entry_at(
     match allow(l, buf.len()) {
         Allowed::Refused(r) => Number::Refused(r),
         Allowed::Yes => {
-            let members = &file[g.start..g.end];
+            let start = g.start;
+            let end = g.end;
+            let members = &file[start..end];
             if l.opens {
                 return read_open(members, rows, e, l, buf, words);
             }

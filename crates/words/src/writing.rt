@@ -204,7 +204,9 @@ fn write_entry_at(
     match allow(l, buf.len()) {
         Allowed::Refused(r) => Number::Refused(r),
         Allowed::Yes => {
-            let members = &file[g.start..g.end];
+            let start = g.start;
+            let end = g.end;
+            let members = &file[start..end];
             if l.opens {
                 return write_open(members, rows, e, l, words, buf);
             }
