@@ -138,11 +138,11 @@ tested-words ws (p ∷ ps) k h =
     (tested-rest ws ps k (not (canHold p (getD ws k 0))) (checkWords (suc k) ps (drop (suc k) ws))
     (tested-words ws ps (suc k) (omega arith)))
 
-abbrev widths : List Place → List ℕ
+abbrev pub widths : List Place → List ℕ
 widths ps = map (λ p. p .width) ps
 
 -- Places of the same widths test alike, wherever they lie.
-tested-widths : (ws : List ℕ) (ps qs : List Place) (k : ℕ) (s : Said (Unit {0})) → widths ps ≡ widths qs → overPlaces (testing ws) ps k s ≡ overPlaces (testing ws) qs k s
+pub tested-widths : (ws : List ℕ) (ps qs : List Place) (k : ℕ) (s : Said (Unit {0})) → widths ps ≡ widths qs → overPlaces (testing ws) ps k s ≡ overPlaces (testing ws) qs k s
 unfolding overPlaces testing canHold
 tested-widths ws [] [] k s e = refl
 tested-widths ws [] (q ∷ qs) k s e = let z : _≡_ {A = ℕ} 0 1 = cc in absurd (omega arith)

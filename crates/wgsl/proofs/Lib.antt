@@ -20,6 +20,7 @@ pub mod Laid
 pub mod Closed
 pub mod Entry
 pub mod Count
+pub mod Opened
 pub mod Index
 pub mod Elements
 pub mod Call

@@ -1,0 +1,4 @@
+pub mod Counts
+pub mod Allowing
+pub mod Wholes
+pub mod Calls
