@@ -22,11 +22,11 @@ use Rattle.wgsl.proofs.AtEntry.{Refers, to-none, to-vector, to-matrix, to-array
 use Rattle.folds.specs.Run.{runPlaces}
 use Rattle.kinds.specs.Value.{kindOfType, fixedWords}
 use Rattle.rows.specs.declared.Row.{Row}
-use Rattle.rows.specs.Row.{rowAt}
+use Rattle.rows.specs.Row.{rowAt, withCount}
 use Rattle.rows.specs.Tree.{Rowed, Many, runs, Tree, many, members}
-use Rattle.plan.specs.Plan.{runWidth, partWidth, partWords, partStride, partCount, rowOf, withCount, Rows, memberBytes}
+use Rattle.plan.specs.Plan.{runWidth, partWidth, partWords, partStride, partCount, rowOf, Rows, memberBytes}
 use Rattle.plan.proofs.Kept.{Kept, kept, kept-words, Element, array-element, runtime-element, struct-members}
-use Rattle.plan.proofs.Widths.{TwoOrFour, partsIn, run-span, run-width, run-places, runtime-run-places}
+use Rattle.plan.proofs.Widths.{TwoOrFour, partsIn, run-span, run-width, run-places, run-places-all, run-extent}
 use Rattle.plan.proofs.MembersLeft.{left}
 use Rattle.plan.proofs.Says.{Says, scalar-positive, kind-not, says-runs, says-many, row-says}
 
@@ -154,9 +154,21 @@ module _ (f : List ℕ) (ts : List Ty) (rows : List ℕ) (k : ℕ) (good-file : 
       ∙ ap₂ (λ (n v : ℕ). runPlaces n v at) (sym (ap (λ (r : Row). r .words) row)) run
 
   pub whole-run-runtime : (e : ℕ) (u : Ty) → e < k → getElem? ts e ≡ some (runtime u) → isStorable (runtime u) ≡ true → (w : ℕ) → rowAt rows e .run ≡ w → 0 < w → (n at : ℕ) → placesOf (shapeOf n (runtime u)) at ≡ runPlaces (n * rowAt rows e .unit) w at
-  unfolding rowOf partWords
+  unfolding rowOf partWords partsIn
   whole-run-runtime e u low there h w is pos n at =
       let row = given .row-is e (runtime u) low there in
       let run : runWidth (runtime u) ≡ w = sym (ap (λ (r : Row). r .run) row) ∙ is in
-      runtime-run-places n u (kept-at e (runtime u) there h) (omega arith) at
+      run-places-all n (runtime u) (kept-at e (runtime u) there h) (omega arith) at
       ∙ ap₂ (λ (m v : ℕ). runPlaces (n * m) v at) (sym (ap (λ (r : Row). r .unit) row)) run
+
+  -- With n elements they are so many, over all the bytes of the type.
+  pub whole-run-all : (e : ℕ) (t : Ty) → e < k → getElem? ts e ≡ some t → isStorable t ≡ true → (w : ℕ) → rowAt rows e .run ≡ w → 0 < w → (n : ℕ) → (count : ℕ) × ((at : ℕ) → placesOf (shapeOf n t) at ≡ runPlaces count w at) × (extentOf n t ≡ count * w)
+  unfolding rowOf
+  whole-run-all e t low there h w is pos n =
+      let run : runWidth t ≡ w = sym (ap (λ (r : Row). r .run) (given .row-is e t low there)) ∙ is in
+      let x = kept-at e t there h in
+      let count : ℕ = partsIn n t * partWords t in (
+        count,
+        λ at. run-places-all n t x (omega arith) at ∙ ap (λ (v : ℕ). runPlaces count v at) run,
+        run-extent n t x (omega arith) ∙ ap (λ (v : ℕ). count * v) run,
+      )

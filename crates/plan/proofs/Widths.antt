@@ -14,7 +14,7 @@ use borrow.Author.Tests.{eqb-true}
 use lib.Dec.{eqb}
 use Rattle.wgsl.specs.Types.{Scalar, bool, i32, u32, f32, f16, abstractInt, abstractFloat, Ty, scalar, vector, matrix, array, runtime, atomic, struct, everywhere}
 use Rattle.wgsl.specs.Size.{present, widthOf, alignOf, strideOf, isStored, isPlain}
-use Rattle.wgsl.specs.Place.{column, shapeOf, spanOf, wordPlaces, repeated, placesOf}
+use Rattle.wgsl.specs.Place.{extentOf, column, shapeOf, spanOf, wordPlaces, repeated, placesOf}
 use Rattle.wgsl.proofs.Absent.{true-not-false, present-is}
 use Rattle.wgsl.proofs.Passed.{matrix-passed}
 use Rattle.wgsl.proofs.Align.{vector-align}
@@ -24,7 +24,7 @@ use Rattle.folds.proofs.Folds.{parts-touch}
 use Rattle.kinds.specs.Value.{fixedWords}
 use Rattle.plan.specs.Plan.{touching, runWidth, partWidth, partWords, partStride}
 use Rattle.plan.proofs.Parting.{touch-one}
-use Rattle.plan.proofs.Kept.{Kept, kept-words, array-element, runtime-element, element-shape, element-fits}
+use Rattle.plan.proofs.Kept.{Kept, kept-words, kept-laid, array-element, runtime-element, element-shape, element-fits}
 
 abbrev pub TwoOrFour : ℕ → Type 0
 TwoOrFour w = (w ≡ 2) ⊎ (w ≡ 4)
@@ -187,10 +187,16 @@ parts-places n (struct c ms) k h at = absurd (omega arith)
 pub run-places : (t : Ty) → Kept t → 0 < runWidth t → (at : ℕ) → placesOf (shapeOf 0 t) at ≡ runPlaces (fixedWords t) (runWidth t) at
 run-places t k h at = run-places-by t k h (λ q w. parts-places 0 t k w q) at
 
--- So do those of a runtime array with n elements.
-pub runtime-run-places : (n : ℕ) (u : Ty) → Kept (runtime u) → 0 < runWidth (runtime u) → (at : ℕ) → placesOf (shapeOf n (runtime u)) at ≡ runPlaces (n * fixedWords u) (runWidth (runtime u)) at
-unfolding partsIn partWords
-runtime-run-places n u k h at =
-    let p = run-parts (runtime u) h in
-    parts-places n (runtime u) k (p .some-width) at
-    ∙ rw (p .stride-is, parts-touch n (fixedWords u) (partWidth (runtime u)) at, p .width-is)
+-- So do those of the type with n elements, over all its bytes.
+pub run-places-all : (n : ℕ) (t : Ty) → Kept t → 0 < runWidth t → (at : ℕ) → placesOf (shapeOf n t) at ≡ runPlaces (partsIn n t * partWords t) (runWidth t) at
+run-places-all n t k h at =
+    let p = run-parts t h in
+    parts-places n t k (p .some-width) at
+    ∙ rw (p .stride-is, parts-touch (partsIn n t) (partWords t) (partWidth t) at, p .width-is)
+
+pub run-extent : (n : ℕ) (t : Ty) → Kept t → 0 < runWidth t → extentOf n t ≡ partsIn n t * partWords t * runWidth t
+run-extent n t k h =
+    let p = run-parts t h in
+    sym (kept-laid k n .span)
+    ∙ rw (parts-span n t (p .some-width), p .stride-is, ← p .width-is)
+    (sym (mul-assoc (partsIn n t) (partWords t) (partWidth t)))
