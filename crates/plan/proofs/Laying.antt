@@ -1,7 +1,6 @@
 -- Rows filled upward, one entry after the other (specs/Plan).
 --
--- In order: a row that is put down, and the rows below it; what the table says of an entry; rows up to entry k, and one more; what an
--- entry whose rows are there answers.
+-- In order: what the table says of an entry; rows up to entry k, and one more; what an entry whose rows are there answers.
 -- Assumes nothing.
 use Prim.Native.Nat.{ℕ, zero, suc, _+_, _*_, _<_, _≤_}
 use mathlib.Core.List.{List, [], _∷_, _++_, map}
@@ -18,11 +17,10 @@ use Rattle.wgsl.specs.File as wgsl
 use Rattle.wgsl.specs.File.{trailerOf, trailerLength, typeEntryLength, memberEntryLength, lengthBy, TypeEntry, typeEntryAt, typeEntryFrom}
 use Rattle.wgsl.specs.Rule.{typesOf}
 use Rattle.wgsl.specs.Call.{entryOf}
-use Rattle.wgsl.proofs.Number.{sets-below, sets-inside}
 use Rattle.wgsl.proofs.Absent.{some-not-none}
 use Rattle.wgsl.proofs.Said.{good-not-refused, then-good, then-cases, then-is, then-refused}
 use Rattle.wgsl.proofs.Accepted.{accepted}
-use Rattle.wgsl.proofs.AtEntry.{getElem-low, At, Refers, to-none, to-vector, to-matrix, to-array, to-runtime, to-atomic, to-members, refers}
+use Rattle.wgsl.proofs.AtEntry.{getElem-low, Refers, to-none, to-vector, to-matrix, to-array, to-runtime, to-atomic, to-members, refers}
 use Rattle.file.specs.Fields.{trailerIs}
 use Rattle.file.specs.Refusal.{numberOf, placeOf}
 use Rattle.file.specs.declared.refusal.Refusal.{Refusal}
@@ -34,31 +32,9 @@ use Rattle.table.specs.declared.Checked.{Checked}
 use Rattle.table.specs.declared.Checked.the-variants.{Types, Refused}
 use Rattle.rows.specs.declared.Row.{Row}
 use Rattle.rows.specs.Row.{rowAt, rowNumbers}
+use Rattle.plan.proofs.Putting.{rowAt-put-same, rowAt-put-other}
 use Rattle.plan.specs.declared.Ground.{Ground}
-use Rattle.plan.specs.Plan.{runWidth, rowOf, Rows, membersStart, Over, of-scalar, of-vector, of-matrix, of-array, of-runtime, of-atomic, of-struct, Parted, groundOf, plannedOf}
-
--- ---- a row that is put down
-
-row-same-parts : (r s : Row) → r .kind ≡ s .kind → r .run ≡ s .run → r .width ≡ s .width → r .reference ≡ s .reference → r .count ≡ s .count → r .unit ≡ s .unit → r .stride ≡ s .stride → r .size ≡ s .size → r .align ≡ s .align → r .words ≡ s .words → r ≡ s
-row-same-parts r s a b c d e f g h i j = rw (a, b, c, d, e, f, g, h, i, j)
-
--- It is the row of its entry,
-pub rowAt-put-same : (rows : List ℕ) (k : ℕ) (s : Row) → 10 * k + 10 ≤ length rows → rowAt (sets rows (10 * k) (rowNumbers s)) k ≡ s
-unfolding rowAt rowNumbers
-rowAt-put-same rows k s h =
-    let at : (n : ℕ) → n < 10 → getD (sets rows (10 * k) (rowNumbers s)) (10 * k + n) 0 ≡ getD (rowNumbers s) n 0 = λ n l. sets-inside (rowNumbers s) rows (10 * k) n h l in
-    let first : 10 * k + 0 ≡ 10 * k = omega arith in
-    row-same-parts _ s (rw first at (at 0 (omega arith))) (at 1 (omega arith)) (at 2 (omega arith)) (at 3 (omega arith)) (at 4 (omega arith))
-    (at 5 (omega arith)) (at 6 (omega arith)) (at 7 (omega arith)) (at 8 (omega arith)) (at 9 (omega arith))
-
--- and the rows of lower entries stay.
-pub rowAt-put-other : (rows : List ℕ) (k e : ℕ) (s : Row) → e < k → rowAt (sets rows (10 * k) (rowNumbers s)) e ≡ rowAt rows e
-unfolding rowAt
-rowAt-put-other rows k e s h =
-    let at : (i : ℕ) → i < 10 * k → getD (sets rows (10 * k) (rowNumbers s)) i 0 ≡ getD rows i 0 = λ i l. sets-below (rowNumbers s) rows (10 * k) i l in
-    row-same-parts _ (rowAt rows e) (at (10 * e) (omega arith)) (at (10 * e + 1) (omega arith)) (at (10 * e + 2) (omega arith)) (at (10 * e + 3) (omega arith))
-    (at (10 * e + 4) (omega arith)) (at (10 * e + 5) (omega arith)) (at (10 * e + 6) (omega arith)) (at (10 * e + 7) (omega arith)) (at (10 * e + 8) (omega arith))
-    (at (10 * e + 9) (omega arith))
+use Rattle.plan.specs.Plan.{rowOf, Rows, membersStart, Over, of-scalar, of-vector, of-matrix, of-array, of-runtime, of-atomic, of-struct, Parted, groundOf, plannedOf}
 
 -- ---- what the table says of an entry
 

@@ -1,25 +1,20 @@
 -- The row of an entry from its layout, and from the layout and the row of the entry that it refers to (specs/Plan).
 --
--- In order: parts that touch; the row, kind by kind; ten numbers put down one by one.
+-- In order: parts that touch; the row, kind by kind.
 -- Assumes nothing.
-use Prim.Native.Nat.{ℕ, suc, _+_, _*_, _<_, _≤_}
-use mathlib.Core.Bool.{Bool, true, cond}
-use mathlib.Core.List.{List}
+use Prim.Native.Nat.{ℕ, _<_, _≤_}
+use mathlib.Core.Bool.{true, cond}
 use mathlib.Core.Path.{_≡_, refl, sym, ap, _∙_}
-use native.Mathlib.Omega.{arith}
 use native.Mathlib.Nat.{one-mul}
 use borrow.Author.Tests.{eq-eqb, ne-eqb, le-leb, lt-leb}
 use lib.Dec.{eqb, leb}
-use lib.ListN.{set}
-use lib.Seq.{sets}
-use Rattle.wgsl.specs.Types.{Scalar, bool, i32, u32, f32, f16, abstractInt, abstractFloat, Ty, scalar, vector, matrix, array, runtime, atomic, struct}
+use Rattle.wgsl.specs.Types.{Scalar, bool, i32, u32, f32, f16, abstractInt, abstractFloat, Ty}
 use Rattle.wgsl.specs.Size.{present, widthOf, sizeOf}
 use Rattle.wgsl.specs.File.{TypeEntry}
 use Rattle.wgsl.specs.Rank.{kindOf}
 use Rattle.kinds.specs.declared.value.Layout.{Layout}
 use Rattle.kinds.specs.Value.{kindOfType, elementStride, valueOf}
 use Rattle.rows.specs.declared.Row.{Row}
-use Rattle.rows.specs.Row.{rowNumbers}
 use Rattle.plan.specs.Plan.{touching, runWidth, partWidth, partWords, partStride, partCount, rowOf, partsRow, Over, of-scalar, of-vector, of-matrix, of-array, of-runtime, of-atomic, of-struct, Parted}
 
 -- A part of one word touches the next, if it is as long as its stride.
@@ -92,18 +87,3 @@ module _ {x : TypeEntry} {l below : Layout} {r : Row} {t : Ty} (p : Parted x l b
       e
       ∙ rw (lt-leb (l .kind) 6 h, ne-eqb (l .kind) 7 h7, ne-eqb (l .kind) 8 h8, ne-eqb (l .kind) 11 h11, ne-eqb (l .kind) 12 h12) at
       (row-parted x l below r t p)
-
--- Ten numbers put down one by one are a row put down.
-pub put-down : (l : List ℕ) (at : ℕ) (r : Row) → set (set (set (set (set (set (set (set (set (set l at (r .kind)) (at + 1) (r .run)) (at + 2) (r .width)) (at + 3) (r .reference)) (at + 4) (r .count)) (at + 5) (r .unit)) (at + 6) (r .stride)) (at + 7) (r .size)) (at + 8) (r .align)) (at + 9) (r .words) ≡ sets l at (rowNumbers r)
-unfolding rowNumbers
-put-down l at r =
-    let e1 : at + 1 ≡ suc at = omega arith in
-    let e2 : at + 2 ≡ suc (suc at) = omega arith in
-    let e3 : at + 3 ≡ suc (suc (suc at)) = omega arith in
-    let e4 : at + 4 ≡ suc (suc (suc (suc at))) = omega arith in
-    let e5 : at + 5 ≡ suc (suc (suc (suc (suc at)))) = omega arith in
-    let e6 : at + 6 ≡ suc (suc (suc (suc (suc (suc at))))) = omega arith in
-    let e7 : at + 7 ≡ suc (suc (suc (suc (suc (suc (suc at)))))) = omega arith in
-    let e8 : at + 8 ≡ suc (suc (suc (suc (suc (suc (suc (suc at))))))) = omega arith in
-    let e9 : at + 9 ≡ suc (suc (suc (suc (suc (suc (suc (suc (suc at)))))))) = omega arith in
-    rw (e1, e2, e3, e4, e5, e6, e7, e8, e9)

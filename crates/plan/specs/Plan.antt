@@ -114,22 +114,6 @@ partsRow reference l width count unit stride =
       words = l .words;
     }
 
--- the row of a runtime array with n elements, from the array's row
-unfoldable pub withCount : ℕ → Row → Row
-withCount n r =
-    record {
-      kind = r .kind;
-      run = r .run;
-      width = r .width;
-      reference = r .reference;
-      count = n;
-      unit = r .unit;
-      stride = r .stride;
-      size = r .size;
-      align = r .align;
-      words = r .words;
-    }
-
 -- ---- a file's rows and members
 
 -- rows of the entries below k of a file whose types are ts

@@ -1,7 +1,7 @@
 -- The ten stores are the row put down; they stay inside, since ten numbers are there.
 use native.Mathlib.Omega.{arith}
 use lib.ListN.{length-set}
-use Rattle.plan.proofs.Parting.{put-down}
+use Rattle.plan.proofs.Putting.{put-down}
 use borrow.Author.Needs.{needs}
 use Rattle.plan.proofs.put.Statement.{statement}
 use Rattle.plan.proofs.put.Tie as tie
