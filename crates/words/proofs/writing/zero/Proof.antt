@@ -1,52 +1,47 @@
+-- What is written so far: zeros below i, and the buffer as it was from i on.
+use Prim.Native.Nat.{ℕ, zero, suc, _+_, _-_, _<_, _≤_}
+use mathlib.Core.List.{List, [], _∷_, _++_}
+use mathlib.Core.Path.{_≡_, refl, ap, sym, _∙_}
+use native.Mathlib.Omega.{arith}
+use native.Mathlib.Numerals.{add-one}
+use borrow.Author.Needs.{needs}
+use denote.Ref.{now}
+use lib.ListN.{length, drop, set, replicate}
+use Rattle.words.proofs.Zeros.{zeroed-next, zeroed-length}
 use Rattle.words.proofs.writing.zero.Statement.{statement}
 use Rattle.words.proofs.writing.zero.Tie as tie
-use Rattle.words.proofs.writing.zero.Reads as reads
-use Rattle.words.proofs.writing.zero.Lts as lts
 
 abbrev Inv-loop : tie.InvT-loop
-Inv-loop buf₀ n i₀ buf i = ?
+Inv-loop buf₀ n i₀ buf i = (buf ≡ replicate i 0 ++ drop i buf₀) × (i ≤ n) × (n ≤ length buf₀)
 
 abbrev μ-loop : tie.MeasureT-loop
-μ-loop buf₀ n i₀ buf i = ?
+μ-loop buf₀ n i₀ buf i = n - i
 
--- src/writing.rt:46:5
 loop-holds : tie.Need-loop-holds Inv-loop μ-loop
-loop-holds c = ?
+loop-holds c = (refl, omega arith, c .pre)
 
--- src/writing.rt:47:9
 slice-write-buf : tie.Need-slice-write-buf Inv-loop μ-loop
-slice-write-buf c = ?
+slice-write-buf c =
+    let l = c .before .loop in
+    omega (arith, ap length (l .inv .0) ∙ zeroed-length (l .i) _ (omega arith))
 
--- src/writing.rt:48:9
-add-i : tie.Need-add-i Inv-loop μ-loop
-add-i c = ?
-
--- src/writing.rt:46:5
-loop-less : tie.Need-loop-less Inv-loop μ-loop
-loop-less c = ?
-
--- src/writing.rt:46:5
 loop-again : tie.Need-loop-again Inv-loop μ-loop
-loop-again c = ?
+loop-again c =
+    let l = c .before .loop in
+    (rw (l .inv .0) (zeroed-next (l .i) _ (omega arith)), omega arith, l .inv .2)
 
--- src/writing.rt:41:1
 same-length : tie.Need-same-length Inv-loop μ-loop
-same-length c = ?
+same-length c =
+    let l = c .before .loop in
+    ap length (l .inv .0) ∙ zeroed-length (l .i) _ (omega arith)
 
--- src/writing.rt:41:1
 returns : tie.Need-returns Inv-loop μ-loop
-returns c = ?
+returns c =
+    let l = c .before .loop in
+    let e : l .i ≡ c .before .before .args .n = omega arith in
+    rw (← e) (l .inv .0)
 
 pub zero-spec : {M : Type 1} → statement M
 zero-spec =
-    tie.close
-    (tie.spec
-    Inv-loop
-    μ-loop
-    loop-holds
-    slice-write-buf
-    add-i
-    loop-less
-    loop-again
-    same-length
-    returns)
+    tie.close (tie.spec
+    Inv-loop μ-loop loop-holds slice-write-buf (λ c. search needs) (λ c. search needs) loop-again same-length returns)
