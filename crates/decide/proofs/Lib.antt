@@ -3,3 +3,4 @@ pub mod Allowing
 pub mod Wholes
 pub mod Bounds
 pub mod Calls
+pub mod Stored

@@ -1,2 +1,4 @@
 pub mod Zeros
 pub mod Entries
+pub mod Parts
+pub mod Readings

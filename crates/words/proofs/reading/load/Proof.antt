@@ -1,26 +1,31 @@
+-- The fixed part and the tail are loaded one after the other, which is the whole (crates/decide, proofs/Wholes).
+-- Assumes nothing.
+use mathlib.Core.Path.{_∙_}
+use Rattle.wgsl.specs.Place.{shapeOf}
+use Rattle.decide.proofs.Wholes.{fixed-room, rest-room, loaded-whole}
 use borrow.Author.Needs.{needs}
 use Rattle.words.proofs.reading.load.Statement.{statement}
 use Rattle.words.proofs.reading.load.Tie as tie
-use Rattle.words.proofs.reading.load.Reads as reads
-use Rattle.words.proofs.reading.load.Lts as lts
-use Rattle.reader.proofs.read_entry.Reads as read-entry-reads
-use Rattle.reader.proofs.read_many.Reads as read-many-reads
 
--- src/reading.rt:38:5
 read-entry-requires : tie.Need-read-entry-requires
-read-entry-requires c κs = ?
+read-entry-requires c κs =
+    let pre = c .before .before .before .before .before .pre in
+    (shapeOf 0 (pre .0), pre .2 .tree, fixed-room (pre .2) (pre .4) (pre .3))
 
--- src/reading.rt:39:5
 read-many-requires : tie.Need-read-many-requires
-read-many-requires c κs = ?
+read-many-requires c κs =
+    let first = c .before .before .before in
+    let pre = first .before .before .before .before .before .before .pre in
+    let same = first .read-entry .kept .1 .1 .1 .1 .1 .1 .0 in
+    (pre .2 .rest, pre .2 .many, rw same (rest-room (pre .2) (pre .4) (pre .3)))
 
--- src/reading.rt:34:1
-same-length : tie.Need-same-length
-same-length c = search needs
-
--- src/reading.rt:34:1
 returns : tie.Need-returns
-returns c = ?
+returns c =
+    let second = c .before .before in
+    let first = second .before .before .before .before in
+    λ t n w h.
+    second .read-many .ensures (w .rest) (w .many)
+    ∙ rw (first .read-entry .ensures (shapeOf 0 t) (w .tree)) (loaded-whole w _ _ h)
 
 pub load-spec : {M : Type 1} → statement M
-load-spec = tie.close (tie.spec read-entry-requires read-many-requires same-length returns)
+load-spec = tie.close (tie.spec read-entry-requires read-many-requires (λ c. search needs) returns)

@@ -1,80 +1,92 @@
+-- The words counted are the type's, and few (crates/decide, proofs/Bounds). Assumes nothing.
+use Prim.Native.Nat.{_+_, _*_, _≤_}
+use mathlib.Core.Path.{_≡_, ap, sym, _∙_}
+use native.Mathlib.Omega.{arith}
+use denote.Ref.{now}
+use lib.ListN.{length}
+use Rattle.wgsl.specs.Types.{Ty}
+use Rattle.wgsl.specs.Said.{good}
+use Rattle.wgsl.specs.Place.{wordCount}
+use Rattle.wgsl.specs.Call.{answerOf, contentsOf}
+use Rattle.decide.specs.Decide.{openTail}
+use Rattle.decide.specs.Whole.{Tailed, Whole}
+use Rattle.decide.proofs.Wholes.{open-whole}
+use Rattle.decide.proofs.Bounds.{words-few, tailed-words, elements-few}
+use Rattle.decide.proofs.Calls.{loaded-few, loaded-done}
 use borrow.Author.Needs.{needs}
 use Rattle.words.proofs.reading.read_elements.Statement.{statement}
 use Rattle.words.proofs.reading.read_elements.Tie as tie
-use Rattle.words.proofs.reading.read_elements.Reads as reads
-use Rattle.words.proofs.reading.read_elements.Lts as lts
-use Rattle.decide.proofs.open_tail.Reads as open-tail-reads
-use Rattle.decide.proofs.runtime_of.Reads as runtime-of-reads
-use Rattle.file.proofs.trailer.wide.Reads as wide-reads
-use Rattle.rows.proofs.row_at.Reads as row-at-reads
-use Rattle.words.proofs.reading.load.Reads as load-reads
 
--- src/reading.rt:79:26
-runtime-of-requires : tie.Need-runtime-of-requires
-runtime-of-requires c κs = search needs
+-- what the code counts
+count : {t : Ty} (c : tie.After-wide2) →
+    let a = c .before .before .before .before .before .before .before .before .args in
+    Tailed (now (a .members)) (now (a .rows)) (a .e) (a .l) t → c .before .wide .result + a .n * c .wide2 .result ≡ wordCount (a .n) t
+count c x =
+    let row = c .before .before in
+    rw (c .before .wide .ensures .0, c .wide2 .ensures .0, row .row-at .ensures, row .before .runtime-of .ensures)
+    (sym (tailed-words x _))
 
--- src/reading.rt:79:9
-row-at-requires : tie.Need-row-at-requires
-row-at-requires c κs = search needs
+few : (c : tie.After-wide2) →
+    c .before .wide .result + c .before .before .before .before .before .before .before .before .args .n * c .wide2 .result ≤ 4294967295
+few c =
+    let start = c .before .before .before .before .before .before .before .before in
+    let x = start .pre .1 in
+    omega (arith, count c x, words-few (x .ready) (start .args .n), start .pre .2, start .pre .3)
 
--- src/reading.rt:80:17
-wide-requires : tie.Need-wide-requires
-wide-requires c κs = search needs
+-- the fixed part, and the tail that it makes
+tail : {t : Ty} (c : tie.After-open-tail) →
+    let a = c .before .before .before .before .before .before .before .before .before .before .args in
+    Tailed (now (a .members)) (now (a .rows)) (a .e) (a .l) t → Whole (now (a .members)) (now (a .rows)) (a .e) (c .open-tail .result) t (a .n)
+unfolding openTail
+tail c x =
+    let row = c .before .before .before .before in
+    rw (c .open-tail .ensures, row .row-at .ensures, row .before .runtime-of .ensures) (open-whole x _)
 
--- src/reading.rt:80:37
-wide-requires-2 : tie.Need-wide-requires-2
-wide-requires-2 c κs = search needs
-
--- src/reading.rt:80:33
 mul-count : tie.Need-mul-count
-mul-count c = ?
+mul-count c = omega (arith, few c)
 
--- src/reading.rt:80:17
 add-count : tie.Need-add-count
-add-count c = ?
+add-count c = omega (arith, few c)
 
--- src/reading.rt:82:9
 returns : tie.Need-returns
-returns c = ?
+unfolding answerOf contentsOf
+returns c = (
+  λ t x. ap answerOf (sym (loaded-few _ t _ _ (rw (count (c .before) x) at (c .if1 .taken)))),
+  λ t x. ap (contentsOf _) (sym (loaded-few _ t _ _ (rw (count (c .before) x) at (c .if1 .taken)))),
+)
 
--- src/reading.rt:84:44
 cast-open-tail : tie.Need-cast-open-tail
-cast-open-tail c = ?
+cast-open-tail c =
+    let start = c .before .before .before .before .before .before .before .before .before in
+    let pre = start .pre in
+    omega (arith, elements-few (pre .1) (start .args .n) (length (now (start .args .buf))) (pre .2), pre .3)
 
--- src/reading.rt:84:28
-open-tail-requires : tie.Need-open-tail-requires
-open-tail-requires c κs = search needs
-
--- src/reading.rt:84:5
 load-requires : tie.Need-load-requires
-load-requires c κs = ?
+load-requires c κs =
+    let else1 = c .before .before in
+    let start = else1 .before .before .before .before .before .before .before .before .before in
+    let pre = start .pre in
+    let there = rw (count (else1 .before) (pre .1)) at (else1 .if1 .left) in
+    (pre .0, start .args .n, tail (c .before) (pre .1), there, pre .2)
 
--- src/reading.rt:85:16
 cast-t17 : tie.Need-cast-t17
-cast-t17 c = ?
+cast-t17 c = omega (arith, few (c .before .before .before .before .before .before))
 
--- src/reading.rt:66:1
-same-length : tie.Need-same-length
-same-length c = search needs
-
--- src/reading.rt:66:1
 returns-2 : tie.Need-returns-2
-returns-2 c = ?
+unfolding answerOf contentsOf
+returns-2 c =
+    let load = c .before .before in
+    let else1 = load .before .before .before in (
+      λ t x.
+          ap good (count (else1 .before) x)
+          ∙ ap answerOf (sym (loaded-done _ t _ _ (rw (count (else1 .before) x) at (else1 .if1 .left)))),
+      λ t x.
+          load .load .ensures t _ (tail (load .before .before) x) (rw (count (else1 .before) x) at (else1 .if1 .left))
+          ∙ ap (contentsOf _) (sym (loaded-done _ t _ _ (rw (count (else1 .before) x) at (else1 .if1 .left)))),
+    )
 
 pub read-elements-spec : {M : Type 1} → statement M
 read-elements-spec =
-    tie.close
-    (tie.spec
-    runtime-of-requires
-    row-at-requires
-    wide-requires
-    wide-requires-2
-    mul-count
-    add-count
-    returns
-    cast-open-tail
-    open-tail-requires
-    load-requires
-    cast-t17
-    same-length
-    returns-2)
+    tie.close (tie.spec
+    (λ c κs. search needs) (λ c κs. search needs) (λ c κs. search needs) (λ c κs. search needs) mul-count add-count
+    returns cast-open-tail (λ c κs. search needs) load-requires cast-t17 (λ c. search needs) returns-2)

@@ -1,47 +1,42 @@
+-- By the elements that are found (proofs/Readings). Assumes nothing.
+use mathlib.Core.Path.{ap, sym, _∙_}
+use denote.Ref.{now}
+use Rattle.wgsl.specs.Call.{answerOf, contentsOf}
+use Rattle.decide.proofs.Bounds.{stride-above}
+use Rattle.words.proofs.Readings.{no-elements, some-elements}
 use borrow.Author.Needs.{needs}
 use Rattle.words.proofs.reading.read_open.Statement.{statement}
 use Rattle.words.proofs.reading.read_open.Tie as tie
-use Rattle.words.proofs.reading.read_open.Reads as reads
-use Rattle.words.proofs.reading.read_open.Lts as lts
-use Rattle.decide.proofs.elements_in.Reads as elements-in-reads
-use Rattle.words.proofs.reading.read_elements.Reads as read-elements-reads
 
--- src/reading.rt:101:11
 elements-in-requires : tie.Need-elements-in-requires
-elements-in-requires c κs = ?
+elements-in-requires c κs = stride-above (c .before .before .before .before .pre .1)
 
--- src/reading.rt:102:38
-enum-told : tie.Need-enum-told
-enum-told c = search needs
-
--- src/reading.rt:103:19
-enum-known-n : tie.Need-enum-known-n
-enum-known-n c = search needs
-
--- src/reading.rt:103:25
 read-elements-requires : tie.Need-read-elements-requires
-read-elements-requires c κs = ?
+read-elements-requires c κs =
+    let n = c .before .before in
+    let found = n .before .before in
+    let start = found .before .before .before .before .before in
+    let pre = start .pre in
+    let is = sym (found .elements-in .ensures) ∙ n .n .given .1 in
+    (pre .0, pre .1, some-elements (pre .1) (now (start .args .buf)) (now (start .args .words)) is .0, pre .2)
 
--- src/reading.rt:89:1
 returns : tie.Need-returns
-returns c = ?
+unfolding answerOf contentsOf
+returns c =
+    let no = sym (c .before .before .elements-in .ensures) ∙ c .enum-told .given .1 in
+    (λ t x. ap answerOf (sym (no-elements x _ _ no)), λ t x. ap (contentsOf _) (sym (no-elements x _ _ no)))
 
--- src/reading.rt:89:1
-same-length : tie.Need-same-length
-same-length c = search needs
-
--- src/reading.rt:89:1
 returns-2 : tie.Need-returns-2
-returns-2 c = ?
+returns-2 c =
+    let read = c .before .before in
+    let n = read .before .before .before in
+    let is = sym (n .before .before .elements-in .ensures) ∙ n .n .given .1 in (
+      λ t x. read .read-elements .ensures .0 t x ∙ ap answerOf (sym (some-elements x _ _ is .1)),
+      λ t x. read .read-elements .ensures .1 t x ∙ ap (contentsOf _) (sym (some-elements x _ _ is .1)),
+    )
 
 pub read-open-spec : {M : Type 1} → statement M
 read-open-spec =
-    tie.close
-    (tie.spec
-    elements-in-requires
-    enum-told
-    enum-known-n
-    read-elements-requires
-    returns
-    same-length
+    tie.close (tie.spec
+    elements-in-requires (λ c. search needs) (λ c. search needs) read-elements-requires returns (λ c. search needs)
     returns-2)

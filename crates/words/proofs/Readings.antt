@@ -1,0 +1,60 @@
+-- Reading (crates/wgsl, specs/Call) by what the code finds: the laws of crates/decide (proofs/Calls), over the numbers of a layout.
+--
+-- In order: once the entry is decided; a type of fixed size; an open type.
+-- Assumes nothing.
+use Prim.Native.Nat.{ℕ, _<_, _≤_}
+use mathlib.Core.Bool.{false}
+use mathlib.Core.List.{List, _++_}
+use mathlib.Core.Path.{_≡_, _∙_}
+use native.Mathlib.Omega.{arith}
+use lib.ListN.{length, drop}
+use Rattle.wgsl.specs.Types.{Ty, isOpen}
+use Rattle.wgsl.specs.Said.{good, refused}
+use Rattle.wgsl.specs.Place.{extentOf, places, wordCount, wordsRead}
+use Rattle.wgsl.specs.Call.{storedEntry, readCall}
+use Rattle.wgsl.proofs.Said.{then-is, then-refused}
+use Rattle.wgsl.proofs.Opened.{opened-extent}
+use Rattle.kinds.specs.declared.value.Layout.{Layout}
+use Rattle.decide.specs.declared.Found.the-variants.{Is, No}
+use Rattle.decide.specs.Decide.{elementsFound}
+use Rattle.decide.specs.Whole.{readAs, Ready, Tailed, loadedAs}
+use Rattle.decide.proofs.Wholes.{ready-words}
+use Rattle.decide.proofs.Bounds.{size-is, tailed-open}
+use Rattle.decide.proofs.Calls.{closed-short, closed-there, elements-short, elements-there, loaded-few, loaded-done}
+
+-- ---- once the entry is decided
+
+module _ (f : List ℕ) (e : ℕ) (b ws : List ℕ) where
+  pub read-refused : {number place : ℕ} → storedEntry f e b ≡ refused number place → readCall f e b ws ≡ refused number place
+  unfolding readCall
+  read-refused h = then-refused _ h
+
+  pub read-allowed : {t : Ty} → storedEntry f e b ≡ good t → readCall f e b ws ≡ readAs t b ws
+  unfolding readCall readAs
+  read-allowed h = then-is _ h
+
+-- ---- a type of fixed size
+
+module _ {ms rows : List ℕ} {e : ℕ} {l : Layout} {t : Ty} (r : Ready ms rows e l t) (o : isOpen t ≡ false) (b ws : List ℕ) where
+  pub few-bytes : length b < l .size → readAs t b ws ≡ refused 15 0
+  few-bytes h = closed-short t (r .well-formed) o ws b (rw (size-is r) at h)
+
+  enough : l .size ≤ length b → readAs t b ws ≡ loadedAs 0 t b ws
+  enough h = closed-there t (r .well-formed) o ws b (rw (size-is r) at h)
+
+  pub few-words : l .size ≤ length b → length ws < l .words → readAs t b ws ≡ refused 14 0
+  few-words h k = enough h ∙ loaded-few 0 t ws b (omega (arith, ready-words r))
+
+  pub all-read : l .size ≤ length b → l .words ≤ length ws → readAs t b ws ≡ good (record { value = wordCount 0 t; contents = wordsRead (places 0 t) b ++ drop (wordCount 0 t) ws })
+  all-read h k = enough h ∙ loaded-done 0 t ws b (omega (arith, ready-words r))
+
+-- ---- an open type
+
+module _ {ms rows : List ℕ} {e : ℕ} {l : Layout} {t : Ty} (x : Tailed ms rows e l t) (b ws : List ℕ) where
+  pub no-elements : elementsFound (length b) (l .offset) (l .stride) ≡ No → readAs t b ws ≡ refused 15 0
+  no-elements h = elements-short t (tailed-open x) (l .offset) (l .stride) (x .opened .tail-is) ws b h
+
+  pub some-elements : {n : ℕ} → elementsFound (length b) (l .offset) (l .stride) ≡ Is n → (extentOf n t ≤ length b) × (readAs t b ws ≡ loadedAs n t b ws)
+  some-elements {n} h =
+      let there = elements-there t (tailed-open x) (l .offset) (l .stride) (x .opened .tail-is) ws b h in
+      (omega (arith, opened-extent (x .opened) n, there .0), there .1)
