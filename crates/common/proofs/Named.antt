@@ -10,7 +10,7 @@ use Rattle.wgsl.specs.Said.{good}
 use Rattle.wgsl.specs.Rule.{typesOf}
 use Rattle.wgsl.specs.Rank.{rankOf}
 use Rattle.rank.specs.Ranked.{Pair}
-use Rattle.rank.proofs.Entries.{getElem-getD}
+use Rattle.wgsl.proofs.AtEntry.{getElem-getD}
 
 module _ {f : List ℕ} {ts : List Ty} {start a b : ℕ} (p : Pair f ts start a b) where
   pub swapped : Pair f ts start b a

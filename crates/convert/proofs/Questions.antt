@@ -27,7 +27,7 @@ use Rattle.table.specs.Table.{acceptedTrailer, saidChecked}
 use Rattle.table.specs.declared.Checked.{Checked}
 use Rattle.table.specs.declared.Checked.the-variants.{Types, Refused}
 use Rattle.rank.specs.Ranked.{Pair}
-use Rattle.rank.proofs.Entries.{getElem-getD}
+use Rattle.wgsl.proofs.AtEntry.{getElem-getD}
 use Rattle.common.specs.Chosen.{allBelow, Listed, entryIn, entriesIn, numberIn}
 
 -- ---- the entries of a list

@@ -2,7 +2,7 @@
 -- Definitions only. Assumes nothing.
 use Prim.Native.Nat.{ℕ}
 use Rattle.file.specs.declared.refusal.Refusal.{Refusal}
-use Rattle.file.specs.declared.refusal.Refusal.the-variants.{Short, Form, Counts, Length, Rule, Given, Large, Missing, Absent, NoRank}
+use Rattle.file.specs.declared.refusal.Refusal.the-variants.{Short, Form, Counts, Length, Rule, Given, Large, Missing, Absent, Unstorable, Count, Buffer, Word, Long, NoRank}
 
 abbrev pub numberOf : Refusal → ℕ
 numberOf Short = 1
@@ -14,6 +14,11 @@ numberOf (Given entry) = 6
 numberOf (Large entry) = 7
 numberOf Missing = 8
 numberOf Absent = 9
+numberOf Unstorable = 10
+numberOf Count = 14
+numberOf Buffer = 15
+numberOf (Word position) = 16
+numberOf Long = 17
 numberOf NoRank = 18
 
 abbrev pub placeOf : Refusal → ℕ
@@ -26,4 +31,9 @@ placeOf (Given entry) = entry
 placeOf (Large entry) = entry
 placeOf Missing = 0
 placeOf Absent = 0
+placeOf Unstorable = 0
+placeOf Count = 0
+placeOf Buffer = 0
+placeOf (Word position) = position
+placeOf Long = 0
 placeOf NoRank = 0

@@ -17,6 +17,16 @@ pub enum Refusal {
     Missing,
     // 9: a number that is absent, or no layout
     Absent,
+    // 10: not storable
+    Unstorable,
+    // 14: the wrong number of words, or too few
+    Count,
+    // 15: a buffer that is too short
+    Buffer,
+    // 16, with its position: a word that an f16 cannot hold
+    Word(usize),
+    // 17: a buffer that is too long
+    Long,
     // 18: no rank, no common type, or an empty list
     NoRank,
 }
@@ -34,11 +44,16 @@ pub fn number(r: Refusal) -> u32
         Refusal::Large(_) => 7,
         Refusal::Missing => 8,
         Refusal::Absent => 9,
+        Refusal::Unstorable => 10,
+        Refusal::Count => 14,
+        Refusal::Buffer => 15,
+        Refusal::Word(_) => 16,
+        Refusal::Long => 17,
         Refusal::NoRank => 18,
     }
 }
 
-// The lowest 32 bits of a place. Places are entries, below 256.
+// The lowest 32 bits of a place. Places are entries, below 256, and positions of words, below 2^31.
 pub fn place(r: Refusal) -> u32
     ensures { λ n. ⌜ n ≡ placeOf r % 2 ^ 32 ⌝ }
 {
@@ -46,6 +61,7 @@ pub fn place(r: Refusal) -> u32
         Refusal::Rule(k) => (k % 0x1_0000_0000) as u32,
         Refusal::Given(k) => (k % 0x1_0000_0000) as u32,
         Refusal::Large(k) => (k % 0x1_0000_0000) as u32,
+        Refusal::Word(k) => (k % 0x1_0000_0000) as u32,
         _ => 0,
     }
 }

@@ -12,7 +12,7 @@ use Rattle.wgsl.specs.File as wgsl
 use Rattle.wgsl.specs.Call as call
 use Rattle.file.specs.Refusal.{numberOf, placeOf}
 use Rattle.file.specs.declared.refusal.Refusal.{Refusal}
-use Rattle.file.specs.declared.refusal.Refusal.the-variants.{Short, Form, Counts, Length, Rule, Given, Large, Missing, Absent, NoRank}
+use Rattle.file.specs.declared.refusal.Refusal.the-variants.{Short, Form, Counts, Length, Rule, Given, Large, Missing, Absent, Unstorable, Count, Buffer, Word, Long, NoRank}
 use Rattle.file.specs.declared.trailer.Trailer.{Trailer}
 use Rattle.table.specs.Table.{saidChecked}
 use Rattle.layout.specs.Answer.{saidNumber, maybeOf, saidAnswer}
@@ -32,7 +32,9 @@ single says from told a b p q = sym (told a) ∙ ap from (p ∙ sym q) ∙ told 
 unfoldable refusalFrom : ℕ → ℕ → Refusal
 refusalFrom place number =
     getD
-    (Short ∷ Short ∷ Form ∷ Counts ∷ Length ∷ Rule place ∷ Given place ∷ Large place ∷ Missing ∷ Absent ∷ [])
+    (Short ∷ Short ∷ Form ∷ Counts ∷ Length ∷ Rule place ∷ Given place ∷ Large place ∷ Missing ∷ Absent ∷ Unstorable
+    -- 11 to 13 are none of these calls'
+    ∷ Short ∷ Short ∷ Short ∷ Count ∷ Buffer ∷ Word place ∷ Long ∷ [])
     number
     NoRank
 
@@ -47,6 +49,11 @@ refusal-told (Given entry) = refl
 refusal-told (Large entry) = refl
 refusal-told Missing = refl
 refusal-told Absent = refl
+refusal-told Unstorable = refl
+refusal-told Count = refl
+refusal-told Buffer = refl
+refusal-told (Word position) = refl
+refusal-told Long = refl
 refusal-told NoRank = refl
 
 -- ---- a number or a refusal

@@ -98,6 +98,22 @@ rowOf x t =
       words = fixedWords t;
     }
 
+-- a row of parts, of a layout and a reference
+unfoldable pub partsRow : ℕ → Layout → ℕ → ℕ → ℕ → ℕ → Row
+partsRow reference l width count unit stride =
+    record {
+      kind = l .kind;
+      run = touching stride unit width;
+      width = width;
+      reference = reference;
+      count = count;
+      unit = unit;
+      stride = stride;
+      size = l .size;
+      align = l .align;
+      words = l .words;
+    }
+
 -- ---- a file's rows and members
 
 -- rows of the entries below k of a file whose types are ts

@@ -11,7 +11,7 @@ use table::layouts;
 ghost use mathlib.Core.Path.{_≡_};
 ghost use mathlib.Core.List.{List};
 ghost use mathlib.Core.Option.{some};
-ghost use Prim.Native.Nat.{_+_, _*_, _≤_, suc};
+ghost use Prim.Native.Nat.{_+_, _*_, _<_, _≤_, suc};
 ghost use lib.ListN.{length, getElem?};
 ghost use lib.Seq.{sets};
 ghost use Rattle.wgsl.specs.Types.{Ty};
@@ -19,7 +19,7 @@ ghost use Rattle.wgsl.specs.Said.{good};
 ghost use Rattle.wgsl.specs.Rule.{typesOf};
 ghost use Rattle.file.specs.Fields.{entryIs};
 ghost use Rattle.rows.specs.Row.{rowNumbers};
-ghost use Rattle.plan.specs.Plan.{touching, rowOf, Rows, Parted, plannedOf, saidPlanned};
+ghost use Rattle.plan.specs.Plan.{touching, rowOf, partsRow, Rows, Parted, plannedOf, saidPlanned};
 
 // An entry whose rows are there: its layout, and where the file's member entries begin and end.
 pub struct Ground {
@@ -45,7 +45,7 @@ fn touch(stride: u32, words: u32, width: u32) -> u32
 
 // A row of parts.
 fn parts_row(x: Entry, l: Layout, width: u32, count: u32, unit: u32, stride: u32) -> Row
-    ensures { λ r. ⌜ r ≡ record { kind = l .kind; run = touching stride unit width; width = width; reference = x .reference; count = count; unit = unit; stride = stride; size = l .size; align = l .align; words = l .words } ⌝ }
+    ensures { λ r. ⌜ r ≡ partsRow (x .reference) l width count unit stride ⌝ }
 {
     Row {
         kind: l.kind,
@@ -75,7 +75,7 @@ fn row_of(x: Entry, l: Layout, below: Layout, r: Row) -> Row
         return parts_row(x, l, below.size, x.columns, x.rows, l.stride);
     }
     if l.kind == 11 {
-        return parts_row(x, l, below.size, 1, 1, l.size);
+        return parts_row(x, l, below.size, 1, 1, below.size);
     }
     if l.kind == 12 {
         return parts_row(x, l, 0, x.count, 0, 0);
@@ -101,6 +101,17 @@ fn put(rows: &mut [u32], e: usize, r: Row)
     rows[at + 9] = r.words;
 }
 
+// A reference that is no lower entry's is a struct's first member, and is not looked up.
+fn lower(reference: u32, k: usize) -> usize
+    ensures { λ r. ⌜ (r ≤ k) × (reference < k → r ≡ reference) ⌝ }
+{
+    let r = wide(reference);
+    if r < k {
+        return r;
+    }
+    0
+}
+
 // Works out the rows of the entries up to `entry`. Refuses 1 to 8.
 pub fn lay(file: &[u8], entry: u32, rows: &mut [u32]) -> Planned
     requires { ⌜ length (now rows) ≡ 2560 ⌝ }
@@ -119,9 +130,7 @@ pub fn lay(file: &[u8], entry: u32, rows: &mut [u32]) -> Planned
             let mut k: usize = 0;
             while k <= last {
                 let x = entry_at(file, start + 12 * k);
-                // a reference that is no lower entry's is a struct's first member, and is not looked up
-                let reference = wide(x.reference);
-                let below = if reference < k { reference } else { 0 };
+                let below = lower(x.reference, k);
                 let r = row_of(x, t.layouts[k], t.layouts[below], row_at(rows, below));
                 put(rows, k, r);
                 k += 1;

@@ -15,7 +15,8 @@ use Rattle.wgsl.specs.Types.{Scalar, Ty, scalar}
 use Rattle.wgsl.specs.File.{trailerOf, TypeEntry, typeEntryAt}
 use Rattle.wgsl.specs.Rank.{kindOf, scalarRank, rankOf}
 use Rattle.rank.specs.Ranked.{Pair, overScalar}
-use Rattle.rank.proofs.Entries.{entry-inside, At, scalar-at, array-at, runtime-at, struct-at, over-scalar-at, front-scalar, front-kind, reference-lower, scalar-kind}
+use Rattle.wgsl.proofs.AtEntry.{entry-inside, At, scalar-at, array-at, runtime-at, struct-at, reference-lower}
+use Rattle.rank.proofs.Entries.{over-scalar-at, front-scalar, front-kind, scalar-kind}
 use Rattle.rank.proofs.Outlines.{front-other, scalars, array-same, array-other, runtimes, struct-same, struct-other}
 
 module _ {f : List ℕ} {ts : List Ty} {start a b : ℕ} (p : Pair f ts start a b) where
@@ -56,11 +57,11 @@ module _ {f : List ℕ} {ts : List Ty} {a b : ℕ} {s t : Ty} {x y : TypeEntry} 
   module _ (same : x .kind ≡ y .kind) where
     pub structs-same : x .kind ≡ 12 → a ≡ b → some 0 ≡ rankOf s t
     structs-same e h =
-        struct-same (struct-at (two .first) e .1) (struct-at (two .second) (sym same ∙ e) .1) h
+        struct-same (struct-at (two .first) e .type-is) (struct-at (two .second) (sym same ∙ e) .type-is) h
 
     pub structs-other : x .kind ≡ 12 → (a ≡ b → ⊥) → none ≡ rankOf s t
     structs-other e h =
-        struct-other (struct-at (two .first) e .1) (struct-at (two .second) (sym same ∙ e) .1) h
+        struct-other (struct-at (two .first) e .type-is) (struct-at (two .second) (sym same ∙ e) .type-is) h
 
     pub arrays-other : x .kind ≡ 9 → (x .count ≡ y .count → ⊥) → none ≡ rankOf s t
     arrays-other e h =

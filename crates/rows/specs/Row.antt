@@ -34,6 +34,22 @@ unfoldable pub rowNumbers : Row → List ℕ
 rowNumbers r =
     r .kind ∷ r .run ∷ r .width ∷ r .reference ∷ r .count ∷ r .unit ∷ r .stride ∷ r .size ∷ r .align ∷ r .words ∷ []
 
+-- a row, but for its count
+unfoldable pub withCount : ℕ → Row → Row
+withCount n r =
+    record {
+      kind = r .kind;
+      run = r .run;
+      width = r .width;
+      reference = r .reference;
+      count = n;
+      unit = r .unit;
+      stride = r .stride;
+      size = r .size;
+      align = r .align;
+      words = r .words;
+    }
+
 -- ---- a member's place
 
 abbrev pub memberAt : List ℕ → ℕ → MemberEntry

@@ -4,10 +4,11 @@
 -- Definitions only. Assumes nothing.
 use Prim.Native.Nat.{ℕ, zero, suc, _+_, _*_, _<_, _≤_}
 use mathlib.Core.Path.{_≡_}
+use mathlib.Core.Logic.{_⊎_}
 use mathlib.Core.List.{List, [], _∷_}
 use lib.ListN.{length}
 use Rattle.wgsl.specs.Place.{Shape, parts, field, whole, spanOf, Place, placesOf}
-use Rattle.wgsl.proofs.Count as count
+use Rattle.wgsl.proofs.Count as counting
 use Rattle.folds.specs.Run.{runPlaces, partPlaces}
 use Rattle.rows.specs.declared.Row.{Row}
 use Rattle.rows.specs.Row.{rowAt, memberAt, placedAt, Placeable}
@@ -18,13 +19,13 @@ pub record Runs (r : Row) (x : Shape) : Type 0 where
   pub fits : r .unit * r .width ≤ r .stride
   pub places-are : (at : ℕ) → placesOf x at ≡ partPlaces (r .count) (r .unit) (r .width) (r .stride) at
   pub span-is : spanOf x ≡ r .count * r .stride
-  pub words-are : count.words x ≡ r .count * r .unit
+  pub words-are : counting.words x ≡ r .count * r .unit
 
 -- each part is the shape y of another entry
 pub record Elements (r : Row) (y : Shape) : Type 0 where
   pub no-run : r .width ≡ 0
   pub fits : spanOf y ≤ r .stride
-  pub words-are : count.words y ≡ r .unit
+  pub words-are : counting.words y ≡ r .unit
 
 -- member m of entry e, of the shape y, is placed where the one before it ended at `end`; `rest` are the members after it
 pub record Member (ms rows : List ℕ) (e m end : ℕ) (y rest : Shape) : Type 0 where
@@ -35,7 +36,7 @@ pub record Member (ms rows : List ℕ) (e m end : ℕ) (y rest : Shape) : Type 0
 -- entry e, of the shape x, has its row, which counts its words, and says if they lie one after the other
 pub record Rowed (rows : List ℕ) (e : ℕ) (x : Shape) : Type 0 where
   pub inside : 10 * e + 10 ≤ length rows
-  pub words-are : count.words x ≡ rowAt rows e .words
+  pub words-are : counting.words x ≡ rowAt rows e .words
   pub run-is : rowAt rows e .run ≡ 4 → (at : ℕ) → placesOf x at ≡ runPlaces (rowAt rows e .words) 4 at
   pub run-fits : rowAt rows e .run ≡ 4 → rowAt rows e .words * 4 ≤ spanOf x
 
@@ -58,11 +59,11 @@ mutual
 -- the shape x from byte `at` and word `k` on lies inside so many bytes and words
 pub record Room (x : Shape) (at bytes k words : ℕ) : Type 0 where
   pub bytes-there : at + spanOf x ≤ bytes
-  pub words-there : k + count.words x ≤ words
+  pub words-there : k + counting.words x ≤ words
 
 -- so many shapes y, each a stride after the one before and `unit` words long
 pub record EachRoom (y : Shape) (count unit stride at bytes k words : ℕ) : Type 0 where
-  pub unit-is : count.words y ≡ unit
+  pub unit-is : counting.words y ≡ unit
   pub bytes-there : (i : ℕ) → i < count → at + i * stride + spanOf y ≤ bytes
   pub words-there : k + count * unit ≤ words
 
@@ -74,7 +75,7 @@ pub record MemberRoom (ms rows : List ℕ) (m end : ℕ) (y : Shape) (at bytes k
 
 -- the words of the shape x from word k on are there
 pub record WordRoom (x : Shape) (k words : ℕ) : Type 0 where
-  pub words-there : k + count.words x ≤ words
+  pub words-there : k + counting.words x ≤ words
 
 -- every place has four bytes, so that it holds any word
 unfoldable pub AllWide : List Place → Type 0

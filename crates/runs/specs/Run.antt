@@ -2,6 +2,7 @@
 -- Definitions only. Assumes nothing.
 use Prim.Native.Nat.{ℕ, _+_, _*_, _≤_}
 use mathlib.Core.Path.{_≡_}
+use mathlib.Core.Logic.{_⊎_}
 use Rattle.wgsl.specs.Said.{Said, good, refused}
 use Rattle.runs.specs.declared.Parts.{Parts}
 use Rattle.runs.specs.declared.Scan.{Scan}

@@ -5,6 +5,7 @@ use numbers::bytes::store_u32;
 use numbers::bytes::u16_at;
 use numbers::bytes::u32_at;
 ghost use mathlib.Core.Path.{_≡_};
+ghost use mathlib.Core.Logic.{_⊎_};
 ghost use Prim.Native.Nat.{_+_, _*_, _≤_};
 ghost use lib.ListN.{length};
 ghost use Rattle.wgsl.specs.Said.{good};

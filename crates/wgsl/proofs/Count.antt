@@ -31,7 +31,7 @@ words (parts n stride x) = n * words x
 words (field offset x rest) = words x + words rest
 words (whole z) = 0
 
-repeated-length : {A : Type 0} (n stride : ℕ) (f : ℕ → List A) (at k : ℕ) → ((p : ℕ) → length (f p) ≡ k) → length (repeated n stride f at) ≡ n * k
+pub repeated-length : {A : Type 0} (n stride : ℕ) (f : ℕ → List A) (at k : ℕ) → ((p : ℕ) → length (f p) ≡ k) → length (repeated n stride f at) ≡ n * k
 unfolding repeated
 repeated-length zero stride f at k h = rw zero-mul
 repeated-length (suc n) stride f at k h =

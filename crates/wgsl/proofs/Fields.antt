@@ -9,7 +9,7 @@ use mathlib.Core.List.{List, [], _∷_}
 use mathlib.Core.Option.{Option, none, some, Option·some-injective}
 use mathlib.Core.Path.{_≡_, refl, ap, sym, _∙_}
 use native.Mathlib.Omega.{arith}
-use borrow.Author.Tests.{le-leb, lt-leb, ne-eqb, leb-true, leb-false}
+use borrow.Author.Tests.{le-leb, lt-leb, ne-eqb, leb-true, leb-false, eqb-true}
 use lib.Dec.{leb, eqb}
 use lib.ListN.{getElem?}
 use Rattle.wgsl.specs.Types.{Scalar, bool, i32, u32, f32, f16, abstractInt, abstractFloat, Ty, scalar, vector, matrix, array, runtime, atomic, struct, Members}
@@ -119,6 +119,16 @@ module _ (f : List ℕ) (ts : List Ty) (k : ℕ) (t : Ty) (made : typeOfEntry f 
   unfolding overMade runtimeMade
   runtime-entry e =
       over-type ts _ t _ _ (rw (test 10 7 e, test 10 8 e, test 10 9 e, test 10 10 e) at (not-scalar 10 e refl))
+
+  -- It has no count.
+  pub runtime-count : typeEntryAt f k .kind ≡ 10 → typeEntryAt f k .count ≡ 0
+  unfolding overMade runtimeMade unused
+  runtime-count e =
+      let x : TypeEntry = typeEntryAt f k in
+      let m = when-some _ _ (rw (test 10 7 e, test 10 8 e, test 10 9 e, test 10 10 e) at (not-scalar 10 e refl)) in
+      let columns = both-hold (eqb (x .columns) 0) (eqb (x .rows) 0 && (eqb (x .count) 0 && true)) (m .0) in
+      let rows = both-hold (eqb (x .rows) 0) (eqb (x .count) 0 && true) (columns .1) in
+      eqb-true (x .count) 0 (both-hold (eqb (x .count) 0) true (rows .1) .0)
 
   -- An entry of kind 11 makes an atomic of the scalar that it refers to.
   pub atomic-entry : typeEntryAt f k .kind ≡ 11 → OverScalar ts (typeEntryAt f k .reference) t atomic

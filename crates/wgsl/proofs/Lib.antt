@@ -8,6 +8,7 @@ pub mod Said
 pub mod Align
 pub mod Accepted
 pub mod Fields
+pub mod AtEntry
 pub mod Shape
 pub mod Path
 pub mod PathPlace
@@ -19,6 +20,7 @@ pub mod Laid
 pub mod Closed
 pub mod Entry
 pub mod Count
+pub mod Opened
 pub mod Index
 pub mod Elements
 pub mod Call

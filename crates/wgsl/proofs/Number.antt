@@ -1,6 +1,6 @@
 -- Laws of numbers in bytes (specs/Number), each over the width.
 --
--- In order: lengths; what is read at two widths in a row; a number from bytes is bounded; what a store leaves alone; a number stored
+-- In order: lengths; what is read at two widths in a row; a number from bytes is bounded; what a store sets and leaves alone; a number stored
 -- is read back; a number read is stored back.
 -- Assumes nothing.
 use Prim.Native.Nat.{ℕ, zero, suc, _+_, _*_, _/_, _%_, _^_, _<_, _≤_}
@@ -44,13 +44,25 @@ load-bounded (suc k) b at h = rw (pow-step 256 k) (omega (arith, h at, load-boun
 abbrev pub Outside : ℕ → ℕ → ℕ → Type 0
 Outside at k i = (i < at) ⊎ (at + k ≤ i)
 
-sets-below : (vs b : List ℕ) (p i : ℕ) → i < p → getD (sets b p vs) i 0 ≡ getD b i 0
+-- What is set from p on stays below p,
+pub sets-below : (vs b : List ℕ) (p i : ℕ) → i < p → getD (sets b p vs) i 0 ≡ getD b i 0
 sets-below [] b p i h = refl
 sets-below (v ∷ vs) b p i h = sets-below vs (set b p v) (suc p) i (omega arith) ∙ getD-set-other b p i v 0 (omega arith)
 
+-- and past its end;
 sets-past : (vs b : List ℕ) (p i : ℕ) → p + length vs ≤ i → getD (sets b p vs) i 0 ≡ getD b i 0
 sets-past [] b p i h = refl
 sets-past (v ∷ vs) b p i h = sets-past vs (set b p v) (suc p) i (omega arith) ∙ getD-set-other b p i v 0 (omega arith)
+
+-- in between it is what was set.
+pub sets-inside : (vs b : List ℕ) (p n : ℕ) → p + length vs ≤ length b → n < length vs → getD (sets b p vs) (p + n) 0 ≡ getD vs n 0
+sets-inside [] b p n h l = absurd (omega arith)
+sets-inside (v ∷ vs) b p zero h l =
+    let e : p + 0 ≡ p = omega arith in
+    rw e (sets-below vs (set b p v) (suc p) p (omega arith) ∙ getD-set-same b p v 0 (omega arith))
+sets-inside (v ∷ vs) b p (suc n) h l =
+    let e : p + suc n ≡ suc p + n = omega arith in
+    rw e (sets-inside vs (set b p v) (suc p) n (simp length-set (omega arith)) (omega arith))
 
 -- A store changes no byte outside its own.
 pub store-other : (k : ℕ) (b : List ℕ) (at n i : ℕ) → Outside at k i → getD (store k b at n) i 0 ≡ getD b i 0

@@ -12,7 +12,7 @@ use Rattle.wgsl.specs.Said.{good}
 use Rattle.wgsl.specs.Rule.{typesOf}
 use Rattle.file.specs.Fields.{entryIs}
 use Rattle.rank.specs.Ranked.{Pair}
-use Rattle.rank.proofs.Entries.{getElem-getD}
+use Rattle.wgsl.proofs.AtEntry.{getElem-getD}
 use Rattle.rank.proofs.Pairs.{first-inside, second-inside, Two, lower-pair, scalars-rank, scalar-other, kinds-other, structs-same, structs-other, arrays-other, arrays-rank, runtimes-rank, over-scalars-rank}
 use borrow.Fn.Kinds.{In}
 use borrow.Fn.PlainCycle.{Measures, is, falls, and}

@@ -1,21 +1,20 @@
+use mathlib.Core.Path.{_≡_, refl, sym, _∙_}
+use mathlib.Core.Bool.{true, false}
 use borrow.Author.Needs.{needs}
+use Rattle.wgsl.specs.Size.{givenOr, present}
+use Rattle.wgsl.specs.File.{alignIsGiven, givenAlign}
+use Rattle.file.specs.Fields.{memberIs}
+use Rattle.rows.specs.Row.{orOwn}
 use Rattle.rows.proofs.given_align.Statement.{statement}
 use Rattle.rows.proofs.given_align.Tie as tie
-use Rattle.rows.proofs.given_align.Reads as reads
-use Rattle.rows.proofs.given_align.Lts as lts
-use Rattle.members.proofs.align_given.Reads as align-given-reads
 
--- src/lib.rt:68:8
-align-given-requires : tie.Need-align-given-requires
-align-given-requires c κs = search needs
-
--- src/lib.rt:69:9
 returns : tie.Need-returns
-returns c = ?
+unfolding orOwn givenOr present givenAlign
+returns c = rw (sym (c .before .align-given .ensures), c .if1 .taken)
 
--- src/lib.rt:65:1
 returns-2 : tie.Need-returns-2
-returns-2 c = ?
+unfolding orOwn givenOr present givenAlign
+returns-2 c = rw (sym (c .before .align-given .ensures), c .if1 .left)
 
 pub given-align-spec : {M : Type 1} → statement M
-given-align-spec = tie.close (tie.spec align-given-requires returns returns-2)
+given-align-spec = tie.close (tie.spec (λ c κs. search needs) returns returns-2)

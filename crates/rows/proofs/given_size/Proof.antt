@@ -1,21 +1,20 @@
+use mathlib.Core.Path.{_≡_, refl, sym, _∙_}
+use mathlib.Core.Bool.{true, false}
 use borrow.Author.Needs.{needs}
+use Rattle.wgsl.specs.Size.{givenOr, present}
+use Rattle.wgsl.specs.File.{sizeIsGiven, givenSize}
+use Rattle.file.specs.Fields.{memberIs}
+use Rattle.rows.specs.Row.{orOwn}
 use Rattle.rows.proofs.given_size.Statement.{statement}
 use Rattle.rows.proofs.given_size.Tie as tie
-use Rattle.rows.proofs.given_size.Reads as reads
-use Rattle.rows.proofs.given_size.Lts as lts
-use Rattle.members.proofs.size_given.Reads as size-given-reads
 
--- src/lib.rt:77:8
-size-given-requires : tie.Need-size-given-requires
-size-given-requires c κs = search needs
-
--- src/lib.rt:78:9
 returns : tie.Need-returns
-returns c = ?
+unfolding orOwn givenOr present givenSize
+returns c = rw (sym (c .before .size-given .ensures), c .if1 .taken)
 
--- src/lib.rt:74:1
 returns-2 : tie.Need-returns-2
-returns-2 c = ?
+unfolding orOwn givenOr present givenSize
+returns-2 c = rw (sym (c .before .size-given .ensures), c .if1 .left)
 
 pub given-size-spec : {M : Type 1} → statement M
-given-size-spec = tie.close (tie.spec size-given-requires returns returns-2)
+given-size-spec = tie.close (tie.spec (λ c κs. search needs) returns returns-2)

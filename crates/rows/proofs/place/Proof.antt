@@ -1,66 +1,72 @@
+-- The laws of `Places`, over what the entry and the row are found to be.
+use Prim.Native.Nat.{_+_, _*_, _≤_}
+use mathlib.Core.Path.{ap}
+use lib.ListN.{length}
+use native.Mathlib.Omega.{arith}
 use borrow.Author.Needs.{needs}
+use denote.Ref.{now}
+use Rattle.wgsl.specs.File.{MemberEntry}
+use Rattle.file.specs.Fields.{memberIs}
+use Rattle.rows.specs.Row.{memberAt}
+use Rattle.rows.proofs.Places.{Found, given-align, given-size, own-align, own-size, placed-is, may-place}
 use Rattle.rows.proofs.place.Statement.{statement}
 use Rattle.rows.proofs.place.Tie as tie
-use Rattle.rows.proofs.place.Reads as reads
-use Rattle.rows.proofs.place.Lts as lts
-use Rattle.file.proofs.fields.member_at.Reads as member-at-reads
-use Rattle.file.proofs.trailer.wide.Reads as wide-reads
-use Rattle.rows.proofs.given_align.Reads as given-align-reads
-use Rattle.rows.proofs.given_size.Reads as given-size-reads
-use Rattle.rows.proofs.put_after.Reads as put-after-reads
-use Rattle.rows.proofs.row_at.Reads as row-at-reads
 
--- src/lib.rt:102:32
-mul-member-at : tie.Need-mul-member-at
-mul-member-at c = search needs
-
--- src/lib.rt:102:9
-member-at-requires : tie.Need-member-at-requires
-member-at-requires c κs = search needs
-
--- src/lib.rt:103:9
-wide-requires : tie.Need-wide-requires
-wide-requires c κs = search needs
-
--- src/lib.rt:104:9
 row-at-requires : tie.Need-row-at-requires
-row-at-requires c κs = ?
+row-at-requires c κs =
+    omega (arith, c .wide .ensures .0, ap (λ (y : MemberEntry). y .type) (c .before .member-at .ensures), c .before .before .before .before .pre .row-inside)
 
--- src/lib.rt:106:9
 put-after-requires : tie.Need-put-after-requires
-put-after-requires c κs = ?
+put-after-requires c κs =
+    let s = c .before .before .before .before .before .before .before in
+    let at = c .before .before in
+    let found : Found (now (s .args .members)) (now (s .args .rows)) (s .args .m) (memberIs (at .before .before .member-at .result)) (at .before .wide .result) (at .row-at .result) =
+    record {
+      entry-is = at .before .before .member-at .ensures;
+      type-is = at .before .wide .ensures .0;
+      row-is = at .row-at .ensures;
+    } in
+    may-place found (s .args .end) _ (s .pre) (own-align found (omega arith))
 
--- src/lib.rt:106:9
 returns : tie.Need-returns
-returns c = ?
+returns c =
+    let s = c .before .before .before .before .before .before .before .before in
+    let at = c .before .before .before in
+    let found : Found (now (s .args .members)) (now (s .args .rows)) (s .args .m) (memberIs (at .before .before .member-at .result)) (at .before .wide .result) (at .row-at .result) =
+    record {
+      entry-is = at .before .before .member-at .ensures;
+      type-is = at .before .wide .ensures .0;
+      row-is = at .row-at .ensures;
+    } in
+    placed-is found _ (s .args .end) _ _ (c .put-after .ensures) (own-align found (omega arith)) (own-size found (omega arith))
 
--- src/lib.rt:110:9
-given-align-requires : tie.Need-given-align-requires
-given-align-requires c κs = search needs
-
--- src/lib.rt:111:9
-given-size-requires : tie.Need-given-size-requires
-given-size-requires c κs = search needs
-
--- src/lib.rt:108:5
 put-after-requires-2 : tie.Need-put-after-requires-2
-put-after-requires-2 c κs = ?
+put-after-requires-2 c κs =
+    let s = c .before .before .before .before .before .before .before .before .before in
+    let at = c .before .before .before .before in
+    let found : Found (now (s .args .members)) (now (s .args .rows)) (s .args .m) (memberIs (at .before .before .member-at .result)) (at .before .wide .result) (at .row-at .result) =
+    record {
+      entry-is = at .before .before .member-at .ensures;
+      type-is = at .before .wide .ensures .0;
+      row-is = at .row-at .ensures;
+    } in
+    may-place found (s .args .end) _ (s .pre) (given-align found (c .before .given-align .ensures))
 
--- src/lib.rt:98:1
 returns-2 : tie.Need-returns-2
-returns-2 c = ?
+returns-2 c =
+    let s = c .before .before .before .before .before .before .before .before .before .before in
+    let at = c .before .before .before .before .before in
+    let found : Found (now (s .args .members)) (now (s .args .rows)) (s .args .m) (memberIs (at .before .before .member-at .result)) (at .before .wide .result) (at .row-at .result) =
+    record {
+      entry-is = at .before .before .member-at .ensures;
+      type-is = at .before .wide .ensures .0;
+      row-is = at .row-at .ensures;
+    } in
+    placed-is found _ (s .args .end) _ _ (c .put-after2 .ensures) (given-align found (c .before .before .given-align .ensures))
+    (given-size found (c .before .given-size .ensures))
 
 pub place-spec : {M : Type 1} → statement M
 place-spec =
-    tie.close
-    (tie.spec
-    mul-member-at
-    member-at-requires
-    wide-requires
-    row-at-requires
-    put-after-requires
-    returns
-    given-align-requires
-    given-size-requires
-    put-after-requires-2
-    returns-2)
+    tie.close (tie.spec
+    (λ c. search needs) (λ c κs. search needs) (λ c κs. search needs) row-at-requires put-after-requires returns
+    (λ c κs. search needs) (λ c κs. search needs) put-after-requires-2 returns-2)

@@ -1,36 +1,33 @@
+use Prim.Native.Nat.{_^_, _<_, _≤_, _+_}
+use mathlib.Core.Path.{_≡_, refl, sym, ap, _∙_}
+use native.Mathlib.Omega.{arith}
 use borrow.Author.Needs.{needs}
+use Rattle.wgsl.specs.Round.{IsPower, up, limit}
+use Rattle.wgsl.proofs.Power.{power-positive, power-bounded}
+use Rattle.wgsl.proofs.Round.{up-not-below}
 use Rattle.rows.proofs.put_after.Statement.{statement}
 use Rattle.rows.proofs.put_after.Tie as tie
-use Rattle.rows.proofs.put_after.Reads as reads
-use Rattle.rows.proofs.put_after.Lts as lts
-use Rattle.file.proofs.trailer.wide.Reads as wide-reads
-use Rattle.numbers.proofs.power.up_power.Reads as up-power-reads
 
--- src/lib.rt:88:26
-wide-requires : tie.Need-wide-requires
-wide-requires c κs = search needs
-
--- src/lib.rt:88:9
 up-power-requires : tie.Need-up-power-requires
-up-power-requires c κs = ?
+up-power-requires c κs =
+    let a = c .before .args in
+    let w = c .wide .ensures in
+    let pos = power-positive (c .before .pre .0) in
+    (rw (w .0) (c .before .pre .0), omega (arith, power-bounded (c .before .pre .0) (omega arith)), omega (arith, up-not-below (a .align) (a .end) pos))
 
--- src/lib.rt:92:22
-wide-requires-2 : tie.Need-wide-requires-2
-wide-requires-2 c κs = search needs
-
--- src/lib.rt:92:14
 add-t8 : tie.Need-add-t8
-add-t8 c = ?
+unfolding limit
+add-t8 c =
+    let u = c .before .up-power .ensures in
+    let low = c .before .before .before .pre .1 in
+    let w = c .before .before .wide .ensures .0 in
+    omega (arith, rw (sym w) at low)
 
--- src/lib.rt:93:16
-wide-requires-3 : tie.Need-wide-requires-3
-wide-requires-3 c κs = search needs
-
--- src/lib.rt:84:1
 returns : tie.Need-returns
-returns c = ?
+returns c =
+    rw (c .before .before .up-power .ensures, c .before .before .before .wide .ensures .0, c .before .wide2 .ensures .0, c .wide3 .ensures .0)
 
 pub put-after-spec : {M : Type 1} → statement M
 put-after-spec =
     tie.close
-    (tie.spec wide-requires up-power-requires wide-requires-2 add-t8 wide-requires-3 returns)
+    (tie.spec (λ c κs. search needs) up-power-requires (λ c κs. search needs) add-t8 (λ c κs. search needs) returns)

@@ -1,4 +1,4 @@
--- The three variants with a place give it; the numbers of the others are in the key of the last arm.
+-- The four variants with a place give it; the numbers of the others are in the key of the last arm.
 use borrow.Author.Needs.{needs}
 use Prim.Native.Nat.{ℕ, _%_, _^_}
 use mathlib.Core.List.{List, [], _∷_}
@@ -8,7 +8,7 @@ use denote.Enum.Declared.{tagOf}
 use Rattle.file.proofs.refusal.Refusal as refusal
 use Rattle.file.specs.Refusal.{placeOf}
 use Rattle.file.specs.declared.refusal.Refusal.{Refusal}
-use Rattle.file.specs.declared.refusal.Refusal.the-variants.{Short, Form, Counts, Length, Rule, Given, Large, Missing, Absent, NoRank}
+use Rattle.file.specs.declared.refusal.Refusal.the-variants.{Short, Form, Counts, Length, Rule, Given, Large, Missing, Absent, Unstorable, Count, Buffer, Word, Long, NoRank}
 use Rattle.file.proofs.refusal.place.Statement.{statement}
 use Rattle.file.proofs.refusal.place.Tie as tie
 
@@ -21,9 +21,12 @@ returns-2 c = rw (c .before .r2 .given .1)
 returns-3 : tie.Need-returns-3
 returns-3 c = rw (c .before .r3 .given .1)
 
+returns-4 : tie.Need-returns-4
+returns-4 c = rw (c .before .r4 .given .1)
+
 -- the numbers of the variants without a place
 abbrev keys : List ℕ
-keys = 0 ∷ 1 ∷ 2 ∷ 3 ∷ 7 ∷ 8 ∷ 9 ∷ []
+keys = 0 ∷ 1 ∷ 2 ∷ 3 ∷ 7 ∷ 8 ∷ 9 ∷ 10 ∷ 11 ∷ 13 ∷ 14 ∷ []
 
 placeless : (r : Refusal) → OneOf keys (tagOf refusal.the-type r) → 0 ≡ placeOf r % 2 ^ 32
 placeless Short h = refl
@@ -35,13 +38,18 @@ placeless (Given k) h = absurd (miss keys 5 tt h)
 placeless (Large k) h = absurd (miss keys 6 tt h)
 placeless Missing h = refl
 placeless Absent h = refl
+placeless Unstorable h = refl
+placeless Count h = refl
+placeless Buffer h = refl
+placeless (Word k) h = absurd (miss keys 12 tt h)
+placeless Long h = refl
 placeless NoRank h = refl
 
-returns-4 : tie.Need-returns-4
-returns-4 c = placeless (c .before .args .r) (c .match .keys4)
+returns-5 : tie.Need-returns-5
+returns-5 c = placeless (c .before .args .r) (c .match .keys5)
 
 pub place-spec : {M : Type 1} → statement M
 place-spec =
     tie.close (tie.spec
     (λ c. search needs) (λ c. search needs) (λ c. search needs) (λ c. search needs) (λ c. search needs)
-    (λ c. search needs) returns returns-2 returns-3 returns-4)
+    (λ c. search needs) (λ c. search needs) (λ c. search needs) returns returns-2 returns-3 returns-4 returns-5)

@@ -1,0 +1,5 @@
+pub mod Counts
+pub mod Allowing
+pub mod Wholes
+pub mod Bounds
+pub mod Calls

@@ -1,0 +1,11 @@
+use borrow.Author.Needs.{needs}
+use Rattle.decide.specs.Decide.{closedTail}
+use Rattle.decide.proofs.closed_tail.Statement.{statement}
+use Rattle.decide.proofs.closed_tail.Tie as tie
+
+returns : tie.Need-returns
+unfolding closedTail
+returns c = rw (c .wide .ensures .0)
+
+pub closed-tail-spec : {M : Type 1} → statement M
+closed-tail-spec = tie.close (tie.spec (λ c κs. search needs) returns)
