@@ -153,7 +153,7 @@ fn elements(ty: &Type, words: u64) -> Option<u64> {
 }
 
 /// The value of a type that has these words, with `n` elements if it is open; none where an f16 can't have a word's bits.
-fn value(ty: &Type, n: u64, words: &mut impl Iterator<Item = u32>) -> Option<Instance> {
+pub fn value(ty: &Type, n: u64, words: &mut impl Iterator<Item = u32>) -> Option<Instance> {
     Some(match ty {
         Type::Vec(rows, scalar) => VecInstance::new(values(scalar, *rows as u64, n, words)?).into(),
         Type::Mat(columns, rows, scalar) => {
@@ -192,7 +192,7 @@ fn literal(scalar: &Type, word: u32) -> Option<LiteralInstance> {
 }
 
 /// The words of a value.
-fn words_of(value: &Instance, words: &mut Vec<u32>) {
+pub fn words_of(value: &Instance, words: &mut Vec<u32>) {
     match value {
         Instance::Literal(LiteralInstance::I32(n)) => words.push(*n as u32),
         Instance::Literal(LiteralInstance::U32(n)) => words.push(*n),
