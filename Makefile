@@ -1,5 +1,5 @@
 # The commands of the README, and of oracle/README.md.
-.PHONY: shim example run test edits compare record
+.PHONY: shim example run test edits compare record bench
 
 # The C interface for x86-64: target/shim/liblepugaso.a and .so, under shim/include/lepugaso.h.
 shim: target/shim/liblepugaso.so
@@ -36,3 +36,7 @@ compare:
 # Writes the recorded list, crates/answers/stdin and stdout, anew.
 record:
 	@oracle/record $(GIVEN)
+
+# How long writing and reading take, beside wgsl-types and memcpy, in one process.
+bench: shim
+	@bench/run $(GIVEN)

@@ -15,8 +15,10 @@
 #define F16 TYPE(4, 0, 0, 0, 0)
 #define ABSTRACT_INT TYPE(5, 0, 0, 0, 0)
 #define VECTOR(rows, scalar) TYPE(7, 0, rows, scalar, 0)
+#define MATRIX(columns, rows, scalar) TYPE(8, columns, rows, scalar, 0)
 #define ARRAY(element, count) TYPE(9, 0, 0, element, count)
 #define RUNTIME_ARRAY(element) TYPE(10, 0, 0, element, 0)
+#define ATOMIC(scalar) TYPE(11, 0, 0, scalar, 0)
 #define STRUCT(first_member, members) TYPE(12, 0, 0, first_member, members)
 
 /* type; flags; size; align */

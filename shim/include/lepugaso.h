@@ -1,10 +1,10 @@
-/* Lepugaso: the layout of the buffers that WGSL shaders share with a host.
+/* Lepugaso: lays out, fills and reads the buffers that WGSL shaders share with a host.
  *
  * A layout file describes types as numbered entries; every call takes one, as bytes, and asks something of it. Nothing is kept between
  * calls, nothing is allocated, and any bytes and any numbers may be passed: what cannot be answered is refused with a number. Threads may
  * call at the same time.
  *
- * For x86-64 Linux. Link liblepugaso.a, which needs nothing but memcpy, or liblepugaso.so.
+ * For x86-64 Linux. Link liblepugaso.a, which needs nothing but memcpy, memmove and memset, or liblepugaso.so.
  *
  * The layout file, its numbers little-endian:
  *
@@ -22,6 +22,10 @@
  *
  * Types and members are numbered from 0. A type refers, itself or by its members, to types of lower numbers. Flag 1 of a member says that
  * a size is given, flag 2 an align. What is not used is 0. examples/layout_file.h writes such a file as an initializer in C.
+ *
+ * What is written to a buffer and read from it are words: a uint32_t for each scalar of a type, in order of offset. An i32 is its two's
+ * complement, an f32 its bits, an f16 its bits, 0 to 65,535; an atomic is the scalar that it refers to. Bits stay as they are, those of a
+ * NaN too. A struct {u32, vec3<f32>, f32} has 5 words and takes 32 bytes.
  */
 #ifndef LEPUGASO_H
 #define LEPUGASO_H
@@ -51,8 +55,8 @@ typedef struct lepugaso_layout {
 #define LEPUGASO_ABSENT UINT64_MAX
 
 /* A pointer that cannot be right, before anything is looked at: null with a length above 0 (null with length 0 is an empty region); null
- * or misaligned where a result goes; misaligned where entry numbers are; a length that runs past the end of the address space; a region
- * to be written that shares a byte with another. Nothing is touched, place and value are 0. */
+ * or misaligned where a result goes; misaligned where words or entry numbers are, whatever the length; a length that runs past the end of
+ * the address space; a region to be written that shares a byte with another. Nothing is touched, place and value are 0. */
 #define LEPUGASO_BAD_POINTER 65535u
 
 /* The file is refused as a whole. Every call gives these, in this order. */
@@ -66,16 +70,16 @@ typedef struct lepugaso_layout {
 #define LEPUGASO_REFUSED_GIVEN 6u     /* a member's given size or align does not suit its type */
 #define LEPUGASO_REFUSED_TOO_LARGE 7u /* a size, offset or other number is above 4,294,967,295 */
 
-/* What was asked cannot be answered. Each call below says which of these it gives, and in which order; 10 to 17 belong to calls with a
- * buffer, of which there is none yet. */
+/* What was asked cannot be answered. Each call below says which of these it gives, and in which order; 11 to 13 belong to calls with a
+ * path, of which there is none yet. */
 #define LEPUGASO_REFUSED_ENTRY 8u         /* no entry has this number */
 #define LEPUGASO_REFUSED_ABSENT 9u        /* the type has no such number, or no layout */
 #define LEPUGASO_REFUSED_NOT_STORABLE 10u /* the type holds a bool */
 #define LEPUGASO_REFUSED_MEMBER_STEP 11u  /* a member step outside a struct, or no such member; place is the step */
 #define LEPUGASO_REFUSED_INDEX 12u        /* an index not below the count; place is the step */
 #define LEPUGASO_REFUSED_INDEX_STEP 13u   /* an index step on a struct, scalar or atomic; place is the step */
-#define LEPUGASO_REFUSED_WORDS 14u        /* the wrong number of words */
-#define LEPUGASO_REFUSED_SHORT_BUFFER 15u /* the buffer is below the size */
+#define LEPUGASO_REFUSED_WORDS 14u        /* the wrong number of words, or too few to read into */
+#define LEPUGASO_REFUSED_SHORT_BUFFER 15u /* the buffer is below the size, or holds no whole element of a runtime array */
 #define LEPUGASO_REFUSED_F16_WORD 16u     /* a word above 65,535 for an f16; place is the word */
 #define LEPUGASO_REFUSED_LONG_BUFFER 17u  /* the buffer is above 4,294,967,295 bytes */
 #define LEPUGASO_REFUSED_NO_RANK 18u      /* no rank, no common type, or an empty list */
@@ -104,6 +108,23 @@ lepugaso_answer lepugaso_rank(const uint8_t *file, size_t file_len, uint32_t fro
 /* The type that all entries of a list convert to, as one of their numbers; of equal types the later. Refuses 1 to 7, then 8 (any of the
  * numbers), then 18: there is no such type, or the list is empty. */
 lepugaso_answer lepugaso_common(const uint8_t *file, size_t file_len, const uint32_t *entries, size_t entries_len);
+
+/* Writes `words` as entry `entry` to the front of `buf`. The value is how many bytes that filled: the type's size. Those that hold no
+ * scalar become 0, later bytes of `buf` stay. There are exactly as many words as the type has. An open type, which is a runtime array or a
+ * struct that ends in one, takes the words before its array and those of one element or more, and fills up to where the next element
+ * would begin.
+ * Refuses 1 to 7, then 8, 17 (the buffer is above 4,294,967,295 bytes), 9 (the type has no layout), 10 (it holds a bool), 14 (it has
+ * another number of words), 15 (the buffer is below what is to be filled), 16 (a word above 65,535 for an f16; place is the lowest such
+ * word), and leaves `buf` as it was. */
+lepugaso_answer lepugaso_write(const uint8_t *file, size_t file_len, uint32_t entry, const uint32_t *words, size_t words_len, uint8_t *buf,
+                               size_t buf_len);
+
+/* Reads entry `entry` from the front of `buf` into the front of `words`. The value is how many words that filled: as many as the type has.
+ * Later bytes of `buf` are not looked at, later words stay. Of an open type it reads as many elements as `buf` has whole, the room up to
+ * where the next would begin included. Refuses 1 to 7, then 8, 17, 9, 10 as writing does, 15 (the buffer is below the size, or has no whole
+ * element), 14 (there are fewer words than that), and leaves `words` as they were. */
+lepugaso_answer lepugaso_read(const uint8_t *file, size_t file_len, uint32_t entry, const uint8_t *buf, size_t buf_len, uint32_t *words,
+                              size_t words_len);
 
 #ifdef __cplusplus
 }

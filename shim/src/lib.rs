@@ -29,8 +29,8 @@ const BAD_POINTER: Crossing = Crossing {
 /// How many entries the file has.
 ///
 /// # Safety
-/// Of this and every call: what a pointer names is there to be read, and `out` to be written, for the whole call, and no other thread
-/// writes there meanwhile.
+/// Of this and every call: what a `*const` names is there to be read, and what a `*mut` names to be read and written, for the whole call,
+/// and no other thread writes there meanwhile.
 #[no_mangle]
 pub unsafe extern "C" fn lepugaso_check(file: *const u8, file_len: usize) -> Crossing {
     match Lent::new(file, file_len) {
@@ -128,6 +128,77 @@ pub unsafe extern "C" fn lepugaso_common(
         // SAFETY: the caller lends both, and their pointers have passed the tests of a slice's. Both are only read, so they may overlap.
         (Some(file), Some(entries)) => unsafe {
             lepugaso_surface_common(file.start(), file.count(), entries.start(), entries.count())
+        },
+        _ => BAD_POINTER,
+    }
+}
+
+/// Words as a value of an entry's type, into the front of `buf`.
+///
+/// # Safety
+/// As `lepugaso_check`.
+#[no_mangle]
+pub unsafe extern "C" fn lepugaso_write(
+    file: *const u8,
+    file_len: usize,
+    entry: u32,
+    words: *const u32,
+    words_len: usize,
+    buf: *mut u8,
+    buf_len: usize,
+) -> Crossing {
+    match (
+        Lent::new(file, file_len),
+        Lent::new(words, words_len),
+        Lent::new(buf, buf_len),
+    ) {
+        // SAFETY: the caller lends all three, `buf` to be written, and their pointers have passed the tests of a slice's. No byte of `buf`
+        // is one of the others'; those are only read, so they may overlap.
+        (Some(file), Some(words), Some(buf)) if buf.is_apart_from(&file) && buf.is_apart_from(&words) => unsafe {
+            lepugaso_surface_write(
+                file.start(),
+                file.count(),
+                entry,
+                words.start(),
+                words.count(),
+                buf.start(),
+                buf.count(),
+            )
+        },
+        _ => BAD_POINTER,
+    }
+}
+
+/// The words of a value of an entry's type at the front of `buf`, into the front of `words`.
+///
+/// # Safety
+/// As `lepugaso_check`.
+#[no_mangle]
+pub unsafe extern "C" fn lepugaso_read(
+    file: *const u8,
+    file_len: usize,
+    entry: u32,
+    buf: *const u8,
+    buf_len: usize,
+    words: *mut u32,
+    words_len: usize,
+) -> Crossing {
+    match (
+        Lent::new(file, file_len),
+        Lent::new(buf, buf_len),
+        Lent::new(words, words_len),
+    ) {
+        // SAFETY: as above, with `words` to be written.
+        (Some(file), Some(buf), Some(words)) if words.is_apart_from(&file) && words.is_apart_from(&buf) => unsafe {
+            lepugaso_surface_read(
+                file.start(),
+                file.count(),
+                entry,
+                buf.start(),
+                buf.count(),
+                words.start(),
+                words.count(),
+            )
         },
         _ => BAD_POINTER,
     }

@@ -22,4 +22,22 @@ extern "C" {
         entries: *const u32,
         entries_len: usize,
     ) -> Crossing;
+    pub fn lepugaso_surface_write(
+        file: *const u8,
+        file_len: usize,
+        entry: u32,
+        words: *const u32,
+        words_len: usize,
+        buf: *mut u8,
+        buf_len: usize,
+    ) -> Crossing;
+    pub fn lepugaso_surface_read(
+        file: *const u8,
+        file_len: usize,
+        entry: u32,
+        buf: *const u8,
+        buf_len: usize,
+        words: *mut u32,
+        words_len: usize,
+    ) -> Crossing;
 }

@@ -18,7 +18,7 @@ static uint8_t *fresh_page(void) {
 /* A copy of `length` bytes that ends with a page, and can be read and not written. */
 static const uint8_t *lent(const void *bytes, size_t length) {
     uint8_t *page = fresh_page();
-    memcpy(page + PAGE - length, bytes, length);
+    if (length) memcpy(page + PAGE - length, bytes, length);
     if (mprotect(page, PAGE, PROT_READ)) exit(2);
     return page + PAGE - length;
 }
@@ -58,11 +58,14 @@ static const struct {
 /* A refused file is refused by every call alike. */
 static void refused_files(void) {
     static const uint32_t list[] = {0};
+    static const uint8_t bytes[] = {1, 2, 3, 4};
     for (size_t k = 0; k < sizeof bad_files / sizeof bad_files[0]; k++) {
         uint32_t refusal = bad_files[k].refusal, place = bad_files[k].place;
         size_t length = bad_files[k].length;
         const uint8_t *file = lent(bad_files[k].bytes, length);
         lepugaso_layout out = {1, 2, 3};
+        uint32_t word = 5;
+        uint8_t buf[] = {6, 7, 8, 9};
         EXPECT(lepugaso_check(file, length), refusal, place, 0);
         EXPECT(lepugaso_size(file, length, 0), refusal, place, 0);
         EXPECT(lepugaso_align(file, length, 0), refusal, place, 0);
@@ -71,6 +74,10 @@ static void refused_files(void) {
         HOLDS(out.size == 1 && out.align == 2 && out.min_size == 3);
         EXPECT(lepugaso_rank(file, length, 0, 0), refusal, place, 0);
         EXPECT(lepugaso_common(file, length, list, 1), refusal, place, 0);
+        EXPECT(lepugaso_write(file, length, 0, list, 1, buf, sizeof buf), refusal, place, 0);
+        HOLDS(buf[0] == 6 && buf[1] == 7 && buf[2] == 8 && buf[3] == 9);
+        EXPECT(lepugaso_read(file, length, 0, bytes, sizeof bytes, &word, 1), refusal, place, 0);
+        HOLDS(word == 5);
     }
 }
 
@@ -129,11 +136,239 @@ static void conversions(const uint8_t *file, size_t length) {
     EXPECT(common(file, length, 0, 0, 0, 0), LEPUGASO_REFUSED_NO_RANK, 0, 0);
 }
 
+/* What words are written as, and read from. */
+static const uint8_t stored[] = {
+    BOOL,              /* 0 */
+    I32,               /* 1 */
+    U32,               /* 2 */
+    F32,               /* 3 */
+    F16,               /* 4 */
+    ABSTRACT_INT,      /* 5: no layout */
+    VECTOR(3, 0),      /* 6: vec3<bool>, no layout */
+    VECTOR(2, 0),      /* 7: vec2<bool>, a layout, and not storable */
+    VECTOR(3, 3),      /* 8: vec3<f32> */
+    VECTOR(4, 3),      /* 9: vec4<f32> */
+    VECTOR(3, 4),      /* 10: vec3<f16> */
+    MATRIX(3, 3, 3),   /* 11: mat3x3<f32> (P4) */
+    MATRIX(2, 3, 4),   /* 12: mat2x3<f16> (P5) */
+    ATOMIC(1),         /* 13: atomic<i32> */
+    STRUCT(0, 1),      /* 14: vec3<f32> */
+    ARRAY(14, 2),      /* 15: two of them */
+    STRUCT(1, 3),      /* 16: u32, vec3<f32>, f32 (P6) */
+    RUNTIME_ARRAY(9),  /* 17: of vec4<f32> */
+    STRUCT(4, 2),      /* 18: u32, runtime array of vec4<f32> (P10) */
+    STRUCT(6, 2),      /* 19: u32 of size 20, u32 (P7) */
+    STRUCT(8, 3),      /* 20: f16, u32, vec3<f16> */
+    RUNTIME_ARRAY(20), /* 21: of those */
+    STRUCT(11, 2),     /* 22: u32, bool */
+    RUNTIME_ARRAY(7),  /* 23: of vec2<bool> */
+    RUNTIME_ARRAY(4),  /* 24: of f16 */
+    STRUCT(13, 2),     /* 25: u32, runtime array of f16 */
+    MEMBER(8),                        /* 0 */
+    MEMBER(2), MEMBER(8), MEMBER(3),  /* 1 to 3 */
+    MEMBER(2), MEMBER(17),            /* 4, 5 */
+    MEMBER_SIZE(2, 20), MEMBER(2),    /* 6, 7 */
+    MEMBER(4), MEMBER(2), MEMBER(10), /* 8 to 10 */
+    MEMBER(2), MEMBER(0),             /* 11, 12 */
+    MEMBER(2), MEMBER(24),            /* 13, 14 */
+    TRAILER(26, 15),
+};
+enum { NO_ENTRY = 26 };
+
+/* What a buffer, and what the words to read into, hold before a call. */
+enum { OLD_BYTE = 0xA5 };
+#define OLD_WORD 0xA5A5A5A5u
+
+#define WORDS(...) (const uint32_t[]){__VA_ARGS__}, sizeof((const uint32_t[]){__VA_ARGS__}) / sizeof(uint32_t)
+#define BYTES(...) (const uint8_t[]){__VA_ARGS__}, sizeof((const uint8_t[]){__VA_ARGS__})
+
+/* Writes words into a buffer of `length` bytes: its first ones become `bytes`, as many as there are of them, and the others stay. */
+#define WRITES(entry, length, ...) writes(__LINE__, entry, length, 0, 0, __VA_ARGS__)
+#define WRITE_REFUSED(entry, length, refusal, place, ...) writes(__LINE__, entry, length, refusal, place, __VA_ARGS__, NULL, 0)
+static void writes(int line, uint32_t entry, size_t length, uint32_t refusal, uint32_t place, const uint32_t *words, size_t count,
+                   const uint8_t *bytes, size_t filled) {
+    const uint8_t *file = lent(stored, sizeof stored);
+    const void *given = lent(words, count * sizeof *words);
+    uint8_t expected[256], *buf = fresh_page() + PAGE - length;
+    memset(buf, OLD_BYTE, length);
+    memset(expected, OLD_BYTE, sizeof expected);
+    if (filled) memcpy(expected, bytes, filled);
+    expect(__FILE__, line, "writing", lepugaso_write(file, sizeof stored, entry, given, count, buf, length), refusal, place, filled);
+    hold(__FILE__, line, "the buffer after writing", memcmp(buf, expected, length) == 0);
+}
+
+/* Reads a buffer into `room` words: the first ones become `words`, as many as there are of them, and the others stay. */
+#define READS(entry, room, ...) reads(__LINE__, entry, room, 0, __VA_ARGS__)
+#define READ_REFUSED(entry, room, refusal, ...) reads(__LINE__, entry, room, refusal, __VA_ARGS__, NULL, 0)
+static void reads(int line, uint32_t entry, size_t room, uint32_t refusal, const uint8_t *bytes, size_t length, const uint32_t *words,
+                  size_t filled) {
+    const uint8_t *file = lent(stored, sizeof stored), *buf = lent(bytes, length);
+    uint32_t expected[64], *read = (uint32_t *)(void *)(fresh_page() + PAGE) - room;
+    memset(read, OLD_BYTE, room * sizeof *read);
+    memset(expected, OLD_BYTE, sizeof expected);
+    if (filled) memcpy(expected, words, filled * sizeof *words);
+    expect(__FILE__, line, "reading", lepugaso_read(file, sizeof stored, entry, buf, length, read, room), refusal, 0, filled);
+    hold(__FILE__, line, "the words after reading", memcmp(read, expected, room * sizeof *read) == 0);
+}
+
+/* Both ways, with room for it alone and with more: the words become the bytes, and the bytes these words. */
+#define BOTH(entry, ...) both(__LINE__, entry, __VA_ARGS__)
+static void both(int line, uint32_t entry, const uint32_t *words, size_t count, const uint8_t *bytes, size_t length) {
+    writes(line, entry, length, 0, 0, words, count, bytes, length);
+    writes(line, entry, length + 7, 0, 0, words, count, bytes, length);
+    reads(line, entry, count, 0, bytes, length, words, count);
+    reads(line, entry, count + 3, 0, bytes, length, words, count);
+}
+
+static void stored_values(void) {
+    BOTH(1, WORDS((uint32_t)-1), BYTES(0xFF, 0xFF, 0xFF, 0xFF));
+    BOTH(1, WORDS((uint32_t)INT32_MIN), BYTES(0, 0, 0, 0x80));
+    BOTH(2, WORDS(0x04030201), BYTES(1, 2, 3, 4));
+    BOTH(3, WORDS(0x3F800000), BYTES(0, 0, 0x80, 0x3F));    /* 1.0 */
+    BOTH(3, WORDS(0x7F800001), BYTES(1, 0, 0x80, 0x7F));    /* a NaN that signals */
+    BOTH(4, WORDS(65535), BYTES(0xFF, 0xFF));               /* a NaN too */
+    BOTH(13, WORDS(0x80000001), BYTES(1, 0, 0, 0x80));
+    BOTH(8, WORDS(1, 2, 3), BYTES(LE32(1), LE32(2), LE32(3)));
+    BOTH(11, WORDS(1, 2, 3, 4, 5, 6, 7, 8, 9),
+         BYTES(LE32(1), LE32(2), LE32(3), LE32(0), LE32(4), LE32(5), LE32(6), LE32(0), LE32(7), LE32(8), LE32(9), LE32(0)));
+    BOTH(12, WORDS(1, 2, 3, 4, 5, 6), BYTES(LE16(1), LE16(2), LE16(3), LE16(0), LE16(4), LE16(5), LE16(6), LE16(0)));
+    BOTH(15, WORDS(1, 2, 3, 4, 5, 6), BYTES(LE32(1), LE32(2), LE32(3), LE32(0), LE32(4), LE32(5), LE32(6), LE32(0)));
+    BOTH(16, WORDS(7, 1, 2, 3, 9), BYTES(LE32(7), LE32(0), LE32(0), LE32(0), LE32(1), LE32(2), LE32(3), LE32(9)));
+    BOTH(19, WORDS(1, 2), BYTES(LE32(1), LE32(0), LE32(0), LE32(0), LE32(0), LE32(2)));
+    /* What a gap holds is not looked at. */
+    READS(19, 2, BYTES(LE32(1), LE32(9), LE32(9), LE32(9), LE32(9), LE32(2)), WORDS(1, 2));
+    /* One element, two elements; a buffer with the room of one more byte, or one less. */
+    static const uint8_t open[] = {
+        LE32(1), LE32(0), LE32(0), LE32(0), LE32(2), LE32(3), LE32(4), LE32(5), LE32(6), LE32(7), LE32(8), LE32(9),
+    };
+    WRITES(18, 32, WORDS(1, 2, 3, 4, 5), open, 32);
+    WRITES(18, 47, WORDS(1, 2, 3, 4, 5), open, 32);
+    WRITES(18, 48, WORDS(1, 2, 3, 4, 5), open, 32);
+    WRITES(18, 48, WORDS(1, 2, 3, 4, 5, 6, 7, 8, 9), open, 48);
+    READS(18, 5, open, 32, WORDS(1, 2, 3, 4, 5));
+    READS(18, 9, open, 47, WORDS(1, 2, 3, 4, 5));
+    READS(18, 9, open, 48, WORDS(1, 2, 3, 4, 5, 6, 7, 8, 9));
+    BOTH(25, WORDS(UINT32_MAX, 1, 2, 65535), BYTES(LE32(0xFFFFFFFF), LE16(1), LE16(2), LE16(65535)));
+    /* The last element's padding counts. */
+    BOTH(21, WORDS(1, 2, 3, 4, 5), BYTES(LE16(1), LE16(0), LE32(2), LE16(3), LE16(4), LE16(5), LE16(0)));
+    BOTH(21, WORDS(1, 2, 3, 4, 5, 6, 7, 8, 9, 10),
+         BYTES(LE16(1), LE16(0), LE32(2), LE16(3), LE16(4), LE16(5), LE16(0), LE16(6), LE16(0), LE32(7), LE16(8), LE16(9),
+               LE16(10), LE16(0)));
+}
+
+static void write_refusals(void) {
+    WRITE_REFUSED(NO_ENTRY, 4, LEPUGASO_REFUSED_ENTRY, 0, WORDS(1));
+    WRITE_REFUSED(UINT32_MAX, 4, LEPUGASO_REFUSED_ENTRY, 0, WORDS(1));
+    WRITE_REFUSED(5, 64, LEPUGASO_REFUSED_ABSENT, 0, WORDS(1));
+    WRITE_REFUSED(6, 64, LEPUGASO_REFUSED_ABSENT, 0, WORDS(1, 1, 1));
+    WRITE_REFUSED(0, 64, LEPUGASO_REFUSED_NOT_STORABLE, 0, WORDS(1));
+    WRITE_REFUSED(7, 64, LEPUGASO_REFUSED_NOT_STORABLE, 0, WORDS(1, 1));
+    WRITE_REFUSED(22, 64, LEPUGASO_REFUSED_NOT_STORABLE, 0, WORDS(1, 1));
+    WRITE_REFUSED(23, 64, LEPUGASO_REFUSED_NOT_STORABLE, 0, WORDS(1, 1));
+    WRITE_REFUSED(2, 64, LEPUGASO_REFUSED_WORDS, 0, NULL, 0);
+    WRITE_REFUSED(2, 64, LEPUGASO_REFUSED_WORDS, 0, WORDS(1, 2));
+    WRITE_REFUSED(16, 64, LEPUGASO_REFUSED_WORDS, 0, WORDS(1, 2, 3, 4));
+    WRITE_REFUSED(16, 64, LEPUGASO_REFUSED_WORDS, 0, WORDS(1, 2, 3, 4, 5, 6));
+    WRITE_REFUSED(17, 64, LEPUGASO_REFUSED_WORDS, 0, NULL, 0);
+    WRITE_REFUSED(17, 64, LEPUGASO_REFUSED_WORDS, 0, WORDS(1, 2, 3));
+    WRITE_REFUSED(18, 64, LEPUGASO_REFUSED_WORDS, 0, NULL, 0);
+    WRITE_REFUSED(18, 64, LEPUGASO_REFUSED_WORDS, 0, WORDS(1)); /* no element */
+    WRITE_REFUSED(18, 64, LEPUGASO_REFUSED_WORDS, 0, WORDS(1, 2, 3, 4));
+    WRITE_REFUSED(18, 64, LEPUGASO_REFUSED_WORDS, 0, WORDS(1, 2, 3, 4, 5, 6));
+    WRITE_REFUSED(2, 0, LEPUGASO_REFUSED_SHORT_BUFFER, 0, WORDS(1));
+    WRITE_REFUSED(2, 3, LEPUGASO_REFUSED_SHORT_BUFFER, 0, WORDS(1));
+    WRITE_REFUSED(11, 44, LEPUGASO_REFUSED_SHORT_BUFFER, 0, WORDS(1, 2, 3, 4, 5, 6, 7, 8, 9));
+    WRITE_REFUSED(11, 47, LEPUGASO_REFUSED_SHORT_BUFFER, 0, WORDS(1, 2, 3, 4, 5, 6, 7, 8, 9));
+    WRITE_REFUSED(15, 31, LEPUGASO_REFUSED_SHORT_BUFFER, 0, WORDS(1, 2, 3, 4, 5, 6));
+    WRITE_REFUSED(18, 31, LEPUGASO_REFUSED_SHORT_BUFFER, 0, WORDS(1, 2, 3, 4, 5));
+    WRITE_REFUSED(18, 47, LEPUGASO_REFUSED_SHORT_BUFFER, 0, WORDS(1, 2, 3, 4, 5, 6, 7, 8, 9));
+    /* The lowest bad word, and no word that an f16 does not take is one. */
+    WRITE_REFUSED(4, 2, LEPUGASO_REFUSED_F16_WORD, 0, WORDS(65536));
+    WRITE_REFUSED(12, 16, LEPUGASO_REFUSED_F16_WORD, 4, WORDS(1, 2, 3, 4, UINT32_MAX, 65536));
+    WRITE_REFUSED(20, 16, LEPUGASO_REFUSED_F16_WORD, 2, WORDS(1, UINT32_MAX, 65536, 4, 65536));
+    WRITE_REFUSED(20, 16, LEPUGASO_REFUSED_F16_WORD, 0, WORDS(65536, UINT32_MAX, 65536, 4, 5));
+    WRITE_REFUSED(21, 48, LEPUGASO_REFUSED_F16_WORD, 9, WORDS(1, UINT32_MAX, 3, 4, 5, 6, UINT32_MAX, 8, 9, 65536));
+    WRITE_REFUSED(25, 48, LEPUGASO_REFUSED_F16_WORD, 1, WORDS(UINT32_MAX, 65536));
+    WRITE_REFUSED(25, 48, LEPUGASO_REFUSED_F16_WORD, 3, WORDS(UINT32_MAX, 1, 2, 65536));
+    /* Of two or more the first by document 01's order. */
+    WRITE_REFUSED(5, 0, LEPUGASO_REFUSED_ABSENT, 0, NULL, 0);
+    WRITE_REFUSED(0, 0, LEPUGASO_REFUSED_NOT_STORABLE, 0, NULL, 0);
+    WRITE_REFUSED(4, 0, LEPUGASO_REFUSED_WORDS, 0, WORDS(65536, 65536));
+    WRITE_REFUSED(4, 1, LEPUGASO_REFUSED_SHORT_BUFFER, 0, WORDS(65536));
+}
+
+static void read_refusals(void) {
+    static const uint8_t bytes[64] = {1};
+    READ_REFUSED(NO_ENTRY, 4, LEPUGASO_REFUSED_ENTRY, bytes, 64);
+    READ_REFUSED(UINT32_MAX, 4, LEPUGASO_REFUSED_ENTRY, bytes, 64);
+    READ_REFUSED(5, 4, LEPUGASO_REFUSED_ABSENT, bytes, 64);
+    READ_REFUSED(6, 4, LEPUGASO_REFUSED_ABSENT, bytes, 64);
+    READ_REFUSED(0, 4, LEPUGASO_REFUSED_NOT_STORABLE, bytes, 64);
+    READ_REFUSED(7, 4, LEPUGASO_REFUSED_NOT_STORABLE, bytes, 64);
+    READ_REFUSED(22, 4, LEPUGASO_REFUSED_NOT_STORABLE, bytes, 64);
+    READ_REFUSED(23, 4, LEPUGASO_REFUSED_NOT_STORABLE, bytes, 64);
+    READ_REFUSED(1, 4, LEPUGASO_REFUSED_SHORT_BUFFER, bytes, 0);
+    READ_REFUSED(1, 4, LEPUGASO_REFUSED_SHORT_BUFFER, bytes, 3);
+    READ_REFUSED(11, 16, LEPUGASO_REFUSED_SHORT_BUFFER, bytes, 44);
+    READ_REFUSED(11, 16, LEPUGASO_REFUSED_SHORT_BUFFER, bytes, 47);
+    READ_REFUSED(15, 16, LEPUGASO_REFUSED_SHORT_BUFFER, bytes, 31);
+    READ_REFUSED(17, 16, LEPUGASO_REFUSED_SHORT_BUFFER, bytes, 15);
+    READ_REFUSED(18, 16, LEPUGASO_REFUSED_SHORT_BUFFER, bytes, 0);
+    READ_REFUSED(18, 16, LEPUGASO_REFUSED_SHORT_BUFFER, bytes, 15);
+    READ_REFUSED(18, 16, LEPUGASO_REFUSED_SHORT_BUFFER, bytes, 16);
+    READ_REFUSED(18, 16, LEPUGASO_REFUSED_SHORT_BUFFER, bytes, 31); /* P10 */
+    READ_REFUSED(1, 0, LEPUGASO_REFUSED_WORDS, bytes, 64);
+    READ_REFUSED(16, 4, LEPUGASO_REFUSED_WORDS, bytes, 64);
+    READ_REFUSED(18, 4, LEPUGASO_REFUSED_WORDS, bytes, 47);
+    READ_REFUSED(18, 8, LEPUGASO_REFUSED_WORDS, bytes, 48);
+    /* Of two or more the first by document 01's order. */
+    READ_REFUSED(5, 0, LEPUGASO_REFUSED_ABSENT, bytes, 0);
+    READ_REFUSED(0, 0, LEPUGASO_REFUSED_NOT_STORABLE, bytes, 0);
+    READ_REFUSED(1, 0, LEPUGASO_REFUSED_SHORT_BUFFER, bytes, 3);
+    READ_REFUSED(18, 0, LEPUGASO_REFUSED_SHORT_BUFFER, bytes, 31);
+}
+
+/* Lengths above 32 bits are not cut. Of these bytes and words only the first page can be touched. */
+static void long_regions(const uint8_t *file, size_t length) {
+    const uint64_t limit = 4294967295u;
+    size_t room = (limit + 2) * sizeof(uint32_t);
+    uint8_t *bytes = mmap(NULL, limit + 1, PROT_NONE, MAP_PRIVATE | MAP_ANONYMOUS | MAP_NORESERVE, -1, 0);
+    uint8_t *words = mmap(NULL, room, PROT_NONE, MAP_PRIVATE | MAP_ANONYMOUS | MAP_NORESERVE, -1, 0);
+    if (bytes == MAP_FAILED || words == MAP_FAILED) exit(2);
+    if (mprotect(bytes, PAGE, PROT_READ | PROT_WRITE) || mprotect(words, PAGE, PROT_READ | PROT_WRITE)) exit(2);
+    uint32_t *many = (uint32_t *)(void *)words;
+    bytes[0] = 1;
+    many[0] = 2;
+
+    EXPECT(lepugaso_read(file, length, 2, bytes, limit, many, limit + 2), 0, 0, 1);
+    HOLDS(many[0] == 1 && many[1] == 0);
+    many[0] = 2;
+    EXPECT(lepugaso_write(file, length, 2, many, 1, bytes, limit), 0, 0, 4);
+    HOLDS(bytes[0] == 2 && bytes[4] == 0);
+    EXPECT(lepugaso_write(file, length, 2, many, limit + 2, bytes, limit), LEPUGASO_REFUSED_WORDS, 0, 0);
+
+    /* After 8, before everything else. */
+    EXPECT(lepugaso_read(file, length, 2, bytes, limit + 1, many, 1), LEPUGASO_REFUSED_LONG_BUFFER, 0, 0);
+    EXPECT(lepugaso_read(file, length, NO_ENTRY, bytes, limit + 1, many, 1), LEPUGASO_REFUSED_ENTRY, 0, 0);
+    EXPECT(lepugaso_read(file, length, 5, bytes, limit + 1, many, 1), LEPUGASO_REFUSED_LONG_BUFFER, 0, 0);
+    EXPECT(lepugaso_read(file, length, 0, bytes, limit + 1, NULL, 0), LEPUGASO_REFUSED_LONG_BUFFER, 0, 0);
+    EXPECT(lepugaso_write(file, length, 2, many, 1, bytes, limit + 1), LEPUGASO_REFUSED_LONG_BUFFER, 0, 0);
+    EXPECT(lepugaso_write(file, length, NO_ENTRY, many, 1, bytes, limit + 1), LEPUGASO_REFUSED_ENTRY, 0, 0);
+    EXPECT(lepugaso_write(file, length, 5, many, 1, bytes, limit + 1), LEPUGASO_REFUSED_LONG_BUFFER, 0, 0);
+    EXPECT(lepugaso_write(file, length, 0, NULL, 0, bytes, limit + 1), LEPUGASO_REFUSED_LONG_BUFFER, 0, 0);
+    HOLDS(bytes[0] == 2 && many[0] == 2 && many[1] == 0);
+    if (munmap(bytes, limit + 1) || munmap(words, room)) exit(2);
+}
+
 int main(void) {
     const uint8_t *file = lent(good, sizeof good);
     refused_files();
     questions(file, sizeof good);
     layouts(file, sizeof good);
     conversions(file, sizeof good);
+    stored_values();
+    write_refusals();
+    read_refusals();
+    long_regions(lent(stored, sizeof stored), sizeof stored);
     return failures != 0;
 }

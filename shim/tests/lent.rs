@@ -63,3 +63,21 @@ fn apart_is_to_share_no_byte() {
         }
     }
 }
+
+#[test]
+fn apart_at_the_end_of_the_address_space() {
+    let words = at::<u32>(usize::MAX - 7, 1).unwrap();
+    assert!(words.is_apart_from(&at::<u8>(usize::MAX - 3, 3).unwrap()));
+    assert!(!words.is_apart_from(&at::<u8>(usize::MAX - 4, 4).unwrap()));
+    assert!(at::<u32>(usize::MAX - 3, 1).is_none());
+}
+
+#[test]
+fn the_largest_regions_overlap_or_touch() {
+    let low = at::<u8>(1, LARGEST).unwrap();
+    let high = at::<u8>(LARGEST + 1, LARGEST).unwrap();
+    assert!(low.is_apart_from(&high) && high.is_apart_from(&low));
+    let words = at::<u32>(LARGEST - 3, LARGEST / 4).unwrap();
+    assert!(!words.is_apart_from(&low) && !low.is_apart_from(&words));
+    assert!(!words.is_apart_from(&high) && !high.is_apart_from(&words));
+}

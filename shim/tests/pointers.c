@@ -8,7 +8,10 @@ static const uint8_t file[] = {U32, F32, TRAILER(2, 0)};
 /* A file that cannot be, to every call. */
 static void bad_file(const uint8_t *at, size_t length) {
     static const uint32_t list[] = {0};
+    static const uint8_t bytes[4];
     lepugaso_layout out = {1, 2, 3};
+    uint32_t word = 5;
+    uint8_t buf[] = {6, 7, 8, 9};
     REFUSED(lepugaso_check(at, length));
     REFUSED(lepugaso_size(at, length, 0));
     REFUSED(lepugaso_align(at, length, 0));
@@ -17,6 +20,10 @@ static void bad_file(const uint8_t *at, size_t length) {
     HOLDS(out.size == 1 && out.align == 2 && out.min_size == 3);
     REFUSED(lepugaso_rank(at, length, 0, 0));
     REFUSED(lepugaso_common(at, length, list, 1));
+    REFUSED(lepugaso_write(at, length, 0, list, 1, buf, sizeof buf));
+    HOLDS(buf[0] == 6 && buf[1] == 7 && buf[2] == 8 && buf[3] == 9);
+    REFUSED(lepugaso_read(at, length, 0, bytes, sizeof bytes, &word, 1));
+    HOLDS(word == 5);
 }
 
 static void files(void) {
@@ -27,8 +34,9 @@ static void files(void) {
     bad_file(last, 1);
 
     /* Null with length 0 is an empty file, which is a short one; so is any other pointer with length 0, and it is not looked at. */
-    uint32_t list[] = {0};
+    uint32_t list[] = {0}, word;
     lepugaso_layout out;
+    uint8_t buf[] = {6, 7, 8, 9};
     EXPECT(lepugaso_check(NULL, 0), LEPUGASO_REFUSED_SHORT_FILE, 0, 0);
     EXPECT(lepugaso_size(NULL, 0, 0), LEPUGASO_REFUSED_SHORT_FILE, 0, 0);
     EXPECT(lepugaso_align(NULL, 0, 0), LEPUGASO_REFUSED_SHORT_FILE, 0, 0);
@@ -36,6 +44,8 @@ static void files(void) {
     EXPECT(lepugaso_layout_of(NULL, 0, 0, &out), LEPUGASO_REFUSED_SHORT_FILE, 0, 0);
     EXPECT(lepugaso_rank(NULL, 0, 0, 0), LEPUGASO_REFUSED_SHORT_FILE, 0, 0);
     EXPECT(lepugaso_common(NULL, 0, list, 1), LEPUGASO_REFUSED_SHORT_FILE, 0, 0);
+    EXPECT(lepugaso_write(NULL, 0, 0, list, 1, buf, sizeof buf), LEPUGASO_REFUSED_SHORT_FILE, 0, 0);
+    EXPECT(lepugaso_read(NULL, 0, 0, buf, sizeof buf, &word, 1), LEPUGASO_REFUSED_SHORT_FILE, 0, 0);
     EXPECT(lepugaso_check(last, 0), LEPUGASO_REFUSED_SHORT_FILE, 0, 0);
 }
 
@@ -93,10 +103,131 @@ static void overlaps(void) {
     }
 }
 
+/* Words that cannot be, to both calls that take some. */
+static void bad_words(uint32_t *at, size_t count) {
+    uint8_t buf[] = {6, 7, 8, 9};
+    REFUSED(lepugaso_write(file, sizeof file, 0, at, count, buf, sizeof buf));
+    HOLDS(buf[0] == 6 && buf[1] == 7 && buf[2] == 8 && buf[3] == 9);
+    REFUSED(lepugaso_read(file, sizeof file, 0, buf, sizeof buf, at, count));
+    /* Before any number of document 01. */
+    REFUSED(lepugaso_write(NULL, 0, 9, at, count, NULL, 0));
+    REFUSED(lepugaso_read(NULL, 0, 9, NULL, 0, at, count));
+}
+
+/* A buffer that cannot be. */
+static void bad_buffer(uint8_t *at, size_t length) {
+    uint32_t word = 5;
+    REFUSED(lepugaso_write(file, sizeof file, 0, &word, 1, at, length));
+    REFUSED(lepugaso_read(file, sizeof file, 0, at, length, &word, 1));
+    REFUSED(lepugaso_write(NULL, 0, 9, NULL, 0, at, length));
+    REFUSED(lepugaso_read(NULL, 0, 9, at, length, NULL, 0));
+    HOLDS(word == 5);
+}
+
+static void words_and_buffers(void) {
+    uint32_t words[] = {1, 2, 3};
+    uint8_t buf[] = {6, 7, 8, 9, 10};
+    for (size_t off = 1; off < sizeof words[0]; off++) {
+        uint32_t *odd = (uint32_t *)(void *)((uint8_t *)words + off);
+        bad_words(odd, 1);
+        bad_words(odd, 0);
+    }
+    bad_words(NULL, 1);
+    bad_words(words, SIZE_MAX);
+    bad_words(words, SIZE_MAX / sizeof words[0] + 1); /* 4 times it wraps to 0 */
+    bad_words(words, (size_t)PTRDIFF_MAX / sizeof words[0] + 1);
+    bad_words((uint32_t *)(UINTPTR_MAX - 3), 1);
+    bad_buffer(NULL, 1);
+    bad_buffer(buf, SIZE_MAX);
+    bad_buffer(buf, (size_t)PTRDIFF_MAX + 1);
+    bad_buffer((uint8_t *)UINTPTR_MAX, 1);
+    HOLDS(words[0] == 1 && words[1] == 2 && words[2] == 3);
+    HOLDS(buf[0] == 6 && buf[1] == 7 && buf[2] == 8 && buf[3] == 9);
+
+    /* Null with length 0 is no words, or an empty buffer; so is any other pointer with length 0, and it is not looked at. */
+    EXPECT(lepugaso_write(file, sizeof file, 0, NULL, 0, buf, sizeof buf), LEPUGASO_REFUSED_WORDS, 0, 0);
+    EXPECT(lepugaso_write(file, sizeof file, 0, words, 1, NULL, 0), LEPUGASO_REFUSED_SHORT_BUFFER, 0, 0);
+    EXPECT(lepugaso_write(file, sizeof file, 0, words, 1, (uint8_t *)UINTPTR_MAX, 0), LEPUGASO_REFUSED_SHORT_BUFFER, 0, 0);
+    EXPECT(lepugaso_read(file, sizeof file, 0, NULL, 0, words, 1), LEPUGASO_REFUSED_SHORT_BUFFER, 0, 0);
+    EXPECT(lepugaso_read(file, sizeof file, 0, buf, sizeof buf, NULL, 0), LEPUGASO_REFUSED_WORDS, 0, 0);
+    EXPECT(lepugaso_read(file, sizeof file, 0, buf, sizeof buf, (uint32_t *)(UINTPTR_MAX - 3), 0), LEPUGASO_REFUSED_WORDS, 0, 0);
+
+    /* A region that is empty shares no byte with the one that it lies in. */
+    EXPECT(lepugaso_write(file, sizeof file, 0, words, 1, (uint8_t *)words + 2, 0), LEPUGASO_REFUSED_SHORT_BUFFER, 0, 0);
+    EXPECT(lepugaso_write(file, sizeof file, 0, &words[1], 0, (uint8_t *)words, sizeof words), LEPUGASO_REFUSED_WORDS, 0, 0);
+    EXPECT(lepugaso_read(file, sizeof file, 0, (uint8_t *)words + 2, 0, words, 1), LEPUGASO_REFUSED_SHORT_BUFFER, 0, 0);
+    EXPECT(lepugaso_read((uint8_t *)words + 2, 0, 0, buf, sizeof buf, words, 1), LEPUGASO_REFUSED_SHORT_FILE, 0, 0);
+
+    /* A buffer is of bytes, and may begin anywhere. */
+    EXPECT(lepugaso_write(file, sizeof file, 0, words, 1, buf + 1, 4), 0, 0, 4);
+    HOLDS(buf[0] == 6 && buf[1] == 1 && buf[4] == 0);
+    EXPECT(lepugaso_read(file, sizeof file, 0, buf + 1, 4, &words[2], 1), 0, 0, 1);
+    HOLDS(words[0] == 1 && words[1] == 2 && words[2] == 1);
+}
+
+/* Regions within one piece of memory. A file of a u32 and of two of them; words, or a buffer, for the two, and some of each that are lent
+ * and left alone. */
+static const uint8_t pair[] = {U32, VECTOR(2, 0), TRAILER(2, 0)};
+enum { MEMORY = 160, FILE_AT = 20, READ_AT = 88, SPARE = 1 };
+union memory {
+    uint8_t bytes[MEMORY];
+    uint32_t words[MEMORY / 4];
+};
+
+static int shares(size_t a, size_t a_len, size_t b, size_t b_len) { return a < b + b_len && b < a + a_len; }
+
+/* All bytes different, and the file. */
+static union memory filled_memory(void) {
+    union memory m;
+    for (size_t k = 0; k < MEMORY; k++) m.bytes[k] = (uint8_t)(k + 1);
+    memcpy(m.bytes + FILE_AT, pair, sizeof pair);
+    return m;
+}
+
+/* What is to be written at each place from before the file to behind what is read: refused exactly where it shares a byte with either, and
+ * then nothing is touched; else 8 bytes of it are the 8 that are read, and nothing else has changed. */
+static void writable_overlaps(void) {
+    enum { EIGHT = 8 };
+    for (size_t at = 0; at + EIGHT + 4 <= MEMORY; at++) {
+        union memory m = filled_memory(), expected = m;
+        size_t length = EIGHT + SPARE;
+        int shared = shares(at, length, FILE_AT, sizeof pair) || shares(at, length, READ_AT, EIGHT);
+        if (!shared) memcpy(expected.bytes + at, m.bytes + READ_AT, EIGHT);
+        EXPECT(lepugaso_write(m.bytes + FILE_AT, sizeof pair, 1, &m.words[READ_AT / 4], 2, m.bytes + at, length),
+               shared ? LEPUGASO_BAD_POINTER : 0, 0, shared ? 0 : 8);
+        HOLDS(memcmp(&m, &expected, sizeof m) == 0);
+
+        if (at % 4) continue;
+        m = expected = filled_memory();
+        length = EIGHT + SPARE * sizeof(uint32_t);
+        shared = shares(at, length, FILE_AT, sizeof pair) || shares(at, length, READ_AT, EIGHT + SPARE);
+        if (!shared) memcpy(expected.bytes + at, m.bytes + READ_AT, EIGHT);
+        EXPECT(lepugaso_read(m.bytes + FILE_AT, sizeof pair, 1, m.bytes + READ_AT, EIGHT + SPARE, &m.words[at / 4], 2 + SPARE),
+               shared ? LEPUGASO_BAD_POINTER : 0, 0, shared ? 0 : 2);
+        HOLDS(memcmp(&m, &expected, sizeof m) == 0);
+    }
+}
+
+/* What is only read may overlap: words, and a buffer, that lie within the file. */
+static void read_only_overlaps(void) {
+    union memory m = filled_memory();
+    uint8_t buf[8];
+    uint32_t words[2];
+    EXPECT(lepugaso_write(m.bytes + FILE_AT, sizeof pair, 1, &m.words[FILE_AT / 4 + 3], 2, buf, sizeof buf), 0, 0, 8);
+    HOLDS(memcmp(buf, pair + 12, sizeof buf) == 0);
+    EXPECT(lepugaso_read(m.bytes + FILE_AT, sizeof pair, 1, m.bytes + FILE_AT + 13, 8, words, 2), 0, 0, 2);
+    HOLDS(memcmp(words, pair + 13, sizeof words) == 0);
+    EXPECT(lepugaso_read(m.bytes + FILE_AT, sizeof pair, 1, m.bytes + FILE_AT, sizeof pair, words, 2), 0, 0, 2);
+    HOLDS(memcmp(words, pair, sizeof words) == 0);
+}
+
 int main(void) {
     files();
     entry_lists();
     results();
     overlaps();
+    words_and_buffers();
+    writable_overlaps();
+    read_only_overlaps();
     return failures != 0;
 }

@@ -19,6 +19,11 @@ static void expect(const char *source, int line, const char *call, lepugaso_answ
     failures++;
 }
 
-#define HOLDS(fact) ((fact) ? (void)0 : (void)(printf("%s:%d: not so: %s\n", __FILE__, __LINE__, #fact), failures++))
+#define HOLDS(fact) hold(__FILE__, __LINE__, #fact, (fact))
+static void hold(const char *source, int line, const char *fact, int so) {
+    if (so) return;
+    printf("%s:%d: not so: %s\n", source, line, fact);
+    failures++;
+}
 
 #endif

@@ -1,4 +1,4 @@
-// Answers questions about layout files: reads them on standard input and writes a line for each (oracle/README.md, version 1).
+// Answers questions about layout files: reads them on standard input and writes a line for each (oracle/README.md, version 2).
 use file::refusal::Refusal;
 use file::refusal::number;
 use file::refusal::place;
@@ -11,14 +11,19 @@ use lepugaso::common;
 use lepugaso::layout;
 use lepugaso::min_size;
 use lepugaso::rank;
+use lepugaso::read;
 use lepugaso::size;
+use lepugaso::write;
 use libc::STDIN_FILENO;
 use libc::STDOUT_FILENO;
 use lines::bytes;
+use lines::copy;
 use lines::next;
 use lines::numbers;
 use lines::same;
+use lines::spell;
 ghost use mathlib.Core.Path.{_≡_};
+ghost use Prim.Native.Nat.{_≤_};
 ghost use lib.ListN.{length};
 ghost use Rattle.lines.specs.Count.{Counted};
 
@@ -31,17 +36,21 @@ fn say_refused(r: Refusal) {
     io::print_decimal(STDOUT_FILENO, number(r) as u64);
     say(b" at ");
     io::print_decimal(STDOUT_FILENO, place(r) as u64);
-    say(b"\n");
 }
 
-fn say_number(n: Number) {
+// An answer, without the end of its line.
+fn say_plain(n: Number) {
     match n {
         Number::Is(v) => {
             io::print_decimal(STDOUT_FILENO, v as u64);
-            say(b"\n");
         }
         Number::Refused(r) => say_refused(r),
     }
+}
+
+fn say_number(n: Number) {
+    say_plain(n);
+    say(b"\n");
 }
 
 fn say_maybe(m: Maybe, end: &[u8]) {
@@ -64,8 +73,54 @@ fn say_layout(a: Answer) {
             say_maybe(align, b" ");
             say_maybe(min, b"\n");
         }
-        Answer::Refused(r) => say_refused(r),
+        Answer::Refused(r) => {
+            say_refused(r);
+            say(b"\n");
+        }
     }
+}
+
+// What a buffer holds, after a space, if it holds anything.
+fn say_bytes(b: &[u8]) {
+    if b.len() == 0 {
+        return;
+    }
+    let mut text = io::large_buffer();
+    let p = spell(b, &mut text);
+    let n = p.count;
+    say(b" ");
+    say(&text[..n]);
+}
+
+// Words, a space before each.
+fn say_words(words: &[u32]) {
+    let n = words.len();
+    let mut i: usize = 0;
+    while i < n {
+        say(b" ");
+        io::print_decimal(STDOUT_FILENO, words[i] as u64);
+        i += 1;
+    }
+}
+
+// Writes words to a copy of the buffer, which stays as it is for other questions, and says what the copy holds then.
+fn answer_write(file: &[u8], entry: u32, words: &[u32], held: &[u8]) {
+    let mut buffer = io::buffer();
+    let p = copy(held, &mut buffer);
+    let n = p.count;
+    say_plain(write(file, entry, words, &mut buffer[..n]));
+    say_bytes(&buffer[..n]);
+    say(b"\n");
+}
+
+// Reads into the words of a question, the numbers after the entry's, and says what they are then.
+fn answer_read(file: &[u8], held: &[u8], ns: &mut [u32])
+    requires { ⌜ 1 ≤ length (now ns) ⌝ }
+{
+    let entry = ns[0];
+    say_plain(read(file, entry, held, &mut ns[1..]));
+    say_words(&ns[1..]);
+    say(b"\n");
 }
 
 // The questions with one entry.
@@ -105,18 +160,18 @@ fn answer(file: &[u8], word: &[u8], ns: &[u32]) {
     say(b"not a question\n");
 }
 
-// Puts the bytes of a file line and answers how many.
-fn take_file(line: &[u8], at: usize, file: &mut [u8]) -> usize
-    ensures { λ r. ⌜ Counted r (now (file .exit)) ⌝ }
+// Puts the bytes of a line and answers how many; `complaint` is said of a line that has none.
+fn take(line: &[u8], at: usize, out: &mut [u8], complaint: &[u8]) -> usize
+    ensures { λ r. ⌜ Counted r (now (out .exit)) ⌝ }
 {
-    let p = bytes(line, at, file);
+    let p = bytes(line, at, out);
     if !p.good {
-        say(b"not a file\n");
+        say(complaint);
     }
     p.count
 }
 
-fn answer_line(file: &[u8], line: &[u8], word: usize)
+fn answer_line(file: &[u8], held: &[u8], line: &[u8], word: usize)
     requires { ⌜ Counted word (now line) ⌝ }
 {
     let mut ns = [0u32; 1024];
@@ -125,12 +180,21 @@ fn answer_line(file: &[u8], line: &[u8], word: usize)
     if !p.good {
         return say(b"not a question\n");
     }
+    if 0 < n {
+        if same(&line[..word], b"write") {
+            return answer_write(file, ns[0], &ns[1..n], held);
+        }
+        if same(&line[..word], b"read") {
+            return answer_read(file, held, &mut ns[..n]);
+        }
+    }
     answer(file, &line[..word], &ns[..n]);
 }
 
-// Answers the lines from `start` on; `file` has room for the bytes of a file.
-fn answer_all(text: &[u8], start: usize, file: &mut [u8]) {
+// Answers the lines from `start` on; `file` has room for the bytes of a file, `buffer` for those of a buffer.
+fn answer_all(text: &[u8], start: usize, file: &mut [u8], buffer: &mut [u8]) {
     let mut size: usize = 0;
+    let mut held: usize = 0;
     let n = text.len();
     let mut at = start;
     while at < n {
@@ -142,9 +206,11 @@ fn answer_all(text: &[u8], start: usize, file: &mut [u8]) {
         let word = next(line, 0, 32);
         at = end + 1;
         if same(&line[..word], b"file") {
-            size = take_file(line, word, file);
+            size = take(line, word, file, b"not a file\n");
+        } else if same(&line[..word], b"buffer") {
+            held = take(line, word, buffer, b"not a buffer\n");
         } else {
-            answer_line(&file[..size], line, word);
+            answer_line(&file[..size], &buffer[..held], line, word);
         }
     }
 }
@@ -159,12 +225,13 @@ fn room() -> [u8; 1048576]
 fn main() {
     let mut input = room();
     let mut file = io::large_buffer();
+    let mut buffer = io::buffer();
     let n = io::read_full(STDIN_FILENO, &mut input);
     let text = &input[..n];
     let first = next(text, 0, 10);
-    if !same(&text[..first], b"questions 1") {
-        return say(b"not questions 1\n");
+    if !same(&text[..first], b"questions 2") {
+        return say(b"not questions 2\n");
     }
-    say(b"answers 1\n");
-    answer_all(text, first + 1, &mut file);
+    say(b"answers 2\n");
+    answer_all(text, first + 1, &mut file, &mut buffer);
 }

@@ -1,4 +1,4 @@
-// A line of questions: where it ends, its word, its numbers, its bytes.
+// A line of questions: where it ends, its word, its numbers, its bytes. And bytes as a line of answers has them.
 ghost use Prim.Native.Nat.{_+_, _≤_};
 ghost use lib.ListN.{length};
 ghost use Rattle.lines.specs.Count.{Counted};
@@ -156,6 +156,50 @@ pub fn bytes(line: &[u8], at: usize, out: &mut [u8]) -> Put
             count += 1;
             i += 2;
         }
+    }
+    Put { good: true, count }
+}
+
+// Puts bytes as they are.
+pub fn copy(from: &[u8], out: &mut [u8]) -> Put
+    ensures { λ r. ⌜ Counted (r .count) (now (out .exit)) ⌝ }
+{
+    let n = from.len();
+    let mut count: usize = 0;
+    while count < n {
+        if out.len() <= count {
+            return Put { good: false, count };
+        }
+        out[count] = from[count];
+        count += 1;
+    }
+    Put { good: true, count }
+}
+
+// The sign of the lowest hexadecimal digit.
+fn sign(n: u8) -> u8 {
+    let d = n % 16;
+    if d < 10 {
+        return 48 + d;
+    }
+    87 + d
+}
+
+// Puts bytes as two hexadecimal digits each.
+pub fn spell(from: &[u8], out: &mut [u8]) -> Put
+    ensures { λ r. ⌜ Counted (r .count) (now (out .exit)) ⌝ }
+{
+    let n = from.len();
+    let mut count: usize = 0;
+    let mut i: usize = 0;
+    while i < n {
+        if out.len() - count < 2 {
+            return Put { good: false, count };
+        }
+        out[count] = sign(from[i] / 16);
+        out[count + 1] = sign(from[i]);
+        count += 2;
+        i += 1;
     }
     Put { good: true, count }
 }

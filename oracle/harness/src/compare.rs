@@ -4,17 +4,17 @@ use std::fs;
 
 use crate::file::Table;
 use crate::generate::{self, Plan};
-use crate::model;
-use crate::question::{self, ANSWERS_HEAD, Block, HEAD};
+use crate::model::{self, Due};
+use crate::question::{self, ANSWERS_HEAD, Block, HEAD, Question};
 use crate::rows::{self, Example, Row};
 use crate::types;
 
 /// What the answering program reads at most.
 const ROOM: usize = 1_048_576;
 
-const PLAN: Plan = Plan { small: 3, random: 60_000, limits: 400, large: 120, damaged: 40_000 };
+const PLAN: Plan = Plan { small: 3, edges: 1, long: 7, random: 60_000, limits: 400, large: 120, damaged: 40_000 };
 
-const RECORDED: Plan = Plan { small: 2, random: 60, limits: 20, large: 0, damaged: 300 };
+const RECORDED: Plan = Plan { small: 2, edges: 4, long: 0, random: 60, limits: 20, large: 0, damaged: 300 };
 
 fn read(path: &str) -> String {
     fs::read_to_string(path).unwrap_or_else(|e| panic!("{path}: {e}"))
@@ -65,8 +65,9 @@ pub fn answer(questions: &str) -> String {
     let mut text = format!("{ANSWERS_HEAD}\n");
     for block in question::parse(questions) {
         let types = Table::read(&block.file).map_or(vec![], |t| types::build(&t));
+        let checked = model::check(&block.file);
         for q in &block.questions {
-            text += &types::answer(&types, q);
+            text += &types::answer(&types, &checked, q);
             text.push('\n');
         }
     }
@@ -74,7 +75,7 @@ pub fn answer(questions: &str) -> String {
 }
 
 /// What 01 says of each question of a block, and under which row it falls.
-fn due(block: &Block) -> Vec<(String, Option<Row>)> {
+fn due(block: &Block) -> Vec<Due> {
     let checked = model::check(&block.file);
     let nodes = Table::read(&block.file).map_or(vec![], |t| types::nodes(&t));
     block.questions.iter().map(|q| model::answer(&checked, &nodes, q)).collect()
@@ -88,7 +89,7 @@ fn judge_document(document: &str, rust: &[&str], lepugaso: &[&str]) -> Vec<Strin
         wrong.push(format!("document: row {} has no example", row.name()));
     }
     for (e, (r, l)) in examples.iter().zip(rust.iter().zip(lepugaso)) {
-        let row = due(&e.block)[0].1.map_or("none", Row::name);
+        let row = due(&e.block)[0].row.map_or("none", Row::name);
         if (row, *r, *l) != (e.name.as_str(), e.rust.as_str(), e.lepugaso.as_str()) {
             wrong.push(format!("document: the example of {} is of row {row}: Rust: {r}, Lepugaso: {l}", e.name));
         }
@@ -97,15 +98,22 @@ fn judge_document(document: &str, rust: &[&str], lepugaso: &[&str]) -> Vec<Strin
 }
 
 /// The line of a disagreement, where there is one that no row lists, or an agreement where a row says that there is none.
-fn judged(says: &str, row: Option<Row>, rust: &str, lepugaso: &str) -> Option<String> {
-    let fault = match row {
+fn judged(due: &Due, rust: &str, lepugaso: &str) -> Option<String> {
+    let fault = match due.row {
         None if rust != lepugaso => "no row",
         Some(_) if rust == lepugaso => "the sides agree",
-        _ if lepugaso != says => "not as 01 says",
+        _ if lepugaso != due.says => "not as 01 says",
+        Some(_) if due.rust.as_ref().is_some_and(|said| said != rust) => "not as the row says of the Rust",
         _ => return None,
     };
-    let row = row.map_or("-", Row::name);
-    Some(format!("{fault} (row {row}): Lepugaso: {lepugaso}; Rust: {rust}; 01: {says}"))
+    let row = due.row.map_or("-", Row::name);
+    Some(format!("{fault} (row {row}): Lepugaso: {lepugaso}; Rust: {rust}; 01: {}", due.says))
+}
+
+/// A question with what it is about, as a fault names it.
+fn whole(block: &Block, q: &Question) -> String {
+    let buffer = q.buffer().map_or(String::new(), |b| question::buffer_line(b) + " ");
+    format!("{} {buffer}{}", question::file_line(&block.file), q.line())
 }
 
 fn answers(path: &str) -> String {
@@ -137,12 +145,12 @@ pub fn judge(document: &str, folder: &str) -> bool {
         }
         let mut at = 0;
         for block in &blocks {
-            for (q, (says, row)) in block.questions.iter().zip(due(block)) {
-                if let Some(fault) = judged(&says, row, rust[at], lepugaso[at]) {
-                    faults.push(format!("{} {}: {fault}", question::file_line(&block.file), q.line()));
+            for (q, due) in block.questions.iter().zip(due(block)) {
+                if let Some(fault) = judged(&due, rust[at], lepugaso[at]) {
+                    faults.push(format!("{}: {fault}", whole(block, q)));
                 }
                 if batch > 0 {
-                    *by_row.entry(row.map_or("none", Row::name)).or_insert(0) += 1;
+                    *by_row.entry(due.row.map_or("none", Row::name)).or_insert(0) += 1;
                     *by_word.entry(q.line().split(' ').next().unwrap().to_string()).or_insert(0) += 1;
                 }
                 at += 1;
@@ -175,9 +183,9 @@ pub fn record(document: &str, folder: &str) -> bool {
     let rust = answer(&questions);
     let mut rust = rust.lines();
     let mut text = format!("{}\n", rust.next().unwrap());
-    for (says, row) in blocks.iter().flat_map(due) {
+    for due in blocks.iter().flat_map(due) {
         let said = rust.next().unwrap();
-        text += row.map_or(said, |_| &says);
+        text += due.row.map_or(said, |_| &due.says);
         text.push('\n');
     }
     assert!(questions.len() <= ROOM);

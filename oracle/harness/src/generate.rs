@@ -1,7 +1,9 @@
-//! The questions: all small tables over a menu, random tables, tables at the limits, damaged copies.
+//! The questions: all small tables over a menu, random tables, tables at the limits, damaged copies; and on each of them what can be
+//! asked, buffers and words on each side of their edges.
 use crate::file::{Entry, Member, Table};
-use crate::model::{self, Laid};
+use crate::model::{self, Good, Laid};
 use crate::question::{Block, Question};
+use crate::rows;
 
 /// splitmix64: a seed gives the same questions everywhere.
 pub struct Random(pub u64);
@@ -115,9 +117,125 @@ pub fn everything(t: &Table) -> Vec<Question> {
     qs
 }
 
+/// What a line of questions has room for, and what most questions keep to.
+const MOST_WORDS: u64 = 1023;
+const MOST_BYTES: u64 = 4096;
+const FEW_WORDS: u64 = 60;
+const FEW_BYTES: u64 = 300;
+
+/// Bytes none of which is 0, so that a byte that was written to shows.
+fn bytes(r: &mut Random, length: u64) -> Vec<u8> {
+    (0..length).map(|_| 1 + r.below(255) as u8).collect()
+}
+
+/// Any words, none of which is 0.
+fn any_words(r: &mut Random, count: u64) -> Vec<u32> {
+    let mut word = || {
+        let below = if r.one_in(3) { 4_294_967_295 } else { 200 };
+        1 + r.below(below) as u32
+    };
+    (0..count).map(|_| word()).collect()
+}
+
+/// Words for an entry with `n` elements, none that an f16 can't have; now and then one that is special to a scalar.
+fn fitting_words(r: &mut Random, good: &Good, e: usize, n: u64) -> Vec<u32> {
+    let special = [0, 1, 0x7fff, 0x8000, 0x7f80_0001, 0x7fff_ffff, 0x8000_0000, 0xffff_ffff];
+    let mut words = any_words(r, good.words(e, n));
+    for (w, p) in words.iter_mut().zip(good.places(e, n, 0)) {
+        if r.one_in(6) {
+            *w = r.of(&special);
+        }
+        if p.width == 2 {
+            *w %= 65_536;
+        }
+    }
+    words
+}
+
+/// Writes and reads of entry `e` with `n` elements: each edge of its words and of its bytes, and what it wrote read back.
+fn edges(r: &mut Random, good: &Good, e: usize, n: u64) -> Vec<Question> {
+    let (count, extent, entry) = (good.words(e, n), good.extent(e, n), e as u32);
+    if count > MOST_WORDS - 3 || extent > MOST_BYTES - 12 {
+        return vec![
+            Question::Write(entry, any_words(r, 2), bytes(r, 9)),
+            Question::Read(entry, any_words(r, 2), bytes(r, 9)),
+        ];
+    }
+    let mut qs = Vec::new();
+    let more = 1 + r.below(9);
+    for length in [extent.saturating_sub(1), extent, extent + 1, extent + 1 + more] {
+        let words = fitting_words(r, good, e, n);
+        qs.push(Question::Write(entry, words, bytes(r, length)));
+    }
+    for wrong in [0, good.words(e, 0), count.saturating_sub(1), count + 1] {
+        qs.push(Question::Write(entry, any_words(r, wrong), bytes(r, extent)));
+    }
+    let halves: Vec<usize> = (0..).zip(good.places(e, n, 0)).filter(|(_, p)| p.width == 2).map(|(k, _)| k).collect();
+    if let (Some(first), Some(last)) = (halves.first(), halves.last()) {
+        for (bad, length) in [(*first, extent), (r.of(&halves), extent + 1), (*last, extent), (*last, extent - 1)] {
+            let mut words = fitting_words(r, good, e, n);
+            words[bad] = r.of(&[65_536, 65_537, u32::MAX]);
+            qs.push(Question::Write(entry, words, bytes(r, length)));
+        }
+    }
+    let reached = if good.laid[e].open { rows::start(good, e) } else { rows::reach(good, e) };
+    for length in [extent.saturating_sub(1), extent, extent + 1, extent + more, reached.saturating_sub(1), reached] {
+        let room = count + r.below(3);
+        qs.push(Question::Read(entry, any_words(r, room), bytes(r, length)));
+    }
+    for room in [0, count.saturating_sub(1), count, count + 2] {
+        qs.push(Question::Read(entry, any_words(r, room), bytes(r, extent)));
+    }
+    let mut buffer = bytes(r, extent + 3);
+    let _ = good.write(e, &fitting_words(r, good, e, n), &mut buffer);
+    qs.push(Question::Read(entry, any_words(r, count + 1), buffer));
+    qs
+}
+
+/// The edges of an entry; of an open one with one element and with some.
+fn all_edges(r: &mut Random, good: &Good, e: usize) -> Vec<Question> {
+    if good.laid[e].open {
+        let some = 2 + r.below(6);
+        [1, some].into_iter().flat_map(|n| edges(r, good, e, n)).collect()
+    } else {
+        edges(r, good, e, 0)
+    }
+}
+
+/// A write or a read with perhaps a wrong number of words, a short buffer, and a word that no f16 has; of a small value mostly.
+fn faulty(r: &mut Random, good: Option<&Good>, entry: u32) -> Question {
+    let (mut words, mut length) = (any_words(r, 3), r.below(20));
+    if let Some(good) = good.filter(|g| (entry as usize) < g.laid.len()) {
+        let e = entry as usize;
+        let n = if good.laid[e].open { r.of(&[0, 1, 1, 2, 3, 7]) } else { 0 };
+        let (most_words, most_bytes) = if r.one_in(40) { (MOST_WORDS, MOST_BYTES) } else { (FEW_WORDS, FEW_BYTES) };
+        if good.words(e, n) <= most_words {
+            words = fitting_words(r, good, e, n);
+        }
+        if good.extent(e, n) <= most_bytes {
+            length = good.extent(e, n);
+        }
+    }
+    if r.one_in(4) {
+        let count = r.below(words.len() as u64 + 2) as usize;
+        words.resize(count, 7);
+    }
+    if r.one_in(4) {
+        let (less, more) = (r.below(length + 1), (length + r.below(9)).min(MOST_BYTES));
+        length = r.of(&[length.saturating_sub(1), less, more]);
+    }
+    if r.one_in(4) && !words.is_empty() {
+        let k = r.below(words.len() as u64) as usize;
+        words[k] = r.of(&[65_536, u32::MAX]);
+    }
+    let buffer = bytes(r, length);
+    if r.one_in(2) { Question::Write(entry, words, buffer) } else { Question::Read(entry, words, buffer) }
+}
+
 /// `n` questions of any sort; now and then an entry that is not there.
 pub fn some(r: &mut Random, t: &Table, n: usize) -> Vec<Question> {
     let types = t.entries.len().max(1) as u64;
+    let good = model::check(&t.write(&[])).ok();
     let mut qs = Vec::new();
     for _ in 0..n {
         let e = |r: &mut Random| {
@@ -125,7 +243,7 @@ pub fn some(r: &mut Random, t: &Table, n: usize) -> Vec<Question> {
             if r.one_in(40) { past } else { r.below(types) as u32 }
         };
         let top = (types - 1) as u32;
-        qs.push(match r.below(9) {
+        qs.push(match r.below(12) {
             0 => Question::Check,
             1 => Question::Size(e(r)),
             2 => Question::Align(e(r)),
@@ -133,9 +251,14 @@ pub fn some(r: &mut Random, t: &Table, n: usize) -> Vec<Question> {
             4 => Question::Layout(e(r)),
             5 => Question::Layout(top),
             6 | 7 => Question::Rank(e(r), e(r)),
-            _ => {
+            8 => {
                 let many = r.of(&[0, 1, 2, 2, 3, 3, 4, 9]);
                 Question::Common((0..many).map(|_| e(r)).collect())
+            }
+            9 => faulty(r, good.as_ref(), top),
+            _ => {
+                let entry = e(r);
+                faulty(r, good.as_ref(), entry)
             }
         });
     }
@@ -184,7 +307,10 @@ fn random_choice(r: &mut Random, t: &Table, laid: &[Laid]) -> Choice {
         }
         _ => {
             let n = 1 + r.below(4);
-            let ms = (0..n).map(|_| lower(r)).collect::<Vec<_>>();
+            let mut ms = (0..n).map(|_| lower(r)).collect::<Vec<_>>();
+            // often one that ends in a runtime array
+            let last = t.entries.iter().rposition(|e| e.kind == 10).filter(|_| r.one_in(3));
+            ms.extend(last.map(|e| e as u16));
             structure(t, ms.into_iter().map(|ty| random_member(r, laid, ty)).collect())
         }
     }
@@ -241,6 +367,47 @@ fn worked() -> Vec<Table> {
         table(&[scalar(2), scalar(3), over(7, 0, 4, 1, 0), over(10, 0, 0, 2, 0), of(vec![plain(0), plain(3)])]),
         table(&(0..7).map(scalar).collect::<Vec<_>>()),
         table(&[scalar(3), over(7, 0, 3, 0, 0), of(vec![plain(0), plain(1)])]),
+        table(&[scalar(3), over(7, 0, 3, 0, 0), of(vec![plain(1)]), over(9, 0, 0, 2, 2), of(vec![plain(3)])]),
+        table(&[scalar(1), scalar(2), over(11, 0, 0, 0, 0), over(11, 0, 0, 1, 0), of(vec![plain(2), plain(3)])]),
+        table(&[scalar(4), over(10, 0, 0, 0, 0), of(vec![plain(0), member(1, None, Some(4))])]),
+        table(&[scalar(4), of(vec![member(0, None, Some(4))]), over(9, 0, 0, 1, 2), over(10, 0, 0, 1, 0)]),
+        table(&[scalar(2), of(vec![member(0, None, Some(1 << 31))]), over(10, 0, 0, 1, 0), of(vec![plain(2)])]),
+        table(&[
+            scalar(0),
+            over(7, 0, 2, 0, 0),
+            over(9, 0, 0, 0, 2),
+            over(9, 0, 0, 1, 2),
+            of(vec![plain(0), plain(1)]),
+        ]),
+        table(&[scalar(6), over(7, 0, 4, 0, 0), over(8, 2, 2, 0, 0), over(9, 0, 0, 1, 2), over(9, 0, 0, 2, 2)]),
+    ]
+}
+
+/// Values of many words.
+fn long() -> Vec<Table> {
+    let over = |kind, columns, rows, reference, count| (entry(kind, columns, rows, reference, count), vec![]);
+    let of = |ms: Vec<Member>| (entry(12, 0, 0, 0, 0), ms);
+    let plain = |ty| member(ty, None, None);
+    vec![
+        table(&[scalar(2), over(9, 0, 0, 0, 1000)]),
+        table(&[scalar(4), over(9, 0, 0, 0, 1000)]),
+        table(&[scalar(3), over(7, 0, 4, 0, 0), over(9, 0, 0, 1, 250)]),
+        table(&[scalar(4), over(7, 0, 3, 0, 0), over(9, 0, 0, 1, 300)]),
+        table(&[scalar(3), over(8, 3, 3, 0, 0), over(9, 0, 0, 1, 80)]),
+        table(&[
+            scalar(2),
+            scalar(3),
+            over(7, 0, 3, 1, 0),
+            of(vec![plain(0), plain(2), plain(1)]),
+            over(9, 0, 0, 3, 120),
+        ]),
+        table(&[
+            scalar(4),
+            over(8, 4, 3, 0, 0),
+            of(vec![plain(0), plain(1)]),
+            over(9, 0, 0, 2, 9),
+            over(9, 0, 0, 3, 8),
+        ]),
     ]
 }
 
@@ -380,6 +547,10 @@ pub fn damaged_file(r: &mut Random, file: &[u8]) -> Vec<u8> {
 pub struct Plan {
     /// all tables over the menu of at most so many entries
     pub small: usize,
+    /// of those tables, in which the last entry's edges are asked about: one of so many
+    pub edges: u64,
+    /// tables of values of many words
+    pub long: usize,
     pub random: usize,
     /// questions on each table at the limits
     pub limits: usize,
@@ -392,18 +563,34 @@ pub struct Plan {
 pub fn blocks(seed: u64, plan: &Plan, mut each: impl FnMut(Block)) {
     let mut r = Random(seed);
     for t in worked() {
-        each(Block { file: t.write(&[]), questions: everything(&t) });
+        let mut questions = everything(&t);
+        if let Ok(good) = model::check(&t.write(&[])) {
+            questions.extend((0..t.entries.len()).flat_map(|e| all_edges(&mut r, &good, e)));
+        }
+        each(Block { file: t.write(&[]), questions });
+    }
+    for t in long().into_iter().take(plan.long) {
+        let good = model::check(&t.write(&[])).ok().expect("an accepted table");
+        let questions = edges(&mut r, &good, t.entries.len() - 1, 0);
+        each(Block { file: t.write(&[]), questions });
     }
     for file in trailers() {
-        each(Block { file, questions: vec![Question::Check, Question::Size(0)] });
+        let mut questions = vec![Question::Check, Question::Size(0)];
+        questions.extend([Question::Write(0, vec![1], vec![2; 5]), Question::Read(0, vec![1, 2], vec![3; 5])]);
+        each(Block { file, questions });
     }
     for t in small(plan.small) {
-        each(Block { file: t.write(&[]), questions: everything(&t) });
+        let mut questions = everything(&t);
+        if r.one_in(plan.edges) {
+            let good = model::check(&t.write(&[])).ok().expect("an accepted table");
+            questions.extend(all_edges(&mut r, &good, t.entries.len() - 1));
+        }
+        each(Block { file: t.write(&[]), questions });
     }
     for i in 0..plan.random {
         let types = 1 + r.below(if i % 16 == 0 { 40 } else { 9 }) as usize;
         let t = random(&mut r, types, 60);
-        each(Block { file: file(&mut r, &t), questions: some(&mut r, &t, 12) });
+        each(Block { file: file(&mut r, &t), questions: some(&mut r, &t, 16) });
     }
     for t in at_limits() {
         each(Block { file: t.write(&[]), questions: some(&mut r, &t, plan.limits) });
@@ -416,8 +603,8 @@ pub fn blocks(seed: u64, plan: &Plan, mut each: impl FnMut(Block)) {
         let types = 1 + r.below(7) as usize;
         let t = random(&mut r, types, 12);
         let d = damaged_table(&mut r, &t);
-        each(Block { file: file(&mut r, &d), questions: some(&mut r, &d, 3) });
+        each(Block { file: file(&mut r, &d), questions: some(&mut r, &d, 4) });
         let b = file(&mut r, &t);
-        each(Block { file: damaged_file(&mut r, &b), questions: some(&mut r, &t, 2) });
+        each(Block { file: damaged_file(&mut r, &b), questions: some(&mut r, &t, 3) });
     }
 }

@@ -1,13 +1,7 @@
 //! The oracle: what wgsl-types 0.3.2 answers, beside what Lepugaso answers (oracle/README.md).
-mod compare;
-mod file;
-mod generate;
-mod model;
-mod question;
-mod rows;
-mod types;
-
 use std::io::Read;
+
+use oracle::{compare, types};
 
 fn main() {
     types::quiet();

@@ -1,8 +1,8 @@
 //! Document 01's rules, written from its text: which file is refused, with what number and place, and what the calls answer. It decides
 //! where Lepugaso and the Rust may differ (the rows of docs/DIFFERENCES.md), and what Lepugaso has to say there.
 use crate::file::{Entry, Member, Table};
-use crate::question::Question;
-use crate::rows::Row;
+use crate::question::{Answer, Question, with_buffer, with_words};
+use crate::rows::{self, Row};
 
 const LIMIT: u64 = 4_294_967_295;
 
@@ -13,6 +13,18 @@ pub struct Laid {
     pub align: Option<u64>,
     pub stride: Option<u64>,
     pub open: bool,
+    /// the runtime array that it is or ends in
+    pub tail: Option<Tail>,
+    /// its scalars, those of a runtime array not counted
+    pub words: u64,
+    pub holds_bool: bool,
+}
+
+#[derive(Clone, Copy)]
+pub struct Tail {
+    pub offset: u64,
+    pub stride: u64,
+    pub element: usize,
 }
 
 pub struct Refusal {
@@ -31,11 +43,12 @@ fn scalar(kind: u8) -> Laid {
         4 => Some(2),
         _ => None,
     };
-    plain(n, n)
+    plain(n, n, 1, kind)
 }
 
-fn plain(size: Option<u64>, align: Option<u64>) -> Laid {
-    Laid { size, align, stride: None, open: false }
+/// A type of so many scalars of one kind.
+fn plain(size: Option<u64>, align: Option<u64>, words: u64, kind: u8) -> Laid {
+    Laid { size, align, stride: None, open: false, tail: None, words, holds_bool: kind == 0 }
 }
 
 /// Size and alignment of a vector of `n` over the scalar of kind `kind`.
@@ -47,29 +60,56 @@ fn vector(n: u64, kind: u8) -> Laid {
         (3, _) => None,
         _ => size,
     };
-    plain(size, align)
+    plain(size, align, n, kind)
 }
 
-fn array(count: Option<u64>, element: Laid) -> Laid {
-    let stride = element.align.zip(element.size).map(|(a, s)| up(a, s));
-    let size = count.zip(stride).map(|(n, s)| n * s);
-    Laid { size, align: element.align, stride, open: count.is_none() }
+fn array(count: Option<u64>, element: usize, l: Laid) -> Laid {
+    let stride = l.align.zip(l.size).map(|(a, s)| up(a, s));
+    Laid {
+        size: count.zip(stride).map(|(n, s)| n * s),
+        align: l.align,
+        stride,
+        open: count.is_none(),
+        tail: stride.filter(|_| count.is_none()).map(|stride| Tail { offset: 0, stride, element }),
+        words: count.unwrap_or(0).saturating_mul(l.words),
+        holds_bool: l.holds_bool,
+    }
 }
 
-/// The members of a struct: the largest alignment, the end of the last (none if open), and the largest number on the way.
-fn members(laid: &[Laid], ms: &[Member]) -> (u64, Option<u64>, u64) {
-    let (mut align, mut end, mut largest) = (0, Some(0), 0);
+/// A member of a struct: its alignment, and where it begins and ends (nowhere if it is a runtime array).
+pub struct Placed {
+    pub align: u64,
+    pub offset: u64,
+    pub end: Option<u64>,
+}
+
+pub fn members(laid: &[Laid], ms: &[Member]) -> Vec<Placed> {
+    let mut placed: Vec<Placed> = Vec::new();
     for m in ms {
         let l = laid[m.ty as usize];
-        let a = if m.flags & 2 != 0 { Some(m.align as u64) } else { l.align };
-        let s = if m.flags & 1 != 0 { Some(m.size as u64) } else { l.size };
-        let a = a.expect("a member has an alignment");
-        let offset = up(a, end.expect("only the last is open"));
-        end = s.map(|s| offset + s);
-        align = align.max(a);
-        largest = largest.max(offset).max(end.unwrap_or(0));
+        let align = if m.flags & 2 != 0 { Some(m.align as u64) } else { l.align };
+        let size = if m.flags & 1 != 0 { Some(m.size as u64) } else { l.size };
+        let align = align.expect("a member has an alignment");
+        let before = placed.last().map_or(0, |p| p.end.expect("only the last is open"));
+        let offset = up(align, before);
+        placed.push(Placed { align, offset, end: size.map(|s| offset + s) });
     }
-    (align, end, largest)
+    placed
+}
+
+fn structure(laid: &[Laid], ms: &[Member], placed: &[Placed]) -> Laid {
+    let align = placed.iter().map(|p| p.align).max().expect("a member");
+    let (last, ty) = (placed.last().expect("a member"), ms.last().expect("a member").ty);
+    let of = |m: &Member| laid[m.ty as usize];
+    Laid {
+        size: last.end.map(|n| up(align, n)),
+        align: Some(align),
+        stride: None,
+        open: last.end.is_none(),
+        tail: laid[ty as usize].tail.filter(|_| last.end.is_none()).map(|t| Tail { offset: last.offset, ..t }),
+        words: ms.iter().fold(0, |n, m| n.saturating_add(of(m).words)),
+        holds_bool: ms.iter().any(|m| of(m).holds_bool),
+    }
 }
 
 /// Entry `k`, given the ones below it.
@@ -90,17 +130,19 @@ pub fn lay(table: &Table, laid: &[Laid], k: usize) -> Result<Laid, Refusal> {
         7 => vector(e.rows as u64, below(e.reference)),
         8 => {
             let column = vector(e.rows as u64, below(e.reference)).align;
-            plain(column.map(|a| e.columns as u64 * a), column)
+            let size = column.map(|a| e.columns as u64 * a);
+            plain(size, column, e.columns as u64 * e.rows as u64, below(e.reference))
         }
-        9 => array(Some(e.count as u64), laid[e.reference as usize]),
-        10 => array(None, laid[e.reference as usize]),
-        11 => plain(Some(4), Some(4)),
+        9 => array(Some(e.count as u64), e.reference as usize, laid[e.reference as usize]),
+        10 => array(None, e.reference as usize, laid[e.reference as usize]),
+        11 => plain(Some(4), Some(4), 1, below(e.reference)),
         _ => {
-            let (align, end, largest) = members(laid, table.members_of(&e).unwrap());
-            if largest > LIMIT {
+            let ms = table.members_of(&e).unwrap();
+            let placed = members(laid, ms);
+            if placed.iter().any(|p| p.offset.max(p.end.unwrap_or(0)) > LIMIT) {
                 return refuse(7, Row::TooLarge);
             }
-            Laid { size: end.map(|n| up(align, n)), align: Some(align), stride: None, open: end.is_none() }
+            structure(laid, ms, &placed)
         }
     };
     let numbers = [l.size, l.align, l.stride];
@@ -194,14 +236,138 @@ fn given(table: &Table, laid: &[Laid], m: &Member) -> Option<Row> {
     None
 }
 
-/// A file as 01 sees it: its table with every entry laid out, or its refusal.
-pub fn check(bytes: &[u8]) -> Result<(Table, Vec<Laid>), Refusal> {
+/// A table that 01 accepts, with every entry laid out.
+pub struct Good {
+    pub table: Table,
+    pub laid: Vec<Laid>,
+}
+
+/// A file as 01 sees it: its table, or its refusal.
+pub fn check(bytes: &[u8]) -> Result<Good, Refusal> {
     let table = Table::read(bytes).map_err(|number| Refusal { number, place: 0, row: Row::NoTable })?;
     let mut laid = Vec::new();
     for k in 0..table.entries.len() {
         laid.push(lay(&table, &laid, k)?);
     }
-    Ok((table, laid))
+    Ok(Good { table, laid })
+}
+
+/// Where a word lies, and in how many bytes.
+#[derive(Clone, Copy)]
+pub struct Place {
+    pub at: u64,
+    pub width: u64,
+}
+
+impl Good {
+    /// "A type has a layout if it has an alignment and is open or has a size."
+    fn has_layout(&self, e: usize) -> bool {
+        let l = &self.laid[e];
+        l.align.is_some() && (l.open || l.size.is_some())
+    }
+
+    /// The scalars of a type, with `n` elements if it is open.
+    pub fn words(&self, e: usize, n: u64) -> u64 {
+        let one = self.laid[e].tail.map_or(0, |t| self.laid[t.element].words);
+        self.laid[e].words.saturating_add(n.saturating_mul(one))
+    }
+
+    /// What writing fills: "the size (open: array offset + elements x stride, no padding after)". 0 without a layout.
+    pub fn extent(&self, e: usize, n: u64) -> u64 {
+        let l = &self.laid[e];
+        l.tail.map_or(l.size.unwrap_or(0), |t| t.offset + n * t.stride)
+    }
+
+    /// The elements of a type that has so many words; none where it has another number of them.
+    pub fn elements(&self, e: usize, words: u64) -> Option<u64> {
+        let l = &self.laid[e];
+        match l.tail {
+            None => (words == l.words).then_some(0),
+            Some(t) => {
+                let (more, one) = (words.checked_sub(l.words)?, self.laid[t.element].words);
+                (more % one == 0).then_some(more / one)
+            }
+        }
+    }
+
+    /// "Its words are its scalars in order of offset": their places, where the type begins at `at`.
+    pub fn places(&self, e: usize, n: u64, at: u64) -> Vec<Place> {
+        let x = self.table.entries[e];
+        let (l, r) = (&self.laid[e], x.reference as usize);
+        let run = |count: u64, of: usize, at: u64| {
+            let width = self.laid[of].size.unwrap_or(0);
+            (0..count).map(move |i| Place { at: at + i * width, width })
+        };
+        match x.kind {
+            0..=6 => run(1, e, at).collect(),
+            7 => run(x.rows as u64, r, at).collect(),
+            8 => (0..x.columns as u64).flat_map(|c| run(x.rows as u64, r, at + c * l.align.unwrap_or(0))).collect(),
+            9 | 10 => {
+                let count = if x.kind == 9 { x.count as u64 } else { n };
+                (0..count).flat_map(|i| self.places(r, n, at + i * l.stride.unwrap_or(0))).collect()
+            }
+            11 => run(1, r, at).collect(),
+            _ => {
+                let ms = self.table.members_of(&x).expect("members within the table");
+                let placed = members(&self.laid, ms);
+                ms.iter().zip(&placed).flat_map(|(m, p)| self.places(m.ty as usize, n, at + p.offset)).collect()
+            }
+        }
+    }
+
+    /// 17, 9, 10, for a buffer of so many bytes.
+    fn stored(&self, e: usize, length: u64) -> Result<(), (u32, u64)> {
+        match () {
+            _ if length > LIMIT => Err((17, 0)),
+            _ if !self.has_layout(e) => Err((9, 0)),
+            _ if self.laid[e].holds_bool => Err((10, 0)),
+            _ => Ok(()),
+        }
+    }
+
+    /// Writing words: then 14, 15, 16.
+    pub fn write(&self, e: usize, words: &[u32], buffer: &mut [u8]) -> Answer {
+        self.stored(e, buffer.len() as u64)?;
+        let n = self.elements(e, words.len() as u64).filter(|n| !self.laid[e].open || *n > 0).ok_or((14, 0))?;
+        let extent = self.extent(e, n);
+        if (buffer.len() as u64) < extent {
+            return Err((15, 0));
+        }
+        let places = self.places(e, n, 0);
+        if let Some(k) = places.iter().zip(words).position(|(p, w)| p.width == 2 && *w > 65_535) {
+            return Err((16, k as u64));
+        }
+        buffer[..extent as usize].fill(0);
+        for (p, w) in places.iter().zip(words) {
+            buffer[p.at as usize..(p.at + p.width) as usize].copy_from_slice(&w.to_le_bytes()[..p.width as usize]);
+        }
+        Ok(extent)
+    }
+
+    /// Reading words: then 15, 14. `needed` are the bytes that a type of fixed size needs, `start` is where an open type's array begins.
+    pub fn read(&self, e: usize, needed: u64, start: u64, buffer: &[u8], words: &mut [u32]) -> Answer {
+        let length = buffer.len() as u64;
+        self.stored(e, length)?;
+        let tail = self.laid[e].tail;
+        let n = tail.map_or(0, |t| length.saturating_sub(start) / t.stride);
+        if (tail.is_some() && n == 0) || (tail.is_none() && length < needed) {
+            return Err((15, 0));
+        }
+        let count = self.words(e, n);
+        if (words.len() as u64) < count {
+            return Err((14, 0));
+        }
+        let mut places = self.places(e, n, 0);
+        for p in &mut places[self.laid[e].words as usize..] {
+            p.at = p.at + start - tail.map_or(0, |t| t.offset);
+        }
+        for (p, w) in places.iter().zip(words) {
+            let mut bytes = [0; 4];
+            bytes[..p.width as usize].copy_from_slice(&buffer[p.at as usize..(p.at + p.width) as usize]);
+            *w = u32::from_le_bytes(bytes);
+        }
+        Ok(count)
+    }
 }
 
 fn scalar_rank(a: u8, b: u8) -> Option<u32> {
@@ -241,14 +407,30 @@ pub fn common(t: &Table, list: &[u32]) -> Option<u32> {
     rest.iter().try_fold(*first, |a, b| two(a, *b))
 }
 
-/// What 01 answers, and the row that the question falls under, if any.
-pub fn answer(checked: &Result<(Table, Vec<Laid>), Refusal>, nodes: &[u64], q: &Question) -> (String, Option<Row>) {
-    let (table, laid) = match checked {
+/// What 01 answers, the row that the question falls under, if any, and what the Rust says there, if the row tells.
+pub struct Due {
+    pub says: String,
+    pub row: Option<Row>,
+    pub rust: Option<String>,
+}
+
+/// What a call with a buffer answers where the file or the entry is refused: what was lent is as it was.
+fn unchanged(q: &Question, number: u32, place: u64) -> String {
+    match q {
+        Question::Write(_, _, buffer) => with_buffer(Err((number, place)), buffer),
+        Question::Read(_, words, _) => with_words(Err((number, place)), words),
+        _ => format!("refused {number} at {place}"),
+    }
+}
+
+pub fn answer(checked: &Result<Good, Refusal>, nodes: &[u64], q: &Question) -> Due {
+    let good = match checked {
         Ok(good) => good,
-        Err(r) => return (format!("refused {} at {}", r.number, r.place), Some(r.row)),
+        Err(r) => return Due { says: unchanged(q, r.number, r.place as u64), row: Some(r.row), rust: None },
     };
+    let laid = &good.laid;
     if q.entries().iter().any(|e| *e as usize >= laid.len()) {
-        return ("refused 8 at 0".into(), Some(Row::NoEntry));
+        return Due { says: unchanged(q, 8, 0), row: Some(Row::NoEntry), rust: None };
     }
     let told = |n: Option<u64>, refusal: u32| match n {
         Some(n) => n.to_string(),
@@ -263,13 +445,27 @@ pub fn answer(checked: &Result<(Table, Vec<Laid>), Refusal>, nodes: &[u64], q: &
         Question::Align(e) => told(of(e).align, 9),
         Question::MinSize(e) => told(least(of(e)), 9),
         Question::Layout(e) => format!("{} {} {}", marked(of(e).size), marked(of(e).align), marked(least(of(e)))),
-        Question::Rank(a, b) => told(rank(table, *a, *b).map(u64::from), 18),
-        Question::Common(list) => told(common(table, list).map(u64::from), 18),
+        Question::Rank(a, b) => told(rank(&good.table, *a, *b).map(u64::from), 18),
+        Question::Common(list) => told(common(&good.table, list).map(u64::from), 18),
+        Question::Write(e, words, buffer) => {
+            let mut buffer = buffer.clone();
+            with_buffer(good.write(*e as usize, words, &mut buffer), &buffer)
+        }
+        Question::Read(e, words, buffer) => {
+            let mut words = words.clone();
+            let e = *e as usize;
+            let start = laid[e].tail.map_or(0, |t| t.offset);
+            with_words(good.read(e, laid[e].size.unwrap_or(0), start, buffer, &mut words), &words)
+        }
     };
     let deep = |e: &u32| nodes[*e as usize] > crate::types::MOST;
     let asked_deep = match q {
         Question::Check => nodes.iter().any(|n| *n > crate::types::MOST),
         _ => q.entries().iter().any(deep),
     };
-    (says, asked_deep.then_some(Row::Doubling))
+    if asked_deep {
+        return Due { says, row: Some(Row::Doubling), rust: None };
+    }
+    let (row, rust) = rows::departure(good, q, &says).unzip();
+    Due { says, row, rust }
 }

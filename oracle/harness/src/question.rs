@@ -1,7 +1,7 @@
-//! Questions and their lines (oracle/README.md, version 1).
+//! Questions, their lines and those of their answers (oracle/README.md, version 2).
 
-pub const HEAD: &str = "questions 1";
-pub const ANSWERS_HEAD: &str = "answers 1";
+pub const HEAD: &str = "questions 2";
+pub const ANSWERS_HEAD: &str = "answers 2";
 
 #[derive(Clone)]
 pub enum Question {
@@ -12,6 +12,10 @@ pub enum Question {
     Layout(u32),
     Rank(u32, u32),
     Common(Vec<u32>),
+    /// an entry, the words, and what the buffer holds before
+    Write(u32, Vec<u32>, Vec<u8>),
+    /// an entry, what the words hold before, and the buffer
+    Read(u32, Vec<u32>, Vec<u8>),
 }
 
 /// A file and what is asked of it.
@@ -19,6 +23,17 @@ pub enum Question {
 pub struct Block {
     pub file: Vec<u8>,
     pub questions: Vec<Question>,
+}
+
+/// What a call answers: a number, or a refusal with its place.
+pub type Answer = Result<u64, (u32, u64)>;
+
+fn listed(start: String, numbers: &[u32]) -> String {
+    start + &numbers.iter().map(|n| format!(" {n}")).collect::<String>()
+}
+
+fn hex(bytes: &[u8]) -> String {
+    bytes.iter().map(|b| format!("{b:02x}")).collect()
 }
 
 impl Question {
@@ -30,11 +45,14 @@ impl Question {
             Question::MinSize(e) => format!("min_size {e}"),
             Question::Layout(e) => format!("layout {e}"),
             Question::Rank(a, b) => format!("rank {a} {b}"),
-            Question::Common(list) => list.iter().fold("common".into(), |s, e| format!("{s} {e}")),
+            Question::Common(list) => listed("common".into(), list),
+            Question::Write(e, words, _) => listed(format!("write {e}"), words),
+            Question::Read(e, words, _) => listed(format!("read {e}"), words),
         }
     }
 
-    pub fn parse(line: &str) -> Question {
+    /// The question of a line, about this buffer if it is about one.
+    pub fn parse(line: &str, buffer: &[u8]) -> Question {
         let mut parts = line.split(' ');
         let word = parts.next().unwrap_or("");
         let n: Vec<u32> = parts.map(|p| p.parse().expect("a number")).collect();
@@ -46,6 +64,8 @@ impl Question {
             ("layout", [e]) => Question::Layout(*e),
             ("rank", [a, b]) => Question::Rank(*a, *b),
             ("common", list) => Question::Common(list.to_vec()),
+            ("write", [e, words @ ..]) => Question::Write(*e, words.to_vec(), buffer.to_vec()),
+            ("read", [e, words @ ..]) => Question::Read(*e, words.to_vec(), buffer.to_vec()),
             _ => panic!("not a question: {line}"),
         }
     }
@@ -55,24 +75,46 @@ impl Question {
         match self {
             Question::Check => vec![],
             Question::Size(e) | Question::Align(e) | Question::MinSize(e) | Question::Layout(e) => vec![*e],
+            Question::Write(e, _, _) | Question::Read(e, _, _) => vec![*e],
             Question::Rank(a, b) => vec![*a, *b],
             Question::Common(list) => list.clone(),
+        }
+    }
+
+    /// The buffer that the question is about.
+    pub fn buffer(&self) -> Option<&[u8]> {
+        match self {
+            Question::Write(_, _, buffer) | Question::Read(_, _, buffer) => Some(buffer),
+            _ => None,
         }
     }
 }
 
 pub fn file_line(file: &[u8]) -> String {
-    file.iter().fold("file ".into(), |s, b| format!("{s}{b:02x}"))
+    format!("file {}", hex(file))
 }
 
-pub fn parse_file(hex: &str) -> Vec<u8> {
+pub fn buffer_line(buffer: &[u8]) -> String {
+    format!("buffer {}", hex(buffer)).trim_end().into()
+}
+
+pub fn parse_bytes(hex: &str) -> Vec<u8> {
     let digits: String = hex.split_whitespace().collect();
     (0..digits.len() / 2).map(|i| u8::from_str_radix(&digits[2 * i..2 * i + 2], 16).expect("a byte")).collect()
 }
 
 impl Block {
     pub fn lines(&self) -> String {
-        self.questions.iter().fold(file_line(&self.file) + "\n", |s, q| s + &q.line() + "\n")
+        let mut text = file_line(&self.file) + "\n";
+        let mut held = None;
+        for q in &self.questions {
+            if q.buffer().is_some() && q.buffer() != held {
+                held = q.buffer();
+                text += &(buffer_line(held.unwrap()) + "\n");
+            }
+            text += &(q.line() + "\n");
+        }
+        text
     }
 }
 
@@ -81,11 +123,32 @@ pub fn parse(text: &str) -> Vec<Block> {
     let mut lines = text.lines();
     assert_eq!(lines.next(), Some(HEAD));
     let mut blocks: Vec<Block> = Vec::new();
+    let mut held = Vec::new();
     for line in lines {
-        match line.strip_prefix("file") {
-            Some(hex) => blocks.push(Block { file: parse_file(hex), questions: vec![] }),
-            None => blocks.last_mut().expect("a file first").questions.push(Question::parse(line)),
+        if let Some(hex) = line.strip_prefix("file") {
+            blocks.push(Block { file: parse_bytes(hex), questions: vec![] });
+        } else if let Some(hex) = line.strip_prefix("buffer") {
+            held = parse_bytes(hex);
+        } else {
+            blocks.last_mut().expect("a file first").questions.push(Question::parse(line, &held));
         }
     }
     blocks
+}
+
+fn told(answer: Answer) -> String {
+    match answer {
+        Ok(n) => n.to_string(),
+        Err((number, place)) => format!("refused {number} at {place}"),
+    }
+}
+
+/// What is said of a write: its answer, and what the buffer holds after it.
+pub fn with_buffer(answer: Answer, buffer: &[u8]) -> String {
+    format!("{} {}", told(answer), hex(buffer)).trim_end().into()
+}
+
+/// What is said of a read: its answer, and what the words hold after it.
+pub fn with_words(answer: Answer, words: &[u32]) -> String {
+    listed(told(answer), words)
 }

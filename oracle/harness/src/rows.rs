@@ -1,5 +1,8 @@
-//! The rows of docs/DIFFERENCES.md. `model` decides which of them a question falls under; the document's own examples are read here.
-use crate::question::{Block, Question, parse_file};
+//! The rows of docs/DIFFERENCES.md. `model` decides which of them a question falls under, and asks here what the Rust writes and reads
+//! instead; the document's own examples are read here too.
+use crate::model::{Good, members};
+use crate::question::{Answer, Block, Question, parse_bytes, with_buffer, with_words};
+use crate::types::{NOTHING, PANICS};
 
 macro_rules! rows {
     ($($row:ident = $name:literal),* $(,)?) => {
@@ -37,6 +40,143 @@ rows! {
     TooLarge = "too-large",
     NoEntry = "no-entry",
     Doubling = "doubling",
+    WordCount = "word-count",
+    Vast = "vast",
+    F16Word = "f16-word",
+    NoElement = "no-element",
+    UnsharedVector = "unshared-vector",
+    StructEnd = "struct-end",
+    LastPadding = "last-padding",
+    ArrayStart = "array-start",
+}
+
+/// The Rust writes into a vector of its own: a longer one is not asked for.
+pub const VAST: u64 = 1 << 20;
+
+/// What the Rust makes of a value: its bytes; `None`, which it gives where a type can't be shared; or a panic.
+enum Made {
+    Bytes(Vec<u8>),
+    Nothing,
+    Panic,
+}
+
+/// What the Rust writes for an entry's type, of which there are `n` elements if it is open: no struct's end is padded, but where it is a
+/// member of another, and a vector or a matrix of what can't be shared panics.
+fn made(good: &Good, e: usize, n: u64, words: &mut impl Iterator<Item = u32>) -> Made {
+    let x = good.table.entries[e];
+    let (l, r) = (&good.laid[e], x.reference as usize);
+    let scalar = |w: Option<u32>, of: usize| {
+        let width = good.laid[of].size.unwrap_or(0) as usize;
+        w.expect("as many words as scalars").to_le_bytes()[..width].to_vec()
+    };
+    let unshared = |of: usize| [0, 5, 6].contains(&good.table.entries[of].kind);
+    let mut bytes = Vec::new();
+    match x.kind {
+        0..=6 if unshared(e) => return Made::Nothing,
+        7 | 8 if unshared(r) => return Made::Panic,
+        0..=6 => bytes = scalar(words.next(), e),
+        11 => bytes = scalar(words.next(), r),
+        7 => (0..x.rows).for_each(|_| bytes.extend(scalar(words.next(), r))),
+        8 => {
+            for c in 1..=x.columns as usize {
+                (0..x.rows).for_each(|_| bytes.extend(scalar(words.next(), r)));
+                bytes.resize(c * l.align.expect("a matrix of floats") as usize, 0);
+            }
+        }
+        9 | 10 => {
+            let (Some(stride), Some(size)) = (l.stride, good.laid[r].size) else { return Made::Nothing };
+            for _ in 0..if x.kind == 9 { x.count as u64 } else { n } {
+                match made(good, r, n, words) {
+                    Made::Bytes(element) => bytes.extend(element),
+                    other => return other,
+                }
+                bytes.resize(bytes.len() + (stride - size) as usize, 0);
+            }
+        }
+        _ => {
+            let ms = good.table.members_of(&x).expect("members within the table");
+            for (m, p) in ms.iter().zip(members(&good.laid, ms)) {
+                bytes.resize(bytes.len().next_multiple_of(p.align as usize), 0);
+                let at = bytes.len();
+                match made(good, m.ty as usize, n, words) {
+                    Made::Bytes(member) => bytes.extend(member),
+                    other => return other,
+                }
+                let size = p.end.map_or(good.extent(m.ty as usize, n), |end| end - p.offset);
+                bytes.resize(bytes.len().max(at + size as usize), 0);
+            }
+        }
+    }
+    Made::Bytes(bytes)
+}
+
+/// The first row that holds of a write, and what the Rust says of it; the last of them is that it writes other bytes, if it does.
+fn written(good: &Good, e: usize, words: &[u32], buffer: &[u8]) -> (Row, String) {
+    let l = &good.laid[e];
+    let Some(n) = good.elements(e, words.len() as u64) else { return (Row::WordCount, NOTHING.into()) };
+    if good.extent(e, n) > VAST {
+        return (Row::Vast, NOTHING.into());
+    }
+    if good.places(e, n, 0).iter().zip(words).any(|(p, w)| p.width == 2 && *w > 65_535) {
+        return (Row::F16Word, NOTHING.into());
+    }
+    if l.open && n == 0 {
+        return (Row::NoElement, PANICS.into());
+    }
+    let mut buffer = buffer.to_vec();
+    let answer: Answer = match made(good, e, n, &mut words.iter().copied()) {
+        Made::Panic => return (Row::UnsharedVector, PANICS.into()),
+        Made::Nothing => Err((if l.align.is_none() || (!l.open && l.size.is_none()) { 9 } else { 10 }, 0)),
+        Made::Bytes(bytes) if bytes.len() > buffer.len() => Err((15, 0)),
+        Made::Bytes(bytes) => {
+            buffer[..bytes.len()].copy_from_slice(&bytes);
+            Ok(bytes.len() as u64)
+        }
+    };
+    (Row::StructEnd, with_buffer(answer, &buffer))
+}
+
+/// How many bytes the Rust needs to read a type of fixed size: up to the end of the last column, element or member.
+pub fn reach(good: &Good, e: usize) -> u64 {
+    let x = good.table.entries[e];
+    let (l, below) = (&good.laid[e], good.laid.get(x.reference as usize));
+    let size = l.size.unwrap_or(0);
+    let padding = match (x.kind, below) {
+        (8, Some(s)) => l.align.unwrap_or(0) - x.rows as u64 * s.size.unwrap_or(0),
+        (9, Some(s)) => l.stride.unwrap_or(0) - s.size.unwrap_or(0),
+        (12, _) => {
+            let placed = members(&good.laid, good.table.members_of(&x).expect("members within the table"));
+            placed.last().and_then(|p| p.end).map_or(0, |end| size - end)
+        }
+        _ => 0,
+    };
+    size - padding
+}
+
+/// Where the Rust begins to read an open type's array: where the member before it ends, whatever its alignment.
+pub fn start(good: &Good, e: usize) -> u64 {
+    let x = good.table.entries[e];
+    if x.kind != 12 {
+        return 0;
+    }
+    let placed = members(&good.laid, good.table.members_of(&x).expect("members within the table"));
+    placed.iter().rev().nth(1).and_then(|p| p.end).unwrap_or(0)
+}
+
+/// The row of a write or a read on a table that 01 accepts, of an entry that it has, and what the Rust says of it; none where that is
+/// what 01 says.
+pub fn departure(good: &Good, q: &Question, says: &str) -> Option<(Row, String)> {
+    let (row, said) = match q {
+        Question::Write(e, words, buffer) => written(good, *e as usize, words, buffer),
+        Question::Read(e, words, buffer) => {
+            let (e, mut words) = (*e as usize, words.clone());
+            let answer = good.read(e, reach(good, e), start(good, e), buffer, &mut words);
+            let row = if good.laid[e].open { Row::ArrayStart } else { Row::LastPadding };
+            (row, with_words(answer, &words))
+        }
+        _ => return None,
+    };
+    (said != says).then_some((row, said))
 }
 
 /// A row's smallest input, with what the document says of the two sides.
@@ -47,20 +187,23 @@ pub struct Example {
     pub lepugaso: String,
 }
 
-/// The examples of the document: under a heading `### name` an indented block of a file (its line goes on where the next has
-/// a deeper margin), a question and the two answers.
+/// The examples of the document: under a heading `### name` an indented block of a file, perhaps a buffer (the line of either goes on
+/// where the next has a deeper margin), a question and the two answers.
 pub fn examples(document: &str) -> Vec<Example> {
     let mut examples = Vec::new();
-    let (mut name, mut file, mut question, mut rust) = (String::new(), Vec::new(), None, String::new());
+    let (mut name, mut question, mut rust) = (String::new(), None, String::new());
+    let (mut file, mut buffer) = (Vec::new(), None);
     for line in document.lines() {
         if let Some(heading) = line.strip_prefix("### ") {
             name = heading.trim_matches('`').into();
         }
         let Some(said) = line.strip_prefix("    ").filter(|_| !name.is_empty()) else { continue };
         if let Some(hex) = said.strip_prefix("file ") {
-            file = parse_file(hex);
+            (file, buffer) = (parse_bytes(hex), None);
+        } else if let Some(hex) = said.strip_prefix("buffer") {
+            buffer = Some(parse_bytes(hex));
         } else if let Some(hex) = said.strip_prefix("  ") {
-            file.extend(parse_file(hex));
+            buffer.as_mut().unwrap_or(&mut file).extend(parse_bytes(hex));
         } else if let Some(answer) = said.strip_prefix("Rust: ") {
             rust = answer.into();
         } else if let Some(answer) = said.strip_prefix("Lepugaso: ") {
@@ -72,7 +215,7 @@ pub fn examples(document: &str) -> Vec<Example> {
                 lepugaso: answer.into(),
             });
         } else {
-            question = Some(Question::parse(said));
+            question = Some(Question::parse(said, buffer.as_deref().unwrap_or(&[])));
         }
     }
     examples

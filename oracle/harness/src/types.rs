@@ -2,11 +2,17 @@
 use std::cell::Cell;
 use std::panic::{AssertUnwindSafe, catch_unwind};
 
+use half::f16;
 use wgsl_types::conv::{conversion_rank, convert_all_ty};
+use wgsl_types::inst::{
+    ArrayInstance, AtomicInstance, Instance, LiteralInstance, MatInstance, StructInstance, VecInstance,
+};
 use wgsl_types::ty::{StructMemberType, StructType, Type};
 
 use crate::file::{Entry, Table};
-use crate::question::Question;
+use crate::model::{Good, Refusal};
+use crate::question::{Answer, Question, with_buffer, with_words};
+use crate::rows::VAST;
 
 /// The Rust's types are trees without sharing: a type of more nodes is not built.
 pub const MOST: u64 = 4096;
@@ -111,8 +117,144 @@ fn common(types: &[Option<Type>], list: &[u32]) -> Option<Option<u32>> {
     Some(found.map(number))
 }
 
-/// What the Rust says of a question; `NOTHING` where it has no type to be asked about.
-pub fn answer(types: &[Option<Type>], q: &Question) -> String {
+/// The element of the runtime array that a type is or ends in.
+fn tail(ty: &Type) -> Option<&Type> {
+    match ty {
+        Type::Array(element, None) => Some(element),
+        Type::Struct(s) => match &s.members.last()?.ty {
+            Type::Array(element, None) => Some(element),
+            _ => None,
+        },
+        _ => None,
+    }
+}
+
+/// The scalars of a type, those of a runtime array not counted.
+fn scalars(ty: &Type) -> u64 {
+    match ty {
+        Type::Vec(n, _) => *n as u64,
+        Type::Mat(c, r, _) => *c as u64 * *r as u64,
+        Type::Array(_, None) => 0,
+        Type::Array(element, Some(n)) => scalars(element).saturating_mul(*n as u64),
+        Type::Struct(s) => s.members.iter().fold(0, |n, m| n.saturating_add(scalars(&m.ty))),
+        _ => 1,
+    }
+}
+
+/// How many elements a type has that has so many scalars; none where no number of elements gives so many.
+fn elements(ty: &Type, words: u64) -> Option<u64> {
+    match tail(ty) {
+        None => (words == scalars(ty)).then_some(0),
+        Some(element) => {
+            let more = words.checked_sub(scalars(ty))?;
+            (more % scalars(element) == 0).then_some(more / scalars(element))
+        }
+    }
+}
+
+/// The value of a type that has these words, with `n` elements if it is open; none where an f16 can't have a word's bits.
+pub fn value(ty: &Type, n: u64, words: &mut impl Iterator<Item = u32>) -> Option<Instance> {
+    Some(match ty {
+        Type::Vec(rows, scalar) => VecInstance::new(values(scalar, *rows as u64, n, words)?).into(),
+        Type::Mat(columns, rows, scalar) => {
+            let column = Type::Vec(*rows, scalar.clone());
+            MatInstance::from_cols(values(&column, *columns as u64, n, words)?).into()
+        }
+        Type::Array(element, Some(count)) => {
+            ArrayInstance::new(values(element, *count as u64, n, words)?, false).into()
+        }
+        Type::Array(element, None) => ArrayInstance::new(values(element, n, n, words)?, true).into(),
+        Type::Atomic(scalar) => AtomicInstance::new(value(scalar, n, words)?).into(),
+        Type::Struct(s) => {
+            let members = s.members.iter().map(|m| value(&m.ty, n, words)).collect::<Option<Vec<Instance>>>()?;
+            StructInstance::new((**s).clone(), members).into()
+        }
+        scalar => literal(scalar, words.next().expect("as many words as scalars"))?.into(),
+    })
+}
+
+/// `count` values of a type.
+fn values(ty: &Type, count: u64, n: u64, words: &mut impl Iterator<Item = u32>) -> Option<Vec<Instance>> {
+    (0..count).map(|_| value(ty, n, words)).collect()
+}
+
+fn literal(scalar: &Type, word: u32) -> Option<LiteralInstance> {
+    Some(match scalar {
+        Type::Bool => LiteralInstance::Bool(word != 0),
+        Type::AbstractInt => LiteralInstance::AbstractInt(word as i64),
+        Type::AbstractFloat => LiteralInstance::AbstractFloat(word as f64),
+        Type::I32 => LiteralInstance::I32(word as i32),
+        Type::U32 => LiteralInstance::U32(word),
+        Type::F32 => LiteralInstance::F32(f32::from_bits(word)),
+        Type::F16 => LiteralInstance::F16(f16::from_bits(word.try_into().ok()?)),
+        _ => unreachable!("no scalar"),
+    })
+}
+
+/// The words of a value.
+pub fn words_of(value: &Instance, words: &mut Vec<u32>) {
+    match value {
+        Instance::Literal(LiteralInstance::I32(n)) => words.push(*n as u32),
+        Instance::Literal(LiteralInstance::U32(n)) => words.push(*n),
+        Instance::Literal(LiteralInstance::F32(n)) => words.push(n.to_bits()),
+        Instance::Literal(LiteralInstance::F16(n)) => words.push(n.to_bits() as u32),
+        Instance::Vec(v) => v.iter().for_each(|c| words_of(c, words)),
+        Instance::Mat(m) => m.iter_cols().for_each(|c| words_of(c, words)),
+        Instance::Array(a) => a.iter().for_each(|c| words_of(c, words)),
+        Instance::Atomic(a) => words_of(a.inner(), words),
+        Instance::Struct(s) => s.members.iter().for_each(|m| words_of(m, words)),
+        _ => unreachable!("no buffer gives such a value"),
+    }
+}
+
+fn holds_bool(ty: &Type) -> bool {
+    match ty {
+        Type::Bool => true,
+        Type::Vec(_, inner) | Type::Array(inner, _) => holds_bool(inner),
+        Type::Struct(s) => s.members.iter().any(|m| holds_bool(&m.ty)),
+        _ => false,
+    }
+}
+
+/// What the Rust's `None` means, if the buffer was long enough: the type has no layout by the Rust's own numbers, or holds a bool.
+fn unshared(ty: &Type) -> Option<u32> {
+    let laid = ty.align_of().is_some() && (ty.size_of().is_some() || tail(ty).is_some());
+    if !laid { Some(9) } else { holds_bool(ty).then_some(10) }
+}
+
+/// The Rust's bytes of a value go to the front of the buffer.
+fn write(ty: &Type, n: u64, words: &[u32], buffer: &[u8]) -> Option<String> {
+    let mut buffer = buffer.to_vec();
+    let answer: Answer = match value(ty, n, &mut words.iter().copied())?.to_buffer() {
+        None => Err((unshared(ty).unwrap_or(0), 0)),
+        Some(bytes) if bytes.len() > buffer.len() => Err((15, 0)),
+        Some(bytes) => {
+            buffer[..bytes.len()].copy_from_slice(&bytes);
+            Ok(bytes.len() as u64)
+        }
+    };
+    Some(with_buffer(answer, &buffer))
+}
+
+/// The words of the Rust's value go to the front of the words.
+fn read(ty: &Type, words: &[u32], buffer: &[u8]) -> String {
+    let (mut words, mut found) = (words.to_vec(), Vec::new());
+    let answer: Answer = match Instance::from_buffer(buffer, ty) {
+        None => Err((unshared(ty).unwrap_or(15), 0)),
+        Some(value) => {
+            words_of(&value, &mut found);
+            if found.len() > words.len() { Err((14, 0)) } else { Ok(found.len() as u64) }
+        }
+    };
+    if answer.is_ok() {
+        words[..found.len()].copy_from_slice(&found);
+    }
+    with_words(answer, &words)
+}
+
+/// What the Rust says of a question; `NOTHING` where it has no type, or no value, to be asked about. Buffers are asked about on tables
+/// that 01 accepts.
+pub fn answer(types: &[Option<Type>], checked: &Result<Good, Refusal>, q: &Question) -> String {
     let of = |e: &u32| types.get(*e as usize)?.as_ref();
     let ask = || match q {
         Question::Check => {
@@ -127,6 +269,15 @@ pub fn answer(types: &[Option<Type>], q: &Question) -> String {
         }
         Question::Rank(a, b) => of(a).zip(of(b)).map(|(a, b)| told(conversion_rank(a, b), 18)),
         Question::Common(list) => common(types, list).map(|n| told(n, 18)),
+        Question::Write(e, words, buffer) => {
+            let (good, ty) = checked.as_ref().ok().zip(of(e))?;
+            let n = elements(ty, words.len() as u64)?;
+            if good.extent(*e as usize, n) > VAST { None } else { write(ty, n, words, buffer) }
+        }
+        Question::Read(e, words, buffer) => {
+            let (_, ty) = checked.as_ref().ok().zip(of(e))?;
+            Some(read(ty, words, buffer))
+        }
     };
     ASKING.set(true);
     let said = catch_unwind(AssertUnwindSafe(ask));
