@@ -12,3 +12,6 @@ pub use layout::ask::layout;
 // The rank of one entry's type to another's, and the common type of a list of entries; else 1 to 8, 18.
 pub use convert::ask::common;
 pub use convert::ask::rank;
+// The words of an entry into a buffer (the byte count), and out of one (the word count); else 1 to 10, 14 to 17.
+pub use words::reading::read;
+pub use words::writing::write;

@@ -6,7 +6,7 @@ use layout::ask::Answer;
 use layout::ask::Maybe;
 use layout::ask::Number;
 ghost use mathlib.Core.Path.{_≡_};
-ghost use Rattle.wgsl.specs.Call.{checkOf, sizeCall, alignCall, minSizeCall, layoutCall, rankCall, commonCall};
+ghost use Rattle.wgsl.specs.Call.{checkOf, sizeCall, alignCall, minSizeCall, layoutCall, rankCall, commonCall, answerOf, contentsOf, readCall, writeCall};
 ghost use Rattle.layout.specs.Answer.{saidNumber, maybeOf};
 ghost use Rattle.surface.specs.Crossing.{crossed, crossedMaybe, told, laidOut};
 
@@ -104,4 +104,30 @@ pub extern "C" fn lepugaso_surface_common(file: &[u8], entries: &[u32]) -> Cross
     ensures { λ r. ⌜ r ≡ crossed (commonCall (now (file .entry)) (now (entries .entry))) ⌝ }
 {
     cross(lepugaso::common(file, entries))
+}
+
+#[no_mangle]
+pub extern "C" fn lepugaso_surface_write(
+    file: &[u8],
+    entry: u32,
+    words: &[u32],
+    buf: &mut [u8],
+) -> Crossing
+    ensures answer { λ r. ⌜ r ≡ crossed (answerOf (writeCall (now (file .entry)) entry (now (words .entry)) (now (buf .entry)))) ⌝ }
+    ensures buffer { λ r. ⌜ now (buf .exit) ≡ contentsOf (now (buf .entry)) (writeCall (now (file .entry)) entry (now (words .entry)) (now (buf .entry))) ⌝ }
+{
+    cross(lepugaso::write(file, entry, words, buf))
+}
+
+#[no_mangle]
+pub extern "C" fn lepugaso_surface_read(
+    file: &[u8],
+    entry: u32,
+    buf: &[u8],
+    words: &mut [u32],
+) -> Crossing
+    ensures answer { λ r. ⌜ r ≡ crossed (answerOf (readCall (now (file .entry)) entry (now (buf .entry)) (now (words .entry)))) ⌝ }
+    ensures words { λ r. ⌜ now (words .exit) ≡ contentsOf (now (words .entry)) (readCall (now (file .entry)) entry (now (buf .entry)) (now (words .entry))) ⌝ }
+{
+    cross(lepugaso::read(file, entry, buf, words))
 }
