@@ -1,2 +1,4 @@
 pub mod Zeros
+pub mod Readies
+pub mod Tails
 pub mod Entries
