@@ -8,3 +8,4 @@ pub mod MemberBytes
 pub mod MembersLeft
 pub mod Says
 pub mod Trees
+pub mod Lasts

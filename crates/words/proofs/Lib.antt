@@ -1,4 +1,6 @@
 pub mod Zeros
+pub mod Readies
+pub mod Tails
 pub mod Entries
 pub mod Parts
 pub mod Readings
