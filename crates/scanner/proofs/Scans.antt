@@ -36,7 +36,7 @@ repeated-moved (suc n) stride g at other h =
     ∙ rw (h at other, repeated-moved n stride g (at + stride) (other + stride) h)
     (sym (map-append (λ p. p .width) (g other) (repeated n stride g (other + stride))))
 
-places-moved : (x : Shape) (at other : ℕ) → widths (placesOf x at) ≡ widths (placesOf x other)
+pub places-moved : (x : Shape) (at other : ℕ) → widths (placesOf x at) ≡ widths (placesOf x other)
 unfolding placesOf wordPlaces
 places-moved (one s) at other = refl
 places-moved (parts n stride x) at other = repeated-moved n stride (λ p. placesOf x p) at other (places-moved x)

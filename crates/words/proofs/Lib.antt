@@ -4,3 +4,4 @@ pub mod Tails
 pub mod Entries
 pub mod Parts
 pub mod Readings
+pub mod Writings

@@ -1,11 +1,14 @@
--- Each answer is a law of `Wholes` (crates/decide); that a test does not depend on where the tail begins is one of `Folds`.
-use Prim.Native.Nat.{ℕ, _+_, _≤_}
-use mathlib.Core.Path.{_≡_, sym, ap, _∙_}
+-- Words that the fixed part refuses are refused; else the tail decides (crates/decide, proofs/Wholes). Where the tail begins does not
+-- matter for the test.
+use mathlib.Core.Path.{ap, sym, _∙_}
 use native.Mathlib.Omega.{arith}
-use borrow.Author.Needs.{needs}
-use denote.Ref.{now}
 use Rattle.wgsl.specs.Said.{good}
+use Rattle.runs.specs.Run.{saidScan}
 use Rattle.decide.proofs.Wholes.{fixed-words, whole-words, tested-bad, tested-good}
+use Rattle.folds.proofs.Folds.{tested-widths}
+use Rattle.scanner.proofs.Scans.{places-moved}
+use Rattle.words.proofs.Writings.{nothing-bad}
+use borrow.Author.Needs.{needs}
 use Rattle.words.proofs.writing.scan.Statement.{statement}
 use Rattle.words.proofs.writing.scan.Tie as tie
 
@@ -20,10 +23,16 @@ scan-many-requires c κs =
     (w .rest, w .many, record { words-there = omega (arith, whole-words w) })
 
 returns : tie.Need-returns
-returns c t n w l = ?
+returns c t n w l =
+    let first = c .before .before .before .scan-entry in
+    tested-bad w _ _ l (rw (c .before .k .given .1) at (first .ensures .0 _ (w .tree)))
 
 returns-2 : tie.Need-returns-2
-returns-2 c t n w l = ?
+returns-2 c t n w l =
+    let at = c .before .before in
+    let none = nothing-bad (at .scan-entry .result) (c .before .match .keys2) in
+    tested-good w _ l (none ∙ at .scan-entry .ensures .0 _ (w .tree))
+    (c .scan-many .ensures .0 (w .rest) (w .many) ∙ tested-widths _ _ _ _ _ (places-moved (w .rest) 0 _))
 
 pub scan-spec : {M : Type 1} → statement M
 scan-spec = tie.close (tie.spec scan-entry-requires (λ c. search needs) scan-many-requires returns returns-2)

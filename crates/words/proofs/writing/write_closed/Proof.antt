@@ -1,53 +1,41 @@
+-- By what is found (proofs/Writings).
+use mathlib.Core.Path.{ap, sym, _∙_}
+use native.Mathlib.Omega.{arith}
+use Rattle.wgsl.specs.Call.{answerOf, contentsOf}
+use Rattle.decide.proofs.Wholes.{ready-words, closed-whole}
+use Rattle.words.proofs.Writings.{wrong-words, fixed-extent, few-bytes, all-there}
 use borrow.Author.Needs.{needs}
 use Rattle.words.proofs.writing.write_closed.Statement.{statement}
 use Rattle.words.proofs.writing.write_closed.Tie as tie
-use Rattle.words.proofs.writing.write_closed.Reads as reads
-use Rattle.words.proofs.writing.write_closed.Lts as lts
-use Rattle.decide.proofs.closed_tail.Reads as closed-tail-reads
-use Rattle.file.proofs.trailer.wide.Reads as wide-reads
-use Rattle.words.proofs.writing.write_whole.Reads as write-whole-reads
 
--- src/writing.rt:130:23
-wide-requires : tie.Need-wide-requires
-wide-requires c κs = search needs
-
--- src/writing.rt:131:9
 returns : tie.Need-returns
-returns c = ?
+unfolding answerOf contentsOf
+returns c =
+    (λ t r o. ap answerOf (sym (wrong-words r o _ _ (λ q. omega (arith, q)))), λ t r o. ap (contentsOf _) (sym (wrong-words r o _ _ (λ q. omega (arith, q)))))
 
--- src/writing.rt:133:20
-wide-requires-2 : tie.Need-wide-requires-2
-wide-requires-2 c κs = search needs
-
--- src/writing.rt:134:9
 returns-2 : tie.Need-returns-2
-returns-2 c = ?
+unfolding answerOf contentsOf
+returns-2 c =
+    (λ t r o. ap answerOf (sym (few-bytes r o _ _ (omega arith) (omega arith))), λ t r o. ap (contentsOf _) (sym (few-bytes r o _ _ (omega arith) (omega arith))))
 
--- src/writing.rt:136:35
-closed-tail-requires : tie.Need-closed-tail-requires
-closed-tail-requires c κs = search needs
-
--- src/writing.rt:136:5
 write-whole-requires : tie.Need-write-whole-requires
-write-whole-requires c κs = ?
+write-whole-requires c κs =
+    let tail = c .before in
+    let (t, r, o) = tail .before .before .before .before .before .before .before .before .before .pre in
+    (t, 0, rw (tail .closed-tail .ensures) (closed-whole r), omega (arith, ready-words r), fixed-extent r o, omega arith)
 
--- src/writing.rt:118:1
-same-length : tie.Need-same-length
-same-length c = search needs
-
--- src/writing.rt:118:1
 returns-3 : tie.Need-returns-3
-returns-3 c = ?
+returns-3 c =
+    let whole = c .before .before in
+    let tail = whole .before .before in (
+      λ t r o.
+          whole .write-whole .ensures .0 t 0 (rw (tail .closed-tail .ensures) (closed-whole r)) (omega (arith, ready-words r)) (fixed-extent r o) (omega arith)
+          ∙ ap answerOf (sym (all-there r o _ _ (omega arith) (omega arith))),
+      λ t r o.
+          whole .write-whole .ensures .1 t 0 (rw (tail .closed-tail .ensures) (closed-whole r)) (omega (arith, ready-words r)) (fixed-extent r o) (omega arith)
+          ∙ ap (contentsOf _) (sym (all-there r o _ _ (omega arith) (omega arith))),
+    )
 
 pub write-closed-spec : {M : Type 1} → statement M
 write-closed-spec =
-    tie.close
-    (tie.spec
-    wide-requires
-    returns
-    wide-requires-2
-    returns-2
-    closed-tail-requires
-    write-whole-requires
-    same-length
-    returns-3)
+    tie.close (tie.spec (λ c κs. search needs) returns (λ c κs. search needs) returns-2 (λ c κs. search needs) write-whole-requires (λ c. search needs) returns-3)

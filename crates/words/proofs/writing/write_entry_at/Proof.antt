@@ -1,78 +1,90 @@
+-- What `allow` says decides (crates/decide, proofs/Stored); the entry has what is asked (proofs/Parts). Assumes nothing.
+use Prim.Native.Nat.{_≤_}
+use mathlib.Core.Path.{_≡_, ap, sym, _∙_}
+use mathlib.Core.Bool.{true}
+use denote.Ref.{now}
+use lib.ListN.{length}
+use Rattle.wgsl.specs.Types.{Ty}
+use Rattle.wgsl.specs.Size.{isStorable}
+use Rattle.wgsl.specs.Said.{good, refused}
+use Rattle.wgsl.specs.Call.{answerOf, contentsOf, storedEntry, writeCall}
+use Rattle.file.specs.Refusal.{numberOf, placeOf}
+use Rattle.decide.proofs.Stored.{stored-refused, stored-allowed}
+use Rattle.words.specs.Entry.{Entry}
+use Rattle.words.proofs.Parts.{entry-layout, entry-open, entry-ready, entry-tailed}
+use Rattle.words.proofs.Writings.{write-refused, write-allowed}
 use borrow.Author.Needs.{needs}
 use Rattle.words.proofs.writing.write_entry_at.Statement.{statement}
 use Rattle.words.proofs.writing.write_entry_at.Tie as tie
-use Rattle.words.proofs.writing.write_entry_at.Reads as reads
-use Rattle.words.proofs.writing.write_entry_at.Lts as lts
-use Rattle.decide.proofs.allow.Reads as allow-reads
-use Rattle.words.proofs.writing.write_closed.Reads as write-closed-reads
-use Rattle.words.proofs.writing.write_open.Reads as write-open-reads
 
--- src/writing.rt:204:11
-allow-requires : tie.Need-allow-requires
-allow-requires c κs = search needs
+-- 17, 9 and 10 let it pass
+allowed : {t : Ty} (c : tie.After-enum-told) →
+    let a = c .before .before .before .before .before .before .before .before .args in
+    Entry (now (a .file)) (a .e) (a .g) (now (a .rows)) t → (storedEntry (now (a .file)) (a .e) (now (a .buf)) ≡ good t) × (isStorable t ≡ true) × (length (now (a .buf)) ≤ 4294967295)
+allowed {t} c x =
+    let says = c .before .before .allow .ensures t (entry-layout x) (x .well-formed) in
+    stored-allowed _ _ _ t (x .entry-is) (rw (c .enum-told .given .1) at says)
 
--- src/writing.rt:205:26
-enum-known-r : tie.Need-enum-known-r
-enum-known-r c = search needs
+-- or one of them stops it
+stopped : {t : Ty} (c : tie.After-r) →
+    let a = c .before .before .before .before .before .before .before .before .args in
+    let r = c .r .given .0 .0 in
+    Entry (now (a .file)) (a .e) (a .g) (now (a .rows)) t → writeCall (now (a .file)) (a .e) (now (a .words)) (now (a .buf)) ≡ refused (numberOf r) (placeOf r)
+stopped {t} c x =
+    let says = c .before .before .allow .ensures t (entry-layout x) (x .well-formed) in
+    write-refused _ _ _ _ (stored-refused _ _ _ t (x .entry-is) (rw (c .r .given .1) at says))
 
--- src/writing.rt:207:17
-enum-told : tie.Need-enum-told
-enum-told c = search needs
-
--- src/writing.rt:209:27
-sub-members : tie.Need-sub-members
-sub-members c = search needs
-
--- src/writing.rt:209:27
-part-members-start : tie.Need-part-members-start
-part-members-start c = search needs
-
--- src/writing.rt:209:27
-part-members-end : tie.Need-part-members-end
-part-members-end c = search needs
-
--- src/writing.rt:211:17
 write-open-requires : tie.Need-write-open-requires
-write-open-requires c κs = ?
+write-open-requires c κs =
+    let then1 = c .before in
+    let told = then1 .before .before in
+    let pre = told .before .before .before .before .before .before .before .before .pre in
+    let s = allowed told (pre .1) in
+    (pre .0, entry-tailed (pre .1) (s .1) (entry-open (pre .1) (then1 .if1 .taken)), s .2)
 
--- src/writing.rt:211:17
-same-length : tie.Need-same-length
-same-length c = search needs
-
--- src/writing.rt:211:17
 returns : tie.Need-returns
-returns c = ?
+returns c =
+    let write = c .before .before in
+    let then1 = write .before .before in
+    let told = then1 .before .before in (
+      λ t x.
+          write .write-open .ensures .0 t (entry-tailed x (allowed told x .1) (entry-open x (then1 .if1 .taken)))
+          ∙ ap answerOf (sym (write-allowed _ _ _ _ (allowed told x .0))),
+      λ t x.
+          write .write-open .ensures .1 t (entry-tailed x (allowed told x .1) (entry-open x (then1 .if1 .taken)))
+          ∙ ap (contentsOf _) (sym (write-allowed _ _ _ _ (allowed told x .0))),
+    )
 
--- src/writing.rt:213:13
 write-closed-requires : tie.Need-write-closed-requires
-write-closed-requires c κs = ?
+write-closed-requires c κs =
+    let else1 = c .before in
+    let told = else1 .before .before in
+    let pre = told .before .before .before .before .before .before .before .before .pre in
+    let s = allowed told (pre .1) in
+    (pre .0, entry-ready (pre .1) (s .1), entry-open (pre .1) (else1 .if1 .left))
 
--- src/writing.rt:191:1
 returns-2 : tie.Need-returns-2
-returns-2 c = ?
+unfolding answerOf contentsOf
+returns-2 c =
+    let r = c .before in
+    (λ t x. ap answerOf (sym (stopped r x)), λ t x. ap (contentsOf _) (sym (stopped r x)))
 
--- src/writing.rt:191:1
-same-length-2 : tie.Need-same-length-2
-same-length-2 c = search needs
-
--- src/writing.rt:191:1
 returns-3 : tie.Need-returns-3
-returns-3 c = ?
+returns-3 c =
+    let write = c .before .before in
+    let else1 = write .before .before in
+    let told = else1 .before .before in (
+      λ t x.
+          write .write-closed .ensures .0 t (entry-ready x (allowed told x .1)) (entry-open x (else1 .if1 .left))
+          ∙ ap answerOf (sym (write-allowed _ _ _ _ (allowed told x .0))),
+      λ t x.
+          write .write-closed .ensures .1 t (entry-ready x (allowed told x .1)) (entry-open x (else1 .if1 .left))
+          ∙ ap (contentsOf _) (sym (write-allowed _ _ _ _ (allowed told x .0))),
+    )
 
 pub write-entry-at-spec : {M : Type 1} → statement M
 write-entry-at-spec =
-    tie.close
-    (tie.spec
-    allow-requires
-    enum-known-r
-    enum-told
-    sub-members
-    part-members-start
-    part-members-end
-    write-open-requires
-    same-length
-    returns
-    write-closed-requires
-    returns-2
-    same-length-2
-    returns-3)
+    tie.close (tie.spec
+    (λ c κs. search needs) (λ c. search needs) (λ c. search needs) (λ c. search needs) (λ c. search needs)
+    (λ c. search needs) write-open-requires (λ c. search needs) returns write-closed-requires returns-2
+    (λ c. search needs) returns-3)

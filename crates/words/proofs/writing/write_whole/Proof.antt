@@ -1,59 +1,45 @@
+-- By what the scan says (crates/decide, proofs/Calls).
+use mathlib.Core.Path.{ap, sym, _∙_}
+use native.Mathlib.Omega.{arith}
+use Rattle.wgsl.specs.Said.{good}
+use Rattle.wgsl.specs.Call.{answerOf, contentsOf}
+use Rattle.decide.proofs.Calls.{stored-bad, stored-done}
 use borrow.Author.Needs.{needs}
 use Rattle.words.proofs.writing.write_whole.Statement.{statement}
 use Rattle.words.proofs.writing.write_whole.Tie as tie
-use Rattle.words.proofs.writing.write_whole.Reads as reads
-use Rattle.words.proofs.writing.write_whole.Lts as lts
-use Rattle.decide.proofs.fit.Reads as fit-reads
-use Rattle.file.proofs.trailer.wide.Reads as wide-reads
-use Rattle.words.proofs.writing.scan.Reads as scan-reads
-use Rattle.words.proofs.writing.store.Reads as store-reads
 
--- src/writing.rt:108:15
-scan-requires : tie.Need-scan-requires
-scan-requires c κs = search needs
-
--- src/writing.rt:108:11
-fit-requires : tie.Need-fit-requires
-fit-requires c κs = search needs
-
--- src/writing.rt:109:26
-enum-known-r : tie.Need-enum-known-r
-enum-known-r c = search needs
-
--- src/writing.rt:111:40
-enum-told : tie.Need-enum-told
-enum-told c = search needs
-
--- src/writing.rt:111:40
-wide-requires : tie.Need-wide-requires
-wide-requires c κs = search needs
-
--- src/writing.rt:111:13
 store-requires : tie.Need-store-requires
-store-requires c κs = ?
+store-requires c κs =
+    let wide = c .before in
+    let pre = wide .before .before .before .before .before .before .before .before .before .pre in
+    let (t, n, w, l, is, room) = pre in
+    (t, n, w, l, wide .wide .ensures .0 ∙ is, omega (arith, wide .wide .ensures .0, room))
 
--- src/writing.rt:95:1
 returns : tie.Need-returns
-returns c = ?
+unfolding answerOf contentsOf
+returns c =
+    let r = c .before in
+    let fit = r .before .before in
+    let bad = rw (r .r .given .1) at (fit .fit .ensures) in (
+      λ t n w l is room. ap answerOf (sym (stored-bad n t _ _ (bad ∙ fit .before .scan .ensures t n w l))),
+      λ t n w l is room. ap (contentsOf _) (sym (stored-bad n t _ _ (bad ∙ fit .before .scan .ensures t n w l))),
+    )
 
--- src/writing.rt:95:1
-same-length : tie.Need-same-length
-same-length c = search needs
-
--- src/writing.rt:95:1
 returns-2 : tie.Need-returns-2
-returns-2 c = ?
+unfolding answerOf contentsOf
+returns-2 c =
+    let store = c .before .before in
+    let wide = store .before .before in
+    let told = wide .before in
+    let fit = told .before .before in
+    let fine = rw (told .enum-told .given .1) at (fit .fit .ensures) in (
+      λ t n w l is room.
+          ap good is ∙ ap answerOf (sym (stored-done n t _ _ (fine ∙ fit .before .scan .ensures t n w l))),
+      λ t n w l is room.
+          store .store .ensures t n w l (wide .wide .ensures .0 ∙ is) (omega (arith, wide .wide .ensures .0, room))
+          ∙ ap (contentsOf _) (sym (stored-done n t _ _ (fine ∙ fit .before .scan .ensures t n w l))),
+    )
 
 pub write-whole-spec : {M : Type 1} → statement M
 write-whole-spec =
-    tie.close
-    (tie.spec
-    scan-requires
-    fit-requires
-    enum-known-r
-    enum-told
-    wide-requires
-    store-requires
-    returns
-    same-length
-    returns-2)
+    tie.close (tie.spec (λ c κs. search needs) (λ c κs. search needs) (λ c. search needs) (λ c. search needs) (λ c κs. search needs) store-requires returns (λ c. search needs) returns-2)

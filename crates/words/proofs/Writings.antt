@@ -1,0 +1,99 @@
+-- Writing (crates/wgsl, specs/Call) by what the code finds: the laws of crates/decide (proofs/Calls), over the numbers of a layout.
+--
+-- In order: once the entry is decided; a scan's answer; both parts stored; a type of fixed size; an open type.
+-- Assumes nothing.
+use Prim.Native.Nat.{ℕ, _<_, _≤_}
+use mathlib.Core.Bool.{Bool, true, false}
+use mathlib.Core.List.{List, [], _∷_, _++_}
+use mathlib.Core.Path.{_≡_, refl, ap, sym, _∙_}
+use native.Mathlib.Omega.{arith}
+use borrow.Author.Tests.{eqb-true, eqb-false}
+use types.Run.{OneOf, miss}
+use denote.Enum.Declared.{tagOf}
+use lib.Dec.{eqb}
+use lib.ListN.{length, drop, replicate}
+use Rattle.wgsl.specs.Types.{Ty, isOpen}
+use Rattle.wgsl.specs.Said.{Said, good, refused}
+use Rattle.wgsl.specs.Place.{extentOf, shapeOf, placesOf, wordCount, written}
+use Rattle.wgsl.specs.Call.{storedEntry, writeCall}
+use Rattle.wgsl.proofs.Said.{then-is, then-refused}
+use Rattle.wgsl.proofs.Opened.{opened-extent}
+use Rattle.wgsl.proofs.Tail.{closed-extent}
+use Rattle.kinds.specs.declared.value.Layout.{Layout}
+use Rattle.runs.specs.declared.Scan.{Scan}
+use Rattle.runs.specs.declared.Scan.the-variants.{Any, Fine, Bad}
+use Rattle.runs.proofs.Scan as scan
+use Rattle.runs.specs.Run.{saidScan}
+use Rattle.folds.specs.Fold.{overPlaces, storing}
+use Rattle.rows.specs.Row.{rowAt}
+use Rattle.decide.specs.declared.Tail.{Tail}
+use Rattle.decide.specs.declared.Found.the-variants.{Is, No}
+use Rattle.decide.specs.Decide.{runtimeRow, elementsOf, extentFor}
+use Rattle.decide.specs.Whole.{writtenAs, Ready, Tailed, Whole, heldAs, storedAs}
+use Rattle.decide.proofs.Wholes.{ready-words, stored-cleared, stored-covered}
+use Rattle.decide.proofs.Bounds.{size-is, tailed-open, tailed-words}
+use Rattle.decide.proofs.Calls.{closed-wrong, closed-right, open-wrong, open-right, extent-short, extent-there, held-short, held-there}
+
+-- ---- once the entry is decided
+
+module _ (f : List ℕ) (e : ℕ) (ws b : List ℕ) where
+  pub write-refused : {number place : ℕ} → storedEntry f e b ≡ refused number place → writeCall f e ws b ≡ refused number place
+  unfolding writeCall
+  write-refused h = then-refused _ h
+
+  pub write-allowed : {t : Ty} → storedEntry f e b ≡ good t → writeCall f e ws b ≡ writtenAs t ws b
+  unfolding writeCall writtenAs
+  write-allowed h = then-is _ h
+
+-- ---- a scan's answer
+
+-- the numbers of the answers that refuse nothing
+abbrev fits : List ℕ
+fits = 0 ∷ 1 ∷ []
+
+pub nothing-bad : (r : Scan) → OneOf fits (tagOf scan.the-type r) → good tt ≡ saidScan r
+nothing-bad Any h = refl
+nothing-bad Fine h = refl
+nothing-bad (Bad k) h = absurd (miss fits 2 tt h)
+
+-- ---- both parts, stored over zeros or over what they cover
+
+pub stored-either : {ms rows : List ℕ} {e : ℕ} {x : Tail} {t : Ty} {n : ℕ} (w : Whole ms rows e x t n) (ws b c : List ℕ) (z : ℕ) → length ws ≡ wordCount n t → z ≡ extentOf n t → z ≤ length b → ((rowAt rows e .run ≡ 0 → ⊥) → c ≡ b) → (rowAt rows e .run ≡ 0 → c ≡ replicate z 0 ++ drop z b) → overPlaces (storing ws) (placesOf (w .rest) (x .offset)) (x .fixed) (overPlaces (storing ws) (placesOf (shapeOf 0 t) 0) 0 c) ≡ written n t ws b
+stored-either {rows = rows} {e = e} {x = x} {t = t} {n = n} w ws b c z l is room kept cleared = go (eqb (rowAt rows e .run) 0) refl
+  where
+    go : (p : Bool) → eqb (rowAt rows e .run) 0 ≡ p → overPlaces (storing ws) (placesOf (w .rest) (x .offset)) (x .fixed) (overPlaces (storing ws) (placesOf (shapeOf 0 t) 0) 0 c) ≡ written n t ws b
+    go true q = stored-cleared w ws b c l (rw (← is) (cleared (eqb-true _ _ q)))
+    go false q = stored-covered w ws b c l (rw (← is) room) (eqb-false _ _ q) (kept (eqb-false _ _ q))
+
+-- ---- a type of fixed size
+
+pub fixed-extent : {ms rows : List ℕ} {e : ℕ} {l : Layout} {t : Ty} → Ready ms rows e l t → isOpen t ≡ false → l .size ≡ extentOf 0 t
+fixed-extent {t = t} r o = size-is r ∙ sym (closed-extent 0 t o)
+
+module _ {ms rows : List ℕ} {e : ℕ} {l : Layout} {t : Ty} (r : Ready ms rows e l t) (o : isOpen t ≡ false) (ws b : List ℕ) where
+  pub wrong-words : (length ws ≡ l .words → ⊥) → writtenAs t ws b ≡ refused 14 0
+  wrong-words h = closed-wrong t (r .well-formed) o ws b (λ q. h (q ∙ ready-words r))
+
+  right : length ws ≡ l .words → writtenAs t ws b ≡ heldAs 0 t ws b
+  right h = closed-right t (r .well-formed) o ws b (h ∙ sym (ready-words r))
+
+  pub few-bytes : length ws ≡ l .words → length b < l .size → writtenAs t ws b ≡ refused 15 0
+  few-bytes h k = right h ∙ held-short 0 t ws b (rw (fixed-extent r o) at k)
+
+  pub all-there : length ws ≡ l .words → l .size ≤ length b → writtenAs t ws b ≡ storedAs 0 t ws b
+  all-there h k = right h ∙ held-there 0 t ws b (rw (fixed-extent r o) at k)
+
+-- ---- an open type
+
+module _ {ms rows : List ℕ} {e : ℕ} {l : Layout} {t : Ty} (x : Tailed ms rows e l t) (ws b : List ℕ) where
+  pub no-elements : elementsOf (length ws) (l .words) (runtimeRow ms rows e .unit) ≡ No → writtenAs t ws b ≡ refused 14 0
+  no-elements h = open-wrong t (tailed-open x) (l .words) (runtimeRow ms rows e .unit) (tailed-words x) ws b h
+
+  pub some-elements : {n : ℕ} → elementsOf (length ws) (l .words) (runtimeRow ms rows e .unit) ≡ Is n → (length ws ≡ wordCount n t) × (1 ≤ n) × (writtenAs t ws b ≡ heldAs n t ws b)
+  some-elements h = open-right t (tailed-open x) (l .words) (runtimeRow ms rows e .unit) (tailed-words x) ws b h
+
+  pub no-room : (n : ℕ) → extentFor (length b) (l .offset) (l .stride) n ≡ No → heldAs n t ws b ≡ refused 15 0
+  no-room n h = extent-short t (l .offset) (l .stride) (opened-extent (x .opened)) n ws b h
+
+  pub room : (n : ℕ) {k : ℕ} → extentFor (length b) (l .offset) (l .stride) n ≡ Is k → (k ≡ extentOf n t) × (k ≤ length b) × (heldAs n t ws b ≡ storedAs n t ws b)
+  room n h = extent-there t (l .offset) (l .stride) (opened-extent (x .opened)) n ws b h
