@@ -5,3 +5,4 @@ pub mod Entries
 pub mod Parts
 pub mod Readings
 pub mod Writings
+pub mod Single
