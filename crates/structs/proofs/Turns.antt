@@ -40,18 +40,14 @@ pub record Reached (f : List ℕ) (ts : List Ty) (at i n : ℕ) (run : Run) : Ty
   pub sized : i < n → allSized members ≡ true
 
 -- the verdict on no members
-abbrev pub startRun : Run
-startRun =
-    Placed (record { end = 0; align = 1; stride = 0; offset = 0; words = 0; opens = false; storable = true })
-
-no-members : startRun ≡ runOf no-more
+pub no-members : Placed (record { end = 0; align = 1; stride = 0; offset = 0; words = 0; opens = false; storable = true }) ≡ runOf no-more
 unfolding runOf endsOf membersFit membersGivenFit wordsOfMembers everyMember withinLimits withinLimit limit membersEnd offsetsOf present tailStride tailOffset membersTail endsInRuntime
 no-members = refl
 
-pub reached-none : (f : List ℕ) (ts : List Ty) (at n : ℕ) → Reached f ts at 0 n startRun
+pub reached-none : {run : Run} (f : List ℕ) (ts : List Ty) (at n : ℕ) → run ≡ runOf no-more → Reached f ts at 0 n run
 unfolding membersAt everyMember countOf membersAllowed allSized
-reached-none f ts at n =
-    record { members = no-more; read = refl; verdict = no-members; counted = refl; well-formed = refl; allowed = refl; sized = λ h. refl }
+reached-none f ts at n e =
+    record { members = no-more; read = refl; verdict = e; counted = refl; well-formed = refl; allowed = refl; sized = λ h. refl }
 
 -- ---- the next member
 

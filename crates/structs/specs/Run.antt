@@ -1,21 +1,23 @@
 -- What the members so far of a struct come to, in the words of crates/wgsl.
 --
 -- In order: one member more; where members end and what they hold; the verdict on them so far; what the code's functions ask: members
--- that more may follow, one more that joins them, all members of a struct; where member entries lie; the lower entries.
+-- that more may follow, one more that joins them, all members of a struct; where member entries lie; the members
+-- that an entry names; the lower entries.
 -- Definitions only. Assumes nothing.
 use Prim.Native.Nat.{ℕ, _+_, _*_, _≤_}
 use mathlib.Core.Path.{_≡_}
 use mathlib.Core.Bool.{Bool, true, false, cond, _&&_}
-use mathlib.Core.List.{List, _∷_, map}
+use mathlib.Core.List.{List, [], _∷_, map}
 use mathlib.Core.Option.{Option, none, some}
 use lib.ListN.{length, take, getElem?}
 use Rattle.wgsl.specs.Types.{Ty, Members, no-more, member, endsInRuntime, everywhere, everyMember}
 use Rattle.wgsl.specs.Size.{present, membersAlign, membersEnd, offsetsOf, withinLimits, isPlain}
-use Rattle.wgsl.specs.File.{Trailer, trailerOf, typeEntryLength, memberEntryLength, MemberEntry, givenSize, givenAlign, restIsZero}
-use Rattle.wgsl.specs.Rule.{countOf, memberAllowed, membersAllowed, givenSizeFits, givenAlignFits, membersGivenFit, isWellFormed}
+use Rattle.wgsl.specs.File.{Trailer, trailerOf, typeEntryLength, memberEntryLength, TypeEntry, MemberEntry, givenSize, givenAlign, restIsZero}
+use Rattle.wgsl.specs.Rule.{unused, structMade, countOf, memberAllowed, membersAllowed, givenSizeFits, givenAlignFits, membersGivenFit, isWellFormed}
 use Rattle.wgsl.specs.Place.{membersTail}
 use Rattle.kinds.specs.declared.value.Layout.{Layout}
-use Rattle.kinds.specs.Value.{tailStride, tailOffset, fixedWords, valueOf}
+use Rattle.kinds.specs.declared.value.Made.the-variants as made
+use Rattle.kinds.specs.Value.{tailStride, tailOffset, fixedWords, valueOf, madeOf}
 use Rattle.structs.specs.declared.Ends.{Ends}
 use Rattle.structs.specs.declared.Run.{Run}
 use Rattle.structs.specs.declared.Run.the-variants.{Placed, Unfit, TooLarge}
@@ -111,6 +113,19 @@ unfoldable pub memberPlace : List ℕ → ℕ → ℕ
 memberPlace f m =
     let r : Trailer = trailerOf f in
     r .start + typeEntryLength * r .types + memberEntryLength (r .form) * m
+
+-- the members that a struct's entry names
+pub record Named (e : TypeEntry) (first count : ℕ) : Type 0 where
+  pub kind : e .kind ≡ 12
+  pub zeros : unused (e .columns ∷ e .rows ∷ 0 ∷ 0 ∷ []) ≡ true
+  pub first-is : first ≡ e .reference
+  pub count-is : count ≡ e .count
+
+-- .. all within M; or none, where the entry is no struct's or rule 5 refuses it
+pub record Spans (members : ℕ) (e : TypeEntry) (first count : ℕ) : Type 0 where
+  pub within : first + count ≤ members
+  pub named : 1 ≤ count → Named e first count
+  pub empty : e .kind ≡ 12 → count ≡ 0 → (f : List ℕ) (ts : List Ty) (k : ℕ) → members ≡ trailerOf f .members → made.Rule ≡ madeOf (structMade f ts k e)
 
 -- the first entries of the table hold the layouts of these types, which the file's rules leave
 pub record Holds (ls : List Layout) (ts : List Ty) : Type 0 where

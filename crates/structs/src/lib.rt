@@ -1,7 +1,6 @@
 // A struct: its members one after the other.
 use file::fields::Entry;
 use file::fields::Member;
-use file::fields::member_at;
 use file::trailer::wide;
 use kinds::scalars::zeros;
 use kinds::value::Layout;
@@ -17,16 +16,12 @@ use numbers::limit::round_up;
 use numbers::limit::sum;
 ghost use mathlib.Core.Path.{_≡_};
 ghost use mathlib.Core.Bool.{Bool, cond, _&&_};
-ghost use mathlib.Core.List.{List};
-ghost use mathlib.Core.Option.{some};
-ghost use Prim.Native.Nat.{ℕ, _+_, _*_, _≤_, max};
-ghost use lib.ListN.{length};
-ghost use Rattle.wgsl.specs.Types.{Ty, Members, struct};
-ghost use Rattle.wgsl.specs.File.{trailerOf};
-ghost use Rattle.wgsl.specs.Rule.{andThen, membersFrom, structMade};
+ghost use Prim.Native.Nat.{ℕ, _≤_, max};
+ghost use Rattle.wgsl.specs.Types.{Ty, Members, no-more, struct};
 ghost use Rattle.file.specs.Fields.{entryIs, memberIs};
-ghost use Rattle.kinds.specs.Value.{verdictOn, madeOf};
-ghost use Rattle.structs.specs.Run.{runOf, followed, Joins, Meets, steppedTo, Ended, Closes, memberPlace, Lower};
+ghost use Rattle.kinds.specs.Value.{verdictOn};
+ghost use Rattle.kinds.specs.declared.value.Made.the-variants.{Rule};
+ghost use Rattle.structs.specs.Run.{runOf, followed, Joins, Meets, steppedTo, Ended, Closes, Spans};
 
 // Where the members so far end, and what they hold.
 pub struct Ends {
@@ -51,6 +46,12 @@ pub enum Run {
 pub enum Stepped {
     Next(Run),
     Rule,
+}
+
+// The members that a struct's entry names, by number.
+pub struct Span {
+    pub first: usize,
+    pub count: usize,
 }
 
 fn larger(a: u32, b: u32) -> u32
@@ -109,8 +110,23 @@ fn place(p: Ends, l: Layout, m: Member) -> Run
     })
 }
 
+// Before the first member.
+pub fn no_members() -> Run
+    ensures { λ r. ⌜ r ≡ runOf no-more ⌝ }
+{
+    Run::Placed(Ends {
+        end: 0,
+        align: 1,
+        stride: 0,
+        offset: 0,
+        words: 0,
+        opens: false,
+        storable: true,
+    })
+}
+
 // One more member.
-fn step(run: Run, l: Layout, m: Member, last: bool) -> Stepped
+pub fn step(run: Run, l: Layout, m: Member, last: bool) -> Stepped
     requires { ⌜ ((ms : Members) × (t : Ty) × Meets run l ms t) ⌝ }
     ensures { λ r. ⌜ ((ms : Members) (t : Ty) → Meets run l ms t → r ≡ steppedTo last ms t (memberIs m)) ⌝ }
 {
@@ -165,11 +181,15 @@ fn whole(p: Ends) -> Made
     })
 }
 
-// Past the last member.
-fn finish(run: Run) -> Made
-    requires { ⌜ ((ms : Members) × Closes run ms) ⌝ }
-    ensures { λ r. ⌜ ((k : ℕ) (ms : Members) → Closes run ms → r ≡ verdictOn (struct k ms)) ⌝ }
+// Past the last of `count` members: a struct has one at least.
+pub fn finish(run: Run, count: usize) -> Made
+    requires { ⌜ (1 ≤ count → (ms : Members) × Closes run ms) ⌝ }
+    ensures none { λ r. ⌜ (count ≡ 0 → r ≡ Rule) ⌝ }
+    ensures all { λ r. ⌜ (1 ≤ count → (k : ℕ) (ms : Members) → Closes run ms → r ≡ verdictOn (struct k ms)) ⌝ }
 {
+    if count < 1 {
+        return Made::Rule;
+    }
     match run {
         Run::Placed(p) => whole(p),
         Run::Unfit => Made::Given,
@@ -177,66 +197,21 @@ fn finish(run: Run) -> Made
     }
 }
 
-// The members of a struct, `count` of them from byte `at` on, over the layouts of the `k` lower entries.
-fn run_members(f: &[u8], at: usize, ls: [Layout; 256], k: usize, count: usize) -> Made
-    requires inside { ⌜ (at + 12 * count ≤ length (now f)) × (1 ≤ count) × (count ≤ 1024) ⌝ }
-    requires lower { ⌜ ((ts : List Ty) × Lower ls k ts) ⌝ }
-    ensures { λ r. ⌜ ((ts : List Ty) (first : ℕ) → Lower ls k ts → at ≡ memberPlace (now (f .entry)) first → r ≡ madeOf (andThen (membersFrom (now (f .entry)) ts count first) (λ ms. some (struct k ms)))) ⌝ }
+// "12 struct: reference = first member, count = members, 1 to 1,024, all within M": those members; or none, where the
+// entry is no struct's or names others.
+pub fn span_of(e: Entry, members: usize) -> Span
+    ensures { λ r. ⌜ Spans members (entryIs e) (r .first) (r .count) ⌝ }
 {
-    let mut run = Run::Placed(Ends {
-        end: 0,
-        align: 1,
-        stride: 0,
-        offset: 0,
-        words: 0,
-        opens: false,
-        storable: true,
-    });
-    let mut i: usize = 0;
-    while i < count {
-        let m = member_at(f, at + 12 * i);
-        let ty = wide(m.ty);
-        if k <= ty {
-            return Made::Rule;
-        }
-        let l = ls[ty];
-        let s = step(run, l, m, i + 1 == count);
-        match s {
-            Stepped::Next(r) => {
-                run = r;
-            }
-            Stepped::Rule => {
-                return Made::Rule;
-            }
-        }
-        i += 1;
+    if e.kind != 12 {
+        return Span { first: 0, count: 0 };
     }
-    finish(run)
-}
-
-// "12 struct: reference = first member, count = members, 1 to 1,024, all within M"
-pub fn struct_entry(
-    f: &[u8],
-    base: usize,
-    members: usize,
-    e: Entry,
-    ls: [Layout; 256],
-    k: usize,
-) -> Made
-    requires inside { ⌜ (base + 12 * members ≤ length (now f)) × (members ≤ 1024) ⌝ }
-    requires lower { ⌜ ((ts : List Ty) × Lower ls k ts) ⌝ }
-    ensures { λ r. ⌜ ((ts : List Ty) → Lower ls k ts → base ≡ memberPlace (now (f .entry)) 0 → members ≡ trailerOf (now (f .entry)) .members → r ≡ madeOf (structMade (now (f .entry)) ts k (entryIs e))) ⌝ }
-{
     if !zeros(e.columns, e.rows, 0, 0) {
-        return Made::Rule;
+        return Span { first: 0, count: 0 };
     }
     let first = wide(e.reference);
     let count = wide(e.count);
-    if count < 1 {
-        return Made::Rule;
-    }
     if members < first + count {
-        return Made::Rule;
+        return Span { first: 0, count: 0 };
     }
-    run_members(f, base + 12 * first, ls, k, count)
+    Span { first, count }
 }

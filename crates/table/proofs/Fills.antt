@@ -4,12 +4,14 @@
 -- whole table.
 -- Assumes nothing.
 use Prim.Native.Nat.{ℕ, zero, suc, _+_, _-_, _<_, _≤_}
-use mathlib.Core.Bool.{true, false, true≢false}
+use mathlib.Core.Bool.{Bool, true, false, true≢false}
 use mathlib.Core.List.{List, [], _∷_, _++_, map, map-append}
 use mathlib.Core.Option.{none, some}
 use mathlib.Core.Path.{_≡_, refl, sym, ap, _∙_}
 use native.Mathlib.Omega.{arith}
 use native.Mathlib.Numerals.{add-one}
+use borrow.Author.Tests.{ltb-true, ltb-false}
+use lib.Dec.{ltb}
 use lib.ListN.{length, take, drop, set, getD, getElem?, replicate, length-set, length-replicate, take-append-drop}
 use lib.Seq.{take-suc-set, drop-set-lt, drop-drop, getD-take}
 use Rattle.wgsl.specs.Types.{Ty, everywhere}
@@ -108,7 +110,7 @@ module _ {f : List ℕ} {r : Trailer} {k : ℕ} {ls : List Layout} (t : Filled f
         few = omega arith;
       }
 
-  pub filled-there : (i : ℕ) → i < k → Referred (getD ls i blankLayout) true (lower (t .types) i)
+  filled-there : (i : ℕ) → i < k → Referred (getD ls i blankLayout) true (lower (t .types) i)
   unfolding lower
   filled-there i h =
       let m = mapped (t .types) i blankLayout (omega (arith, count)) in
@@ -117,13 +119,21 @@ module _ {f : List ℕ} {r : Trailer} {k : ℕ} {ls : List Layout} (t : Filled f
       let fine : everywhere isWellFormed (m .0) ≡ true = below-well-formed f k (t .types) (t .below) i (m .0) (m .1) in
       record { there = λ _. (m .0, m .1, same, fine); not-there = λ e. absurd (true≢false e) }
 
-  pub filled-missing : {l : Layout} (i : ℕ) → k ≤ i → Referred l false (lower (t .types) i)
+  filled-missing : {l : Layout} (i : ℕ) → k ≤ i → Referred l false (lower (t .types) i)
   unfolding lower
   filled-missing i h =
       record {
         there = λ e. absurd (true≢false (sym e));
         not-there = λ _. missing (t .types) i (omega (arith, count));
       }
+
+  -- the entry that a reference leads to, read at j
+  pub filled-referred : (i j : ℕ) → (i < k → j ≡ i) → Referred (getD ls j blankLayout) (ltb i k) (lower (t .types) i)
+  filled-referred i j e = go (ltb i k) refl
+    where
+      go : (b : Bool) → ltb i k ≡ b → Referred (getD ls j blankLayout) b (lower (t .types) i)
+      go true p = let h : i < k = ltb-true i k p in rw (e h) (filled-there i h)
+      go false p = filled-missing i (ltb-false i k p)
 
   -- ---- one entry more
 

@@ -1,6 +1,7 @@
 // The table of 256 layouts, worked out upward from entry 0.
 use file::fields::Entry;
 use file::fields::entry_at;
+use file::fields::member_at;
 use file::refusal::Refusal;
 use file::trailer::Trailer;
 use file::trailer::Trailered;
@@ -11,17 +12,24 @@ use kinds::scalars::zeros;
 use kinds::value::Layout;
 use kinds::value::Made;
 use over::over_entry;
-use structs::struct_entry;
+use structs::Run;
+use structs::Stepped;
+use structs::finish;
+use structs::no_members;
+use structs::span_of;
+use structs::step;
 ghost use mathlib.Core.Path.{_≡_};
 ghost use mathlib.Core.Option.{Option};
 ghost use lib.ListN.{replicate};
-ghost use Rattle.wgsl.specs.Types.{Ty};
+ghost use Prim.Native.Nat.{_<_, _≤_};
+ghost use Rattle.wgsl.specs.Types.{Ty, Members};
 ghost use Rattle.wgsl.specs.Said.{good};
 ghost use Rattle.wgsl.specs.File.{checkTrailer};
 ghost use Rattle.wgsl.specs.Rule.{typesOf};
 ghost use Rattle.file.specs.Fields.{trailerIs, entryIs};
 ghost use Rattle.kinds.specs.Value.{madeOf, blankLayout};
-ghost use Rattle.table.specs.Table.{layoutsOf, acceptedTrailer, saidChecked, Referred, plainMade};
+ghost use Rattle.structs.specs.Run.{Closes};
+ghost use Rattle.table.specs.Table.{layoutsOf, acceptedTrailer, saidChecked, Referred, plainMade, EntryMade};
 
 pub enum Checked {
     Types(Trailer),
@@ -64,6 +72,24 @@ fn plain_entry(e: Entry, l: Layout, lower: bool) -> Made
     over_entry(e, l)
 }
 
+// An entry whose `count` members came to `run`, or one that is no struct.
+fn entry_made(e: Entry, count: usize, run: Run, l: Layout, lower: bool) -> Made
+    requires plain { ⌜ ((below : Option Ty) × Referred l lower below) ⌝ }
+    requires members { ⌜ (1 ≤ count → (ms : Members) × Closes run ms) ⌝ }
+    ensures { λ r. ⌜ EntryMade (entryIs e) count run l lower r ⌝ }
+{
+    if e.kind == 12 {
+        return finish(run, count);
+    }
+    plain_entry(e, l, lower)
+}
+
+fn lesser(a: usize, b: usize) -> usize
+    ensures { λ r. ⌜ (r ≤ b) × (a < b → r ≡ a) ⌝ }
+{
+    if a < b { a } else { b }
+}
+
 // A table with a refusal holds no layout.
 fn refused(r: Refusal) -> Table
     ensures answer { λ s. ⌜ s .answer ≡ Checked.Refused r ⌝ }
@@ -89,18 +115,32 @@ fn fill(f: &[u8], t: Trailer) -> Table
     let mut k: usize = 0;
     while k < types {
         let e = entry_at(f, start + 12 * k);
-        let made = if !zeros(e.zero3, e.zero6, 0, 0) {
-            Made::Rule
-        } else if e.kind == 12 {
-            struct_entry(f, base, members, e, ls, k)
-        } else {
-            let r = wide(e.reference);
-            if r < k {
-                plain_entry(e, ls[r], true)
-            } else {
-                plain_entry(e, blank(), false)
+        if !zeros(e.zero3, e.zero6, 0, 0) {
+            return refused(Refusal::Rule(k));
+        }
+        let s = span_of(e, members);
+        let count = s.count;
+        let at = base + 12 * s.first;
+        let mut run = no_members();
+        let mut i: usize = 0;
+        while i < count {
+            let m = member_at(f, at + 12 * i);
+            let ty = wide(m.ty);
+            if k <= ty {
+                return refused(Refusal::Rule(k));
             }
-        };
+            match step(run, ls[ty], m, i + 1 == count) {
+                Stepped::Next(r) => {
+                    run = r;
+                }
+                Stepped::Rule => {
+                    return refused(Refusal::Rule(k));
+                }
+            }
+            i += 1;
+        }
+        let r = wide(e.reference);
+        let made = entry_made(e, count, run, ls[lesser(r, k)], r < k);
         match made {
             Made::Laid(l) => {
                 ls[k] = l;

@@ -1,5 +1,6 @@
 -- Each verdict on the members is one law of `Wholes`.
-use mathlib.Core.Path.{_≡_, sym, subst}
+use mathlib.Core.Path.{_≡_, refl, sym, subst}
+use native.Mathlib.Omega.{arith}
 use borrow.Author.Needs.{needs}
 use Rattle.wgsl.specs.Types.{Members}
 use Rattle.structs.specs.declared.Run.{Run}
@@ -12,21 +13,27 @@ use Rattle.structs.proofs.finish.Tie as tie
 is : {r s : Run} (ms : Members) → r ≡ s → Closes r ms → Closes s ms
 is ms e c = subst (λ (x : Run). Closes x ms) e c
 
+returns : tie.Need-returns
+returns c = (λ z. refl, λ l k ms e. absurd (omega arith))
+
 whole-requires : tie.Need-whole-requires
 whole-requires c κs =
-    let a = c .before .before .before in
-    (a .pre .0, closes-placed _ (a .pre .0) (is (a .pre .0) (c .before .run .given .1) (a .pre .1)))
-
-returns : tie.Need-returns
-returns c k ms e = c .whole .ensures k ms (closes-placed _ ms (is ms (c .before .before .run .given .1) e))
+    let a = c .before .before .before .before .pre (search needs) in
+    (a .0, closes-placed _ (a .0) (is (a .0) (c .before .run .given .1) (a .1)))
 
 returns-2 : tie.Need-returns-2
-returns-2 c k ms e = sym (closes-unfit k ms (is ms (c .enum-told .given .1) e))
+returns-2 c = (
+  λ z. absurd (omega arith),
+  λ l k ms e. c .whole .ensures k ms (closes-placed _ ms (is ms (c .before .before .run .given .1) e)),
+)
 
 returns-3 : tie.Need-returns-3
-returns-3 c k ms e = sym (closes-past k ms (is ms (c .enum-told2 .given .1) e))
+returns-3 c = (λ z. absurd (omega arith), λ l k ms e. sym (closes-unfit k ms (is ms (c .enum-told .given .1) e)))
+
+returns-4 : tie.Need-returns-4
+returns-4 c = (λ z. absurd (omega arith), λ l k ms e. sym (closes-past k ms (is ms (c .enum-told2 .given .1) e)))
 
 pub finish-spec : {M : Type 1} → statement M
 finish-spec =
     tie.close (tie.spec
-    (λ c. search needs) whole-requires (λ c. search needs) (λ c. search needs) returns returns-2 returns-3)
+    returns (λ c. search needs) whole-requires (λ c. search needs) (λ c. search needs) returns-2 returns-3 returns-4)
