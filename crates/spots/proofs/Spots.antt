@@ -3,10 +3,8 @@
 -- In order: finding them; writing one after the other; writing many structs.
 -- Assumes nothing.
 use Prim.Native.Nat.{ℕ, zero, suc, _+_, _-_, _*_, _<_, _≤_}
-use mathlib.Core.List.{List, [], _++_}
+use mathlib.Core.List.{List}
 use mathlib.Core.Path.{_≡_, refl, ap, sym, subst, _∙_}
-use native.Mathlib.Nat.{add-zero}
-use native.Mathlib.Numerals.{add-one}
 use native.Mathlib.Omega.{arith}
 use lib.ListN.{length, getD, set, length-set}
 use lib.Seq.{getD-set-same, getD-set-other}
@@ -18,7 +16,7 @@ use Rattle.folds.proofs.Folds.{over-append, run-length}
 use Rattle.rows.specs.declared.Row.{Row}
 use Rattle.rows.specs.declared.Placed.{Placed}
 use Rattle.rows.specs.Row.{rowAt, memberAt, placedAt}
-use Rattle.rows.specs.Tree.{Rowed, Left, Tree, Room, EachRoom}
+use Rattle.rows.specs.Tree.{Rowed, Left, Tree, EachRoom}
 use Rattle.rows.proofs.Unique.{repeated-alike}
 use Rattle.rows.proofs.Steps.{tree-rowed, tree-left, each-room, First, left-first, left-none}
 use Rattle.spots.specs.Spot.{startOf, wordsOf, spotPlaces, SpotsFit, SpottedFrom, Spotted, EachFits}

@@ -20,11 +20,20 @@ pub fn no_spots() -> [usize; 16]
 }
 
 // The spots of the struct `e`: of member j its start at 2 * j and its words after that. Answers how many;
-// 0 where there are more than eight members, or one is no run of at most four words.
-pub fn spots_of(members: &[u8], rows: &[u32], e: usize, spots: &mut [usize]) -> usize
+// 0 where there are more than eight members, or one is no run of at most four words, or less than two such structs are written.
+pub fn spots_of(
+    members: &[u8],
+    rows: &[u32],
+    e: usize,
+    structs: usize,
+    spots: &mut [usize],
+) -> usize
     requires { ⌜ ((y : Shape) × Tree (now members) (now rows) e y × (rowAt (now rows) e .kind ≡ 12)) × (length (now spots) ≡ 16) ⌝ }
     ensures { λ r. ⌜ (0 < r → (y : Shape) → Tree (now (members .entry)) (now (rows .entry)) e y → Spotted y r (now (spots .exit))) ⌝ }
 {
+    if structs < 2 {
+        return 0;
+    }
     let r = row_at(rows, e);
     let count = wide(r.count);
     if 8 < count {

@@ -114,7 +114,7 @@ fn write_structs(
     ensures { λ _. ⌜ ((y : Shape) → Tree (now (members .entry)) (now (rows .entry)) e y → now (buf .exit) ≡ overPlaces (storing (now (words .entry))) (placesOf (parts count stride y) at) k (now (buf .entry))) ⌝ }
 {
     let mut spots = no_spots();
-    let few = spots_of(members, rows, e, &mut spots);
+    let few = spots_of(members, rows, e, count, &mut spots);
     if 0 < few {
         write_each(&spots, few, count, unit, stride, at, words, k, buf);
         return;

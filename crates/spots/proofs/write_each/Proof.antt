@@ -2,14 +2,14 @@
 -- Assumes nothing.
 use Prim.Native.Nat.{ℕ, _+_, _-_, _*_, _≤_}
 use mathlib.Core.List.{List}
-use mathlib.Core.Path.{_≡_, refl, ap, sym, _∙_}
+use mathlib.Core.Path.{_≡_, refl, sym, _∙_}
 use native.Mathlib.Omega.{arith}
 use borrow.Author.Needs.{needs}
 use denote.Ref.{now}
 use lib.ListN.{length}
 use Rattle.wgsl.specs.Place.{Place, repeated}
 use Rattle.folds.specs.Fold.{overPlaces, storing}
-use Rattle.folds.proofs.Folds.{over-all, over-next, over-none, length-storing}
+use Rattle.folds.proofs.Folds.{over-all, over-next, over-none}
 use Rattle.spots.specs.Spot.{spotPlaces}
 use Rattle.spots.proofs.write_each.Statement.{statement}
 use Rattle.spots.proofs.write_each.Tie as tie

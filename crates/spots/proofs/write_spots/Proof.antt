@@ -1,15 +1,13 @@
 -- Each turn of the loop writes one spot of what is left (`Spots`).
 -- Assumes nothing.
-use Prim.Native.Nat.{_+_, _-_, _*_, _≤_}
-use mathlib.Core.Path.{_≡_, refl, ap, sym, subst, _∙_}
+use Prim.Native.Nat.{_-_}
+use mathlib.Core.Path.{_≡_, refl, sym, _∙_}
 use native.Mathlib.Omega.{arith}
 use borrow.Author.Needs.{needs}
 use denote.Ref.{now}
 use lib.ListN.{length}
 use Rattle.folds.specs.Fold.{overPlaces, storing}
-use Rattle.folds.specs.Run.{runPlaces}
-use Rattle.folds.proofs.Folds.{length-storing}
-use Rattle.spots.specs.Spot.{startOf, wordsOf, spotPlaces, SpotsFit}
+use Rattle.spots.specs.Spot.{spotPlaces, SpotsFit}
 use Rattle.spots.proofs.Spots.{spots-next, spots-none, spots-fit}
 use Rattle.spots.proofs.write_spots.Statement.{statement}
 use Rattle.spots.proofs.write_spots.Tie as tie
