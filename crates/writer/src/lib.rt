@@ -7,6 +7,9 @@ use rows::row_at;
 use runs::Parts;
 use runs::write_few;
 use runs::write_parts;
+use spots::no_spots;
+use spots::spots_of;
+use spots::write_each;
 ghost use mathlib.Core.Path.{_≡_};
 ghost use Prim.Native.Nat.{_+_};
 ghost use lib.ListN.{length};
@@ -94,7 +97,7 @@ pub fn write_many(
     }
 }
 
-// Writes structs of `unit` words, `count` of them, each a `stride` after the one before.
+// Writes structs of `unit` words, `count` of them, each a `stride` after the one before. Small ones by their spots.
 fn write_structs(
     members: &[u8],
     rows: &[u32],
@@ -110,6 +113,12 @@ fn write_structs(
     requires { ⌜ ((y : Shape) × Tree (now members) (now rows) e y × (rowAt (now rows) e .kind ≡ 12) × EachRoom y count unit stride at (length (now buf)) k (length (now words))) ⌝ }
     ensures { λ _. ⌜ ((y : Shape) → Tree (now (members .entry)) (now (rows .entry)) e y → now (buf .exit) ≡ overPlaces (storing (now (words .entry))) (placesOf (parts count stride y) at) k (now (buf .entry))) ⌝ }
 {
+    let mut spots = no_spots();
+    let few = spots_of(members, rows, e, count, &mut spots);
+    if 0 < few {
+        write_each(&spots, few, count, unit, stride, at, words, k, buf);
+        return;
+    }
     let mut i: usize = 0;
     while i < count {
         write_struct(members, rows, e, at + i * stride, words, k + i * unit, buf);

@@ -4,13 +4,14 @@
 -- The loops' invariants are `Turn` and `Walk` of crates/rows, proofs/Steps: what is left, from here on, is the whole, from the start on.
 -- Assumes nothing.
 use Prim.Native.Nat.{ℕ, _+_, _*_, _-_, _<_}
-use mathlib.Core.Path.{_≡_, refl, _∙_}
+use mathlib.Core.Path.{_≡_, refl, sym, _∙_}
 use native.Mathlib.Omega.{arith}
 use borrow.Author.Needs.{needs}
 use lib.ListN.{length}
 use Rattle.folds.specs.Fold.{storing}
 use Rattle.rows.specs.Row.{memberAt}
 use Rattle.rows.proofs.Steps.{tree-rowed, tree-many, many-runs, depth, depth-below, one-room, one-places, each-entry, each-room, type-is, type-inside, type-tree, member-room, run-places, run-room, Each, Turn, turn-start, turn-next, turn-none, Walk, walk-start, walk-first, walk-room, walk-words, walk-next, walk-none}
+use Rattle.spots.proofs.Spots.{spotted-each, spotted-parts}
 use borrow.Fn.Kinds.{In}
 use borrow.Fn.PlainCycle.{Measures, is, falls, and}
 use Rattle.writer.proofs.write_entry.Reads as write-entry
@@ -33,6 +34,9 @@ use Rattle.rows.proofs.place.Reads as place-reads
 use Rattle.rows.proofs.row_at.Reads as row-at-reads
 use Rattle.runs.proofs.write_few.Reads as write-few-reads
 use Rattle.runs.proofs.write_parts.Reads as write-parts-reads
+use Rattle.spots.proofs.no_spots.Reads as no-spots-reads
+use Rattle.spots.proofs.spots_of.Reads as spots-of-reads
+use Rattle.spots.proofs.write_each.Reads as write-each-reads
 use Rattle.writer.proofs.+write_entry+write_many+write_member+write_struct+write_structs.{statement}
 use Rattle.writer.proofs.+write_entry+write_many+write_member+write_struct+write_structs.Tie.{close}
 
@@ -445,40 +449,72 @@ module _ (t : ℕ) where
 -- ---- write_structs
 
 abbrev write-structs-Inv-loop : write-structs-lts.InvT-loop
-write-structs-Inv-loop members rows e count unit stride at words k buf₀ i₀ buf i =
+write-structs-Inv-loop members rows e count unit stride at words k buf₀ few i₀ buf i =
     Turn (storing words) members rows e count unit stride at k buf₀ i buf × (length buf ≡ length buf₀)
 
 abbrev write-structs-μ-loop : write-structs-lts.MeasureT-loop
-write-structs-μ-loop members rows e count unit stride at words k buf₀ i₀ buf i = count - i
+write-structs-μ-loop members rows e count unit stride at words k buf₀ few i₀ buf i = count - i
 
 abbrev write-structs-calls : ℕ → write-structs-lts.Claims
-write-structs-calls t = (write-struct-below t, write-struct.Post)
+write-structs-calls t = (no-spots-reads.Asked, no-spots-reads.Learnt, spots-of-reads.Asked, spots-of-reads.Learnt, write-each-reads.Asked, write-each-reads.Learnt, write-struct-below t, write-struct.Post)
 
 module _ (t : ℕ) where
+  write-structs-slice-aggregate-spots-of : write-structs-lts.Need-slice-aggregate-spots-of (write-structs-calls t) (write-structs-at t) write-structs.Post write-structs-Inv-loop write-structs-μ-loop
+  write-structs-slice-aggregate-spots-of c = c .before .no-spots .ensures
+
+  write-structs-spots-of-requires : write-structs-lts.Need-spots-of-requires (write-structs-calls t) (write-structs-at t) write-structs.Post write-structs-Inv-loop write-structs-μ-loop
+  write-structs-spots-of-requires c κs =
+      let start = c .before .before .before .before .before .before in
+      ((start .pre .1 .0, start .pre .1 .1, start .pre .1 .2), sym (c .before .no-spots .ensures))
+
+  write-structs-slice-aggregate-write-each : write-structs-lts.Need-slice-aggregate-write-each (write-structs-calls t) (write-structs-at t) write-structs.Post write-structs-Inv-loop write-structs-μ-loop
+  write-structs-slice-aggregate-write-each c =
+      let after-spots-of = c .before .before .before in
+      let start = after-spots-of .before .before .before .before .before .before .before in
+      sym (after-spots-of .spots-of .ensures (c .before .if1 .taken) (start .pre .1 .0) (start .pre .1 .1) .long)
+
+  write-structs-write-each-requires : write-structs-lts.Need-write-each-requires (write-structs-calls t) (write-structs-at t) write-structs.Post write-structs-Inv-loop write-structs-μ-loop
+  write-structs-write-each-requires c κs =
+      let then1 = c .before .before in
+      let after-spots-of = then1 .before .before in
+      let start = after-spots-of .before .before .before .before .before .before .before in
+      spotted-each (after-spots-of .spots-of .ensures (then1 .if1 .taken) (start .pre .1 .0) (start .pre .1 .1)) (start .pre .1 .3)
+
+  write-structs-same-length : write-structs-lts.Need-same-length (write-structs-calls t) (write-structs-at t) write-structs.Post write-structs-Inv-loop write-structs-μ-loop
+  write-structs-same-length c = c .before .before .write-each .kept .1 .1 .1 .1 .1 .1 .1 .1 .0
+
+  write-structs-returns : write-structs-lts.Need-returns (write-structs-calls t) (write-structs-at t) write-structs.Post write-structs-Inv-loop write-structs-μ-loop
+  write-structs-returns c =
+      let after-write-each = c .before .before in
+      let then1 = after-write-each .before .before .before in
+      let after-spots-of = then1 .before .before in
+      let a = after-spots-of .before .before .before .before .before .before .before .args in
+      λ y u. rw (← spotted-parts (after-spots-of .spots-of .ensures (then1 .if1 .taken) y u) (a .count) (a .stride) (a .at)) (after-write-each .write-each .ensures)
+
   write-structs-loop-holds : write-structs-lts.Need-loop-holds (write-structs-calls t) (write-structs-at t) write-structs.Post write-structs-Inv-loop write-structs-μ-loop
   write-structs-loop-holds c = (turn-start _ _ _ _ _ _ _ _ _ _, refl)
 
   write-structs-mul-write-struct : write-structs-lts.Need-mul-write-struct (write-structs-calls t) (write-structs-at t) write-structs.Post write-structs-Inv-loop write-structs-μ-loop
   write-structs-mul-write-struct c =
-      let start = c .before .before .before .before .before .before in
+      let start = c .before .before .before .before .before .before .before .before .before .before .before in
       let turn = each-room (start .pre .1 .3) (c .loop-test .taken) in
       omega (arith, turn .bytes-there, start .good .1 .1 .1 .1 .1 .1 .1 .1 .1 .0 .0)
 
   write-structs-add-write-struct : write-structs-lts.Need-add-write-struct (write-structs-calls t) (write-structs-at t) write-structs.Post write-structs-Inv-loop write-structs-μ-loop
   write-structs-add-write-struct c =
-      let start = c .before .before .before .before .before .before in
+      let start = c .before .before .before .before .before .before .before .before .before .before .before in
       let turn = each-room (start .pre .1 .3) (c .loop-test .taken) in
       omega (arith, turn .bytes-there, start .good .1 .1 .1 .1 .1 .1 .1 .1 .1 .0 .0)
 
   write-structs-mul-write-struct-2 : write-structs-lts.Need-mul-write-struct-2 (write-structs-calls t) (write-structs-at t) write-structs.Post write-structs-Inv-loop write-structs-μ-loop
   write-structs-mul-write-struct-2 c =
-      let start = c .before .before .before .before .before .before in
+      let start = c .before .before .before .before .before .before .before .before .before .before .before in
       let turn = each-room (start .pre .1 .3) (c .loop-test .taken) in
       omega (arith, turn .words-there, start .good .1 .1 .1 .1 .1 .1 .1 .0 .0)
 
   write-structs-add-write-struct-2 : write-structs-lts.Need-add-write-struct-2 (write-structs-calls t) (write-structs-at t) write-structs.Post write-structs-Inv-loop write-structs-μ-loop
   write-structs-add-write-struct-2 c =
-      let start = c .before .before .before .before .before .before in
+      let start = c .before .before .before .before .before .before .before .before .before .before .before in
       let turn = each-room (start .pre .1 .3) (c .loop-test .taken) in
       omega (arith, turn .words-there, start .good .1 .1 .1 .1 .1 .1 .1 .0 .0)
 
@@ -486,7 +522,7 @@ module _ (t : ℕ) where
   write-structs-write-struct-requires c κs =
       let in-loop = c .before in
       let at-loop = in-loop .before in
-      let start = at-loop .before .before .before .before .before in
+      let start = at-loop .before .before .before .before .before .before .before .before .before .before in
       let turn = each-room (start .pre .1 .3) (in-loop .loop-test .taken) in (
         omega (arith, start .pre .0),
         (start .pre .1 .0, start .pre .1 .1, start .pre .1 .2, rw (at-loop .loop .inv .1) turn),
@@ -495,7 +531,7 @@ module _ (t : ℕ) where
   write-structs-add-i : write-structs-lts.Need-add-i (write-structs-calls t) (write-structs-at t) write-structs.Post write-structs-Inv-loop write-structs-μ-loop
   write-structs-add-i c =
       let in-loop = c .before .before .before .before in
-      let start = in-loop .before .before .before .before .before .before in
+      let start = in-loop .before .before .before .before .before .before .before .before .before .before .before in
       omega (arith, in-loop .loop-test .taken, start .fits .count)
 
   write-structs-loop-less : write-structs-lts.Need-loop-less (write-structs-calls t) (write-structs-at t) write-structs.Post write-structs-Inv-loop write-structs-μ-loop
@@ -506,17 +542,17 @@ module _ (t : ℕ) where
       let after-write-struct = c .before .before in
       let in-loop = after-write-struct .before .before in
       let at-loop = in-loop .before in
-      let start = at-loop .before .before .before .before .before in
+      let start = at-loop .before .before .before .before .before .before .before .before .before .before in
       let call = after-write-struct .write-struct in (
         turn-next (at-loop .loop .inv .0) (start .pre .1 .1) (start .pre .1 .3 .unit-is) (in-loop .loop-test .taken) (call .ensures),
         call .kept .1 .1 .1 .1 .1 .1 .0 ∙ at-loop .loop .inv .1,
       )
 
-  write-structs-same-length : write-structs-lts.Need-same-length (write-structs-calls t) (write-structs-at t) write-structs.Post write-structs-Inv-loop write-structs-μ-loop
-  write-structs-same-length c = c .before .loop .inv .1
+  write-structs-same-length-2 : write-structs-lts.Need-same-length-2 (write-structs-calls t) (write-structs-at t) write-structs.Post write-structs-Inv-loop write-structs-μ-loop
+  write-structs-same-length-2 c = c .before .loop .inv .1
 
-  write-structs-returns : write-structs-lts.Need-returns (write-structs-calls t) (write-structs-at t) write-structs.Post write-structs-Inv-loop write-structs-μ-loop
-  write-structs-returns c =
+  write-structs-returns-2 : write-structs-lts.Need-returns-2 (write-structs-calls t) (write-structs-at t) write-structs.Post write-structs-Inv-loop write-structs-μ-loop
+  write-structs-returns-2 c =
       let at-loop = c .before in
       turn-none (at-loop .loop .inv .0) (c .loop-test .left)
 
@@ -546,7 +582,10 @@ pub +write-entry+write-many+write-member+write-struct+write-structs-spec : {M : 
     (write-struct-sub-left t) (write-struct-loop-less t) (write-struct-loop-again t) (write-struct-same-length t)
     (write-struct-returns t))
     (λ t. write-structs-lts.spec (write-structs-calls t) (write-structs-at t) write-structs.Post write-structs-Inv-loop write-structs-μ-loop
+    (λ c κs. search needs) (write-structs-slice-aggregate-spots-of t) (write-structs-spots-of-requires t)
+    (write-structs-slice-aggregate-write-each t) (write-structs-write-each-requires t)
+    (write-structs-same-length t) (write-structs-returns t)
     (write-structs-loop-holds t) (write-structs-mul-write-struct t) (write-structs-add-write-struct t)
     (write-structs-mul-write-struct-2 t) (write-structs-add-write-struct-2 t)
     (write-structs-write-struct-requires t) (write-structs-add-i t) (write-structs-loop-less t)
-    (write-structs-loop-again t) (write-structs-same-length t) (write-structs-returns t))
+    (write-structs-loop-again t) (write-structs-same-length-2 t) (write-structs-returns-2 t))
