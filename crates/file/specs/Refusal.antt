@@ -2,7 +2,7 @@
 -- Definitions only. Assumes nothing.
 use Prim.Native.Nat.{ℕ}
 use Rattle.file.specs.declared.refusal.Refusal.{Refusal}
-use Rattle.file.specs.declared.refusal.Refusal.the-variants.{Short, Form, Counts, Length, Rule, Given, Large, Missing, Absent, Unstorable, Count, Buffer, Word, Long, NoRank}
+use Rattle.file.specs.declared.refusal.Refusal.the-variants.{Short, Form, Counts, Length, Rule, Given, Large, Missing, Absent, Unstorable, NoMember, PastEnd, NoIndex, Count, Buffer, Word, Long, NoRank}
 
 abbrev pub numberOf : Refusal → ℕ
 numberOf Short = 1
@@ -15,6 +15,9 @@ numberOf (Large entry) = 7
 numberOf Missing = 8
 numberOf Absent = 9
 numberOf Unstorable = 10
+numberOf (NoMember step) = 11
+numberOf (PastEnd step) = 12
+numberOf (NoIndex step) = 13
 numberOf Count = 14
 numberOf Buffer = 15
 numberOf (Word position) = 16
@@ -32,6 +35,9 @@ placeOf (Large entry) = entry
 placeOf Missing = 0
 placeOf Absent = 0
 placeOf Unstorable = 0
+placeOf (NoMember step) = step
+placeOf (PastEnd step) = step
+placeOf (NoIndex step) = step
 placeOf Count = 0
 placeOf Buffer = 0
 placeOf (Word position) = position

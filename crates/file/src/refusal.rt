@@ -19,6 +19,10 @@ pub enum Refusal {
     Absent,
     // 10: not storable
     Unstorable,
+    // 11 to 13, with the step: no such member, an index not below the count, an index where there are no parts
+    NoMember(usize),
+    PastEnd(usize),
+    NoIndex(usize),
     // 14: the wrong number of words, or too few
     Count,
     // 15: a buffer that is too short
@@ -45,6 +49,9 @@ pub fn number(r: Refusal) -> u32
         Refusal::Missing => 8,
         Refusal::Absent => 9,
         Refusal::Unstorable => 10,
+        Refusal::NoMember(_) => 11,
+        Refusal::PastEnd(_) => 12,
+        Refusal::NoIndex(_) => 13,
         Refusal::Count => 14,
         Refusal::Buffer => 15,
         Refusal::Word(_) => 16,
@@ -53,7 +60,8 @@ pub fn number(r: Refusal) -> u32
     }
 }
 
-// The lowest 32 bits of a place. Places are entries, below 256, and positions of words, below 2^31.
+// The lowest 32 bits of a place. Places are entries, below 256, positions of steps, and positions of words, below 2^31. A path leads at
+// most once through each entry, and then to a column and to its scalar, so that no bad step's position is above 256.
 pub fn place(r: Refusal) -> u32
     ensures { λ n. ⌜ n ≡ placeOf r % 2 ^ 32 ⌝ }
 {
@@ -61,6 +69,9 @@ pub fn place(r: Refusal) -> u32
         Refusal::Rule(k) => (k % 0x1_0000_0000) as u32,
         Refusal::Given(k) => (k % 0x1_0000_0000) as u32,
         Refusal::Large(k) => (k % 0x1_0000_0000) as u32,
+        Refusal::NoMember(k) => (k % 0x1_0000_0000) as u32,
+        Refusal::PastEnd(k) => (k % 0x1_0000_0000) as u32,
+        Refusal::NoIndex(k) => (k % 0x1_0000_0000) as u32,
         Refusal::Word(k) => (k % 0x1_0000_0000) as u32,
         _ => 0,
     }

@@ -12,7 +12,7 @@ use Rattle.wgsl.specs.File as wgsl
 use Rattle.wgsl.specs.Call as call
 use Rattle.file.specs.Refusal.{numberOf, placeOf}
 use Rattle.file.specs.declared.refusal.Refusal.{Refusal}
-use Rattle.file.specs.declared.refusal.Refusal.the-variants.{Short, Form, Counts, Length, Rule, Given, Large, Missing, Absent, Unstorable, Count, Buffer, Word, Long, NoRank}
+use Rattle.file.specs.declared.refusal.Refusal.the-variants.{Short, Form, Counts, Length, Rule, Given, Large, Missing, Absent, Unstorable, NoMember, PastEnd, NoIndex, Count, Buffer, Word, Long, NoRank}
 use Rattle.file.specs.declared.trailer.Trailer.{Trailer}
 use Rattle.table.specs.Table.{saidChecked}
 use Rattle.layout.specs.Answer.{saidNumber, maybeOf, saidAnswer}
@@ -24,21 +24,20 @@ use Rattle.table.specs.declared.Checked.{Checked}
 
 -- ---- anything that tells itself
 
-single : {A B : Type 0} (says : A → B) (from : B → A) → ((a : A) → from (says a) ≡ a) → {said : B} (a b : A) → says a ≡ said → says b ≡ said → a ≡ b
+pub single : {A B : Type 0} (says : A → B) (from : B → A) → ((a : A) → from (says a) ≡ a) → {said : B} (a b : A) → says a ≡ said → says b ≡ said → a ≡ b
 single says from told a b p q = sym (told a) ∙ ap from (p ∙ sym q) ∙ told b
 
 -- ---- refusals
 
-unfoldable refusalFrom : ℕ → ℕ → Refusal
+unfoldable pub refusalFrom : ℕ → ℕ → Refusal
 refusalFrom place number =
     getD
     (Short ∷ Short ∷ Form ∷ Counts ∷ Length ∷ Rule place ∷ Given place ∷ Large place ∷ Missing ∷ Absent ∷ Unstorable
-    -- 11 to 13 are none of these calls'
-    ∷ Short ∷ Short ∷ Short ∷ Count ∷ Buffer ∷ Word place ∷ Long ∷ [])
+    ∷ NoMember place ∷ PastEnd place ∷ NoIndex place ∷ Count ∷ Buffer ∷ Word place ∷ Long ∷ [])
     number
     NoRank
 
-refusal-told : (r : Refusal) → refusalFrom (placeOf r) (numberOf r) ≡ r
+pub refusal-told : (r : Refusal) → refusalFrom (placeOf r) (numberOf r) ≡ r
 unfolding refusalFrom
 refusal-told Short = refl
 refusal-told Form = refl
@@ -50,6 +49,9 @@ refusal-told (Large entry) = refl
 refusal-told Missing = refl
 refusal-told Absent = refl
 refusal-told Unstorable = refl
+refusal-told (NoMember step) = refl
+refusal-told (PastEnd step) = refl
+refusal-told (NoIndex step) = refl
 refusal-told Count = refl
 refusal-told Buffer = refl
 refusal-told (Word position) = refl

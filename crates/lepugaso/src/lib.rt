@@ -1,5 +1,6 @@
 // The public calls, in one place. None has a `requires`: any bytes of any length and any numbers are answered. Each answers a number or a
-// refusal (`layout::ask::Number`), but for `layout`, which answers all three numbers of an entry (`layout::ask::Answer`).
+// refusal (`layout::ask::Number`), but for `layout`, which answers all three numbers of an entry (`layout::ask::Answer`), `view_at`, which
+// answers a target (`walker::walk::Walked`), and the two views, which hand back a part of the buffer that they were lent.
 
 // How many entries an accepted file has; else 1 to 7.
 pub use layout::ask::check;
@@ -15,3 +16,10 @@ pub use convert::ask::rank;
 // The words of an entry into a buffer (the byte count), and out of one (the word count); else 1 to 10, 14 to 17.
 pub use words::reading::read;
 pub use words::writing::write;
+// What a path leads to (its offset, its bytes and its scalar); the same as that part of the buffer, to be read or to be written; else 1
+// to 9, 11 to 13, 15, 17.
+pub use paths::view::view;
+pub use paths::view::view_at;
+pub use paths::view::view_mut;
+// One scalar at a path (its offset); else 1 to 17.
+pub use paths::set::set;

@@ -1,11 +1,13 @@
 -- An answer as the numbers that cross to C.
 --
--- In order: an answer that is a number; the three numbers of a layout.
+-- In order: an answer that is a number; the three numbers of a layout; the bytes of a view.
 -- Definitions only. Assumes nothing.
 use Prim.Native.Nat.{ℕ, _%_, _^_}
 use mathlib.Core.List.{List, [], _∷_}
 use mathlib.Core.Option.{Option, none, some}
 use Rattle.wgsl.specs.Said.{Said, good, refused}
+use Rattle.wgsl.specs.Place.{spanOf}
+use Rattle.wgsl.specs.Path.{Target}
 use Rattle.wgsl.specs.Call.{Layout}
 use Rattle.surface.specs.declared.Crossing.{Crossing}
 
@@ -28,3 +30,8 @@ told (refused number place) = refused number place
 abbrev pub laidOut : Said Layout → List ℕ → List ℕ
 laidOut (good l) before = crossedMaybe (l .size) ∷ crossedMaybe (l .align) ∷ crossedMaybe (l .minSize) ∷ []
 laidOut (refused number place) before = before
+
+-- what the one number lent holds at the end, beside the offset of a view
+abbrev pub sizeOut : Said Target → ℕ → ℕ
+sizeOut (good t) before = spanOf (t .shape)
+sizeOut (refused number place) before = before

@@ -5,10 +5,11 @@ use file::refusal::place;
 use layout::ask::Answer;
 use layout::ask::Maybe;
 use layout::ask::Number;
+use walker::walk::Walked;
 ghost use mathlib.Core.Path.{_≡_};
-ghost use Rattle.wgsl.specs.Call.{checkOf, sizeCall, alignCall, minSizeCall, layoutCall, rankCall, commonCall, answerOf, contentsOf, readCall, writeCall};
+ghost use Rattle.wgsl.specs.Call.{checkOf, sizeCall, alignCall, minSizeCall, layoutCall, rankCall, commonCall, answerOf, contentsOf, readCall, writeCall, offsetOf, viewCall, setCall};
 ghost use Rattle.layout.specs.Answer.{saidNumber, maybeOf};
-ghost use Rattle.surface.specs.Crossing.{crossed, crossedMaybe, told, laidOut};
+ghost use Rattle.surface.specs.Crossing.{crossed, crossedMaybe, told, laidOut, sizeOut};
 
 // An answer as it crosses to C: 0 or document 01's number, its place, the value (0 when refused).
 #[repr(C)]
@@ -130,4 +131,43 @@ pub extern "C" fn lepugaso_surface_read(
     ensures words { λ r. ⌜ now (words .exit) ≡ contentsOf (now (words .entry)) (readCall (now (file .entry)) entry (now (buf .entry)) (now (words .entry))) ⌝ }
 {
     cross(lepugaso::read(file, entry, buf, words))
+}
+
+// A good answer is the offset, and `size` the bytes there.
+#[no_mangle]
+pub extern "C" fn lepugaso_surface_view(
+    file: &[u8],
+    entry: u32,
+    path: &[u32],
+    buf: &[u8],
+    size: &mut u64,
+) -> Crossing
+    ensures answer { λ r. ⌜ r ≡ crossed (offsetOf (viewCall (now (file .entry)) entry (now (path .entry)) (now (buf .entry)))) ⌝ }
+    ensures size { λ r. ⌜ now (size .exit) ≡ sizeOut (viewCall (now (file .entry)) entry (now (path .entry)) (now (buf .entry))) (now (size .entry)) ⌝ }
+{
+    match lepugaso::view_at(file, entry, path, buf) {
+        Walked::To(t) => {
+            *size = t.size as u64;
+            Crossing {
+                refusal: 0,
+                place: 0,
+                value: t.offset as u64,
+            }
+        }
+        Walked::Refused(r) => cross(Number::Refused(r)),
+    }
+}
+
+#[no_mangle]
+pub extern "C" fn lepugaso_surface_set(
+    file: &[u8],
+    entry: u32,
+    path: &[u32],
+    word: u32,
+    buf: &mut [u8],
+) -> Crossing
+    ensures answer { λ r. ⌜ r ≡ crossed (answerOf (setCall (now (file .entry)) entry (now (path .entry)) word (now (buf .entry)))) ⌝ }
+    ensures buffer { λ r. ⌜ now (buf .exit) ≡ contentsOf (now (buf .entry)) (setCall (now (file .entry)) entry (now (path .entry)) word (now (buf .entry))) ⌝ }
+{
+    cross(lepugaso::set(file, entry, path, word, buf))
 }

@@ -157,6 +157,11 @@ unfoldable pub partOf : Said Target → List ℕ → List ℕ
 partOf (good t) b = take (spanOf (t .shape)) (drop (t .offset) b)
 partOf (refused number place) b = []
 
+-- where that part begins in the caller's own buffer
+unfoldable pub partStart : Said Target → ℕ
+partStart (good t) = t .offset
+partStart (refused number place) = 0
+
 -- ---- set
 
 -- 14: "set on no single scalar"

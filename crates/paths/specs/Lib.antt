@@ -1,0 +1,3 @@
+pub mod Locate
+pub mod View
+pub mod Set

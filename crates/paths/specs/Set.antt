@@ -1,0 +1,39 @@
+-- A set once its target is found: the rest of crates/wgsl's `setCall` (specs/Call).
+-- Definitions only. Assumes nothing.
+use Prim.Native.Nat.{ℕ, _+_, _≤_}
+use mathlib.Core.Path.{_≡_}
+use mathlib.Core.List.{List, [], _∷_}
+use mathlib.Core.Option.{some}
+use Rattle.wgsl.specs.Round.{limit}
+use Rattle.wgsl.specs.Types.{Scalar}
+use Rattle.wgsl.specs.Size.{widthOf}
+use Rattle.wgsl.specs.Said.{Said, good, _>>=_, _>>_, orRefuse}
+use Rattle.wgsl.specs.Place.{spanOf, wordPlaces, storeWords, checkWords}
+use Rattle.wgsl.specs.Path as path
+use Rattle.wgsl.specs.Call.{Done, scalarAt}
+use Rattle.wgsl.proofs.Shape.{Sound}
+use Rattle.walker.specs.declared.walk.Target.{Target}
+use Rattle.walker.specs.Walk.{targetIs}
+
+-- 16, and the word stored in a scalar
+unfoldable pub storedAs : Scalar → ℕ → ℕ → List ℕ → Said Done
+storedAs s at w b = do
+  checkWords 0 (wordPlaces s at) (w ∷ [])
+  good (record { value = at; contents = storeWords (wordPlaces s at) (w ∷ []) b })
+
+-- 14 first
+unfoldable pub setAs : path.Target → ℕ → List ℕ → Said Done
+setAs u w b = do
+  s ← orRefuse 14 0 (scalarAt (u .shape))
+  storedAs s (u .offset) w b
+
+-- a scalar of two bytes
+pub record Narrow (s : Scalar) : Type 0 where
+  pub width-is : widthOf s ≡ some 2
+
+-- the target u as the code has it, inside a buffer of so many bytes
+pub record Roomy (t : Target) (u : path.Target) (bytes : ℕ) : Type 0 where
+  pub is : t ≡ targetIs u
+  pub sound : Sound (u .shape)
+  pub inside : u .offset + spanOf (u .shape) ≤ bytes
+  pub within : bytes ≤ limit

@@ -1,0 +1,4 @@
+// Views and sets: what a path leads to in a buffer, and one scalar stored there. Every refusal is decided before a byte is stored.
+pub mod locate;
+pub mod set;
+pub mod view;

@@ -1,0 +1,123 @@
+// What a path leads to. Document 01's order is 1 to 8, 17, 9, for a set 10, then 15 and the first bad step.
+use decide::Allowed;
+use decide::Found;
+use decide::allow;
+use decide::elements_in;
+use decide::no_rows;
+use file::refusal::Refusal;
+use file::trailer::wide;
+use kinds::value::Layout;
+use plan::Ground;
+use plan::Planned;
+use plan::lay;
+use walker::enter::Place;
+use walker::walk::Walked;
+use walker::walk::walk;
+ghost use mathlib.Core.Path.{_≡_};
+ghost use mathlib.Core.Bool.{true};
+ghost use mathlib.Core.List.{List};
+ghost use Prim.Native.Nat.{ℕ, _≤_};
+ghost use lib.ListN.{length};
+ghost use Rattle.wgsl.specs.Round.{limit};
+ghost use Rattle.wgsl.specs.Types.{Ty, isOpen, everywhere};
+ghost use Rattle.wgsl.specs.Rule.{isWellFormed};
+ghost use Rattle.wgsl.specs.Call.{targetIn};
+ghost use Rattle.kinds.specs.Value.{valueOf};
+ghost use Rattle.decide.specs.Decide.{saidAllowed};
+ghost use Rattle.walker.specs.Walk.{saidWalked, reached};
+ghost use Rattle.paths.specs.Locate.{allowedAs, Laid, heldOf, Viewable, Planted, targetCall};
+
+// 17 and 9; 10 too, for an entry that is to be stored.
+fn permit(l: Layout, bytes: usize, stored: bool) -> Allowed
+    ensures { λ r. ⌜ ((t : Ty) → l ≡ valueOf t → everywhere isWellFormed t ≡ true → saidAllowed r ≡ allowedAs stored t bytes) ⌝ }
+{
+    if stored {
+        return allow(l, bytes);
+    }
+    if 4294967295 < bytes {
+        return Allowed::Refused(Refusal::Long);
+    }
+    if l.align == 0 {
+        return Allowed::Refused(Refusal::Absent);
+    }
+    Allowed::Yes
+}
+
+// What a buffer holds of an entry: the elements of its runtime array, if it has one, and where it ends.
+pub enum Held {
+    Is(usize, usize),
+    No,
+}
+
+// 15 for an open type: a buffer with no whole element.
+fn held_open(l: Layout, bytes: usize) -> Held
+    requires { ⌜ ((t : Ty) × Laid l t × (isOpen t ≡ true) × (bytes ≤ limit)) ⌝ }
+    ensures { λ r. ⌜ ((t : Ty) (b : List ℕ) → Laid l t → isOpen t ≡ true → length b ≡ bytes → r ≡ heldOf t b) ⌝ }
+{
+    match elements_in(bytes, l.offset, l.stride) {
+        Found::No => Held::No,
+        Found::Is(n) => Held::Is(n, wide(l.offset) + n * wide(l.stride)),
+    }
+}
+
+// 15: for an entry of the layout `l` and a buffer of so many bytes.
+fn held(l: Layout, bytes: usize) -> Held
+    requires { ⌜ ((t : Ty) × Laid l t × (bytes ≤ limit)) ⌝ }
+    ensures { λ r. ⌜ ((t : Ty) (b : List ℕ) → Laid l t → length b ≡ bytes → r ≡ heldOf t b) ⌝ }
+{
+    if l.opens {
+        return held_open(l, bytes);
+    }
+    let size = wide(l.size);
+    if bytes < size {
+        return Held::No;
+    }
+    Held::Is(0, size)
+}
+
+// What lies under a path: 15, and then the first bad step.
+fn target(members: &[u8], rows: &[u32], e: usize, l: Layout, path: &[u32], bytes: usize) -> Walked
+    requires { ⌜ ((f : List ℕ) × (t : Ty) × Viewable f (now members) (now rows) e l t × (bytes ≤ limit)) ⌝ }
+    ensures { λ r. ⌜ ((f : List ℕ) (t : Ty) (b : List ℕ) → Viewable f (now (members .entry)) (now (rows .entry)) e l t → length b ≡ bytes → saidWalked r ≡ reached (targetIn t (now (path .entry)) b)) ⌝ }
+{
+    match held(l, bytes) {
+        Held::No => Walked::Refused(Refusal::Buffer),
+        Held::Is(n, size) => walk(members, rows, n, Place::Entry(e), size, path, 0, 0),
+    }
+}
+
+// 17, 9, 10, and then the rest.
+fn target_at(
+    file: &[u8],
+    e: usize,
+    g: Ground,
+    rows: &[u32],
+    path: &[u32],
+    bytes: usize,
+    stored: bool,
+) -> Walked
+    requires { ⌜ ((t : Ty) × Planted (now file) e g (now rows) t) ⌝ }
+    ensures { λ r. ⌜ ((t : Ty) (b : List ℕ) → Planted (now (file .entry)) e g (now (rows .entry)) t → length b ≡ bytes → saidWalked r ≡ reached (targetCall stored (now (file .entry)) e (now (path .entry)) b)) ⌝ }
+{
+    let l = g.layout;
+    match permit(l, bytes, stored) {
+        Allowed::Refused(r) => Walked::Refused(r),
+        Allowed::Yes => {
+            let start = g.start;
+            let end = g.end;
+            target(&file[start..end], rows, e, l, path, bytes)
+        }
+    }
+}
+
+// What `path` leads to from entry `entry` in a buffer of so many bytes; `stored` says that the entry must be storable.
+// Refuses 1 to 7 (file), 8, 17, 9 (no layout), 10, 15, then 11 to 13 (the first bad step).
+pub fn locate(file: &[u8], entry: u32, path: &[u32], bytes: usize, stored: bool) -> Walked
+    ensures { λ r. ⌜ ((b : List ℕ) → length b ≡ bytes → saidWalked r ≡ reached (targetCall stored (now (file .entry)) entry (now (path .entry)) b)) ⌝ }
+{
+    let mut rows = no_rows();
+    match lay(file, entry, &mut rows) {
+        Planned::Refused(r) => Walked::Refused(r),
+        Planned::Is(g) => target_at(file, wide(entry), g, &rows, path, bytes, stored),
+    }
+}

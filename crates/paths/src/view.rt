@@ -1,0 +1,46 @@
+// `view` and `view_mut`: the bytes that a path leads to, as that part of the caller's own buffer.
+use crate::locate::locate;
+use walker::walk::Walked;
+ghost use denote.Ref.{ptr};
+ghost use mathlib.Core.Path.{_≡_};
+ghost use Rattle.wgsl.specs.Call.{viewCall, partOf, partStart};
+ghost use Rattle.walker.specs.Walk.{saidWalked, reached};
+ghost use Rattle.paths.specs.View.{after};
+
+// What `path` leads to from entry `entry`: its offset, its bytes and its scalar.
+// Refuses 1 to 7 (file), 8, 17, 9 (no layout), 15, then 11 to 13 (the first bad step).
+pub fn view_at(file: &[u8], entry: u32, path: &[u32], buf: &[u8]) -> Walked
+    ensures { λ r. ⌜ saidWalked r ≡ reached (viewCall (now (file .entry)) entry (now (path .entry)) (now (buf .entry))) ⌝ }
+{
+    locate(file, entry, path, buf.len(), false)
+}
+
+// The bytes of what `path` leads to, as that part of the buffer; where `view_at` refuses, the empty part at its start.
+pub fn view<'a>(file: &[u8], entry: u32, path: &[u32], buf: &'a [u8]) -> &'a [u8]
+    ensures bytes { λ r. ⌜ now r ≡ partOf (viewCall (now (file .entry)) entry (now (path .entry)) (now (buf .entry))) (now (buf .entry)) ⌝ }
+    ensures place { λ r. ⌜ ptr r ≡ after (ptr (buf .entry)) (partStart (viewCall (now (file .entry)) entry (now (path .entry)) (now (buf .entry)))) ⌝ }
+{
+    match locate(file, entry, path, buf.len(), false) {
+        Walked::To(t) => {
+            let from = t.offset;
+            let to = from + t.size;
+            &buf[from..to]
+        }
+        Walked::Refused(_) => &buf[0..0],
+    }
+}
+
+// The same part, to be written.
+pub fn view_mut<'a>(file: &[u8], entry: u32, path: &[u32], buf: &'a mut [u8]) -> &'a mut [u8]
+    ensures bytes { λ r. ⌜ now r ≡ partOf (viewCall (now (file .entry)) entry (now (path .entry)) (now (buf .entry))) (now (buf .entry)) ⌝ }
+    ensures place { λ r. ⌜ ptr r ≡ after (ptr (buf .entry)) (partStart (viewCall (now (file .entry)) entry (now (path .entry)) (now (buf .entry)))) ⌝ }
+{
+    match locate(file, entry, path, buf.len(), false) {
+        Walked::To(t) => {
+            let from = t.offset;
+            let to = from + t.size;
+            &mut buf[from..to]
+        }
+        Walked::Refused(_) => &mut buf[0..0],
+    }
+}

@@ -1,0 +1,4 @@
+pub mod Step
+pub mod Member
+pub mod Way
+pub mod Walk

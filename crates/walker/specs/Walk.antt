@@ -1,0 +1,22 @@
+-- What a walk answers, in the words of crates/wgsl (specs/Path).
+-- Definitions only. Assumes nothing.
+use Rattle.wgsl.specs.Said.{Said, good, refused}
+use Rattle.wgsl.specs.Place.{spanOf}
+use Rattle.wgsl.specs.Path as path
+use Rattle.file.specs.Refusal.{numberOf, placeOf}
+use Rattle.walker.specs.declared.walk.Target.{Target}
+use Rattle.walker.specs.declared.walk.Walked.{Walked}
+use Rattle.walker.specs.declared.walk.Walked.the-variants.{To, Refused}
+use Rattle.walker.specs.Way.{scalarIn}
+
+-- the offset of a target, its bytes, and the kind of the one scalar that it is (7 where it is none)
+abbrev pub targetIs : path.Target → Target
+targetIs t = record { offset = t .offset; size = spanOf (t .shape); scalar = scalarIn (t .shape) }
+
+abbrev pub reached : Said path.Target → Said Target
+reached (good t) = good (targetIs t)
+reached (refused number place) = refused number place
+
+abbrev pub saidWalked : Walked → Said Target
+saidWalked (To t) = good t
+saidWalked (Refused r) = refused (numberOf r) (placeOf r)

@@ -1,0 +1,71 @@
+// Walking a path.
+use crate::enter::Entered;
+use crate::enter::Place;
+use crate::enter::enter;
+use crate::enter::scalar_in;
+use crate::step::step_of;
+use file::refusal::Refusal;
+ghost use mathlib.Core.Path.{_≡_};
+ghost use mathlib.Core.List.{List, map};
+ghost use Prim.Native.Nat.{ℕ, _+_, _≤_};
+ghost use lib.ListN.{length, drop};
+ghost use Rattle.wgsl.specs.Round.{limit};
+ghost use Rattle.wgsl.specs.Types.{Ty};
+ghost use Rattle.wgsl.specs.Place.{Shape, spanOf};
+ghost use Rattle.wgsl.specs.Path.{stepOf};
+ghost use Rattle.wgsl.specs.Path as steps;
+ghost use Rattle.walker.specs.Way.{Standing};
+ghost use Rattle.walker.specs.Walk.{saidWalked, reached};
+
+// What a path leads to: its offset, its bytes, and the kind of the one scalar that it is (7 where it is none).
+pub struct Target {
+    pub offset: usize,
+    pub size: usize,
+    pub scalar: u32,
+}
+
+pub enum Walked {
+    To(Target),
+    Refused(Refusal),
+}
+
+// The steps from number `k` on, from a place that lies at `offset` and has `size` bytes. An open type has `n` elements.
+pub fn walk(
+    members: &[u8],
+    rows: &[u32],
+    n: usize,
+    p: Place,
+    size: usize,
+    path: &[u32],
+    k: usize,
+    offset: usize,
+) -> Walked
+    requires { ⌜ ((f : List ℕ) × (ts : List Ty) × (j : ℕ) × (x : Shape) × Standing f ts (now members) (now rows) j n p x × (size ≡ spanOf x) × (offset + spanOf x ≤ limit) × (k ≤ length (now path))) ⌝ }
+    ensures { λ r. ⌜ ((f : List ℕ) (ts : List Ty) (j : ℕ) (x : Shape) → Standing f ts (now (members .entry)) (now (rows .entry)) j n p x → size ≡ spanOf x → saidWalked r ≡ reached (steps.walk k offset x (map stepOf (drop k (now (path .entry)))))) ⌝ }
+{
+    if k == path.len() {
+        return Walked::To(Target {
+            offset,
+            size,
+            scalar: scalar_in(rows, p),
+        });
+    }
+    match enter(members, rows, n, p, step_of(path[k])) {
+        Entered::Into(i) => {
+            let next = i.place;
+            walk(
+                members,
+                rows,
+                n,
+                next,
+                i.size,
+                path,
+                k + 1,
+                offset + i.offset,
+            )
+        }
+        Entered::NoMember => Walked::Refused(Refusal::NoMember(k)),
+        Entered::PastEnd => Walked::Refused(Refusal::PastEnd(k)),
+        Entered::NoIndex => Walked::Refused(Refusal::NoIndex(k)),
+    }
+}
