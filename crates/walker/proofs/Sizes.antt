@@ -1,10 +1,11 @@
 -- The bytes of an entry of an accepted file, by its row (specs/Way).
 --
--- In order: kind 10; the rows; the shape of an entry; the bytes of an entry that has a size or is a runtime array.
+-- In order: what a step leads to lies inside; kind 10; the rows; the shape of an entry; the bytes of an entry that has a size or is a
+-- runtime array.
 -- Assumes nothing.
 use Prim.Native.Nat.{ℕ, _+_, _*_, _<_, _≤_}
 use mathlib.Core.Bool.{true, _||_}
-use mathlib.Core.List.{List}
+use mathlib.Core.List.{List, [], _∷_}
 use mathlib.Core.Logic.{_⊎_, ⊎-elim}
 use mathlib.Core.Option.{some}
 use mathlib.Core.Path.{_≡_, refl, sym, ap, _∙_}
@@ -16,10 +17,13 @@ use Rattle.wgsl.specs.Types.{Ty, scalar, vector, matrix, array, runtime, atomic
 use Rattle.wgsl.specs.Size.{isPresent, present, sizeOf, alignOf, hasLayout}
 use Rattle.wgsl.specs.File.{typeEntryAt}
 use Rattle.wgsl.specs.Rule.{scalarIn, isWellFormed}
-use Rattle.wgsl.specs.Place.{extentOf, shapeOf, spanOf}
+use Rattle.wgsl.specs.Said.{good, _>>=_}
+use Rattle.wgsl.specs.Place.{Shape, extentOf, shapeOf, spanOf}
+use Rattle.wgsl.specs.Path.{Step, Target, enter, walk}
 use Rattle.wgsl.proofs.Absent.{both-hold, true-not-false, some-not-none, present-some, present-is}
 use Rattle.wgsl.proofs.Accepted.{accepted-well-formed}
 use Rattle.wgsl.proofs.Shape.{Sound}
+use Rattle.wgsl.proofs.Path.{target, target-inside}
 use Rattle.wgsl.proofs.Tail.{runtime-unsized, sized-takes}
 use Rattle.wgsl.proofs.Laid.{laid}
 use Rattle.kinds.specs.Value.{kindOfType, valueOf}
@@ -28,6 +32,15 @@ use Rattle.rows.specs.declared.Row.{Row}
 use Rattle.rows.specs.Row.{rowAt}
 use Rattle.plan.specs.Plan.{partStride, rowOf}
 use Rattle.walker.specs.Way.{sizeAt, Site}
+
+-- ---- a step
+
+-- What a step leads to is sound and lies inside the shape that it starts from.
+pub step-inside : (j : ℕ) (x : Shape) (s : Step) (t : Target) → Sound x → enter j x s ≡ good t → Sound (t .shape) × (t .offset + spanOf (t .shape) ≤ spanOf x)
+unfolding walk _>>=_
+step-inside j x s t sound h =
+    let i = target-inside j 0 x (s ∷ []) (target (0 + t .offset) (t .shape)) sound (rw h) in
+    (i .0, omega (arith, i .2))
 
 -- ---- kind 10
 
