@@ -1,25 +1,24 @@
 -- What a walk finds at an entry, by its row (specs/Way): a scalar, parts, or a struct.
 --
--- In order: parts and what they are; what an entry is; types with a size; every kind; what a shape at a place is.
+-- In order: a part; what an entry is; types with a size; every kind.
 -- Assumes nothing.
 use Prim.Native.Nat.{ℕ, _*_, _<_, _≤_}
-use mathlib.Core.Bool.{true, cond, _||_, or-true}
+use mathlib.Core.Bool.{true, _||_, or-true}
 use mathlib.Core.List.{List}
 use mathlib.Core.Logic.{inl}
 use mathlib.Core.Option.{Option, some}
 use mathlib.Core.Path.{_≡_, refl, sym, ap, _∙_}
 use native.Mathlib.Omega.{arith}
 use borrow.Author.Tests.{eq-eqb, ne-eqb}
-use lib.Dec.{eqb}
 use lib.ListN.{getElem?}
 use Rattle.wgsl.specs.Round.{up}
-use Rattle.wgsl.specs.Types.{Scalar, Ty, scalar, vector, matrix, array, runtime, atomic, struct, Members, isOpen}
-use Rattle.wgsl.specs.Size.{both, isPresent, present, widthOf, vectorSize, vectorAlign, sizeOf, alignOf, hasLayout}
+use Rattle.wgsl.specs.Types.{Scalar, Ty, scalar, vector, matrix, array, runtime, Members, isOpen}
+use Rattle.wgsl.specs.Size.{both, isPresent, widthOf, vectorSize, vectorAlign, sizeOf, alignOf, hasLayout}
 use Rattle.wgsl.specs.File.{typeEntryAt}
 use Rattle.wgsl.specs.Rule.{scalarIn}
 use Rattle.wgsl.specs.Rank.{kindOf}
 use Rattle.wgsl.specs.Place.{Shape, one, parts, column, shapeOf, fieldsOf, spanOf}
-use Rattle.wgsl.proofs.Absent.{both-hold, hold-both, present-some, some-present, present-is, both-some}
+use Rattle.wgsl.proofs.Absent.{both-hold, hold-both, present-some, some-present, both-some}
 use Rattle.wgsl.proofs.Passed.{matrix-passed, runtime-passed}
 use Rattle.wgsl.proofs.Align.{vector-align}
 use Rattle.wgsl.proofs.AtEntry.{Refers, to-none, to-vector, to-matrix, to-array, to-runtime, to-atomic, to-members, refers}
@@ -32,13 +31,13 @@ use Rattle.walker.specs.declared.enter.Place.the-variants.{Entry, Column
 use Rattle.walker.specs.Way.{sizeAt, partsAt, Site, Stands, at-entry, at-column}
 use Rattle.walker.proofs.Sizes.{row-there, kind-there, well-there, inner-size}
 
--- ---- parts
+-- ---- a part
 
--- a part of entry e, of the shape y: a column over the entry that e refers to, or that entry
-pub record Part (ts : List Ty) (rows : List ℕ) (k n e : ℕ) (y : Shape) : Type 0 where
-  pub lower : rowAt rows e .reference < k
-  pub as-column : rowAt rows e .kind ≡ 8 → Stands ts k n (Column (rowAt rows e .unit) (rowAt rows e .reference)) y × (rowAt rows e .unit * rowAt rows (rowAt rows e .reference) .size ≡ spanOf y)
-  pub as-entry : (rowAt rows e .kind ≡ 8 → ⊥) → Stands ts k n (Entry (rowAt rows e .reference)) y × (sizeAt rows n (rowAt rows e .reference) ≡ spanOf y)
+-- a part, of the shape y, of an entry with the row r: a column over the entry that it refers to, or that entry
+pub record Part (ts : List Ty) (rows : List ℕ) (k n : ℕ) (r : Row) (y : Shape) : Type 0 where
+  pub lower : r .reference < k
+  pub as-column : r .kind ≡ 8 → Stands ts k n (Column (r .unit) (r .reference)) y × (r .unit * rowAt rows (r .reference) .size ≡ spanOf y)
+  pub as-entry : (r .kind ≡ 8 → ⊥) → Stands ts k n (Entry (r .reference)) y × (sizeAt rows n (r .reference) ≡ spanOf y)
 
 -- ---- what an entry is
 
@@ -47,7 +46,7 @@ pub data Found (ts : List Ty) (rows : List ℕ) (k n e : ℕ) : Shape → Type 0
   a-scalar : (s : Scalar) → rowAt rows e .kind ≡ kindOf s → rowAt rows e .kind ≤ 6 → Found ts rows k n e (one s)
   an-atomic : (s : Scalar) → rowAt rows e .kind ≡ 11 → rowAt rows e .reference < k → rowAt rows (rowAt rows e .reference) .kind ≡ kindOf s → Found ts rows k n e (one s)
   -- kinds 7 to 10
-  of-parts : {count stride : ℕ} {y : Shape} → 7 ≤ rowAt rows e .kind → rowAt rows e .kind ≤ 10 → partsAt rows n e ≡ count → rowAt rows e .stride ≡ stride → Part ts rows k n e y → Found ts rows k n e (parts count stride y)
+  of-parts : {count stride : ℕ} {y : Shape} → 7 ≤ rowAt rows e .kind → rowAt rows e .kind ≤ 10 → partsAt rows n e ≡ count → rowAt rows e .stride ≡ stride → Part ts rows k n (rowAt rows e) y → Found ts rows k n e (parts count stride y)
   of-members : (z : ℕ) (end : Option ℕ) (ms : Members) → rowAt rows e .kind ≡ 12 → Found ts rows k n e (fieldsOf n z end ms)
 
 -- ---- types with a size
@@ -115,7 +114,7 @@ module _ {f : List ℕ} {ts : List Ty} {ms rows : List ℕ} {k : ℕ} (site : Si
     stride = ap (λ (r : Row). r .stride) (row-there site low there)
 
     -- a part that is an entry
-    entry-part : {u : Ty} → (kindOfType t ≡ 8 → ⊥) → typeEntryAt f e .reference < e → getElem? ts (typeEntryAt f e .reference) ≡ some u → Sized u → Part ts rows k n e (shapeOf n u)
+    entry-part : {u : Ty} → (kindOfType t ≡ 8 → ⊥) → typeEntryAt f e .reference < e → getElem? ts (typeEntryAt f e .reference) ≡ some u → Sized u → Part ts rows k n (rowAt rows e) (shapeOf n u)
     entry-part other down found x =
         let lower : typeEntryAt f e .reference < k = omega arith in
         record {
@@ -128,7 +127,7 @@ module _ {f : List ℕ} {ts : List Ty} {ms rows : List ℕ} {k : ℕ} (site : Si
         }
 
   -- a part that is a column
-  column-part : {c r : ℕ} {s : Scalar} → getElem? ts e ≡ some (matrix c r s) → typeEntryAt f e .reference < e → getElem? ts (typeEntryAt f e .reference) ≡ some (scalar s) → Sized (scalar s) → Part ts rows k n e (column r s)
+  column-part : {c r : ℕ} {s : Scalar} → getElem? ts e ≡ some (matrix c r s) → typeEntryAt f e .reference < e → getElem? ts (typeEntryAt f e .reference) ≡ some (scalar s) → Sized (scalar s) → Part ts rows k n (rowAt rows e) (column r s)
   unfolding kindOfType partWords rowOf column spanOf sizeOf
   column-part {r = r} there down found x =
       let lower : typeEntryAt f e .reference < k = omega arith in

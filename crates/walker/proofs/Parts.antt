@@ -3,7 +3,6 @@
 -- In order: where a walk stands; entries without parts; the part of an entry; the scalar of a column; the one scalar.
 -- Assumes nothing.
 use Prim.Native.Nat.{ℕ, _+_, _*_, _<_, _≤_}
-use mathlib.Core.Bool.{cond}
 use mathlib.Core.List.{List}
 use mathlib.Core.Option.{Option}
 use mathlib.Core.Path.{_≡_, refl, sym, ap, _∙_}
@@ -16,7 +15,7 @@ use Rattle.wgsl.specs.Types as types
 use Rattle.wgsl.specs.Types.{Scalar, Ty, Members, no-more}
 use Rattle.wgsl.specs.Size.{isPresent, present, widthOf, sizeOf, alignOf, hasLayout}
 use Rattle.wgsl.specs.Said.{good, refused}
-use Rattle.wgsl.specs.Place.{Shape, one, parts, column, shapeOf, fieldsOf, spanOf}
+use Rattle.wgsl.specs.Place.{Shape, one, column, shapeOf, fieldsOf, spanOf}
 use Rattle.wgsl.specs.Path.{index, member, enter}
 use Rattle.wgsl.proofs.Absent.{both-hold, present-some, present-is}
 use Rattle.wgsl.proofs.Align.{width-power}
@@ -34,6 +33,14 @@ use Rattle.walker.proofs.Entries.{Part, Found, a-scalar, an-atomic, of-
 
 -- ---- where a walk stands
 
+-- a column of r scalars s over the entry e
+record InColumn (ts : List Ty) (rows : List ℕ) (k n r e : ℕ) (x : Shape) : Type 0 where
+  s : Scalar
+  shape-is : x ≡ column r s
+  row : 10 * e + 10 ≤ length rows
+  size-is : rowAt rows e .size ≡ present (widthOf s)
+  below : Stands ts k n (Entry e) (one s)
+
 module _ {f : List ℕ} {ts : List Ty} {ms rows : List ℕ} {k : ℕ} (site : Site f ts ms rows k) where
   row-of : {n e : ℕ} {x : Shape} → Stands ts k n (Entry e) x → 10 * e + 10 ≤ length rows
   row-of (at-entry low there has) = row-inside site low
@@ -41,10 +48,16 @@ module _ {f : List ℕ} {ts : List Ty} {ms rows : List ℕ} {k : ℕ} (site : Si
   found-of : {n e : ℕ} {x : Shape} → Stands ts k n (Entry e) x → Found ts rows k n e x
   found-of (at-entry low there has) = found site _ _ low there has
 
-  column-of : {n r e : ℕ} {x : Shape} → Stands ts k n (Column r e) x → (10 * e + 10 ≤ length rows) × ((s : Scalar) × (x ≡ column r s) × (rowAt rows e .size ≡ present (widthOf s)) × Stands ts k n (Entry e) (one s))
+  in-column : {n r e : ℕ} {x : Shape} → Stands ts k n (Column r e) x → InColumn ts rows k n r e x
   unfolding rowOf sizeOf shapeOf
-  column-of (at-column {s = s} low there has) =
-      (row-inside site low, (s, refl, ap (λ (r : Row). r .size) (row-there site low there), at-entry low there has))
+  in-column (at-column {s = s} low there has) =
+      record {
+        s = s;
+        shape-is = refl;
+        row = row-inside site low;
+        size-is = ap (λ (r : Row). r .size) (row-there site low there);
+        below = at-entry low there has;
+      }
 
   -- What a walk stands at is laid out soundly.
   pub stands-sound : {n : ℕ} {p : Place} {x : Shape} → Stands ts k n p x → Sound x
@@ -90,7 +103,7 @@ past-end (of-members z end ms is) low high i h j = absurd (omega arith)
 -- part i of entry e, of the shape x
 record Indexed (ts : List Ty) (rows : List ℕ) (k n e i : ℕ) (x : Shape) : Type 0 where
   y : Shape
-  part : Part ts rows k n e y
+  part : Part ts rows k n (rowAt rows e) y
   enters : (j : ℕ) → enter j x (index i) ≡ good (record { offset = i * rowAt rows e .stride; shape = y })
 
 indexed : {ts : List Ty} {rows : List ℕ} {k n e i : ℕ} {x : Shape} → Found ts rows k n e x → Parted rows n e i → Indexed ts rows k n e i x
@@ -138,41 +151,41 @@ unfolding enter column
 column-indexed r s i j h = rw (lt-ltb i r h)
 
 module _ {f : List ℕ} {ts : List Ty} {ms rows : List ℕ} {k n r e : ℕ} {x : Shape} (at : Standing f ts ms rows k n (Column r e) x) where
-  own : (10 * e + 10 ≤ length rows) × ((s : Scalar) × (x ≡ column r s) × (rowAt rows e .size ≡ present (widthOf s)) × Stands ts k n (Entry e) (one s))
-  own = column-of (at .site) (at .stands)
+  own : InColumn ts rows k n r e x
+  own = in-column (at .site) (at .stands)
 
   pub column-row : 10 * e + 10 ≤ length rows
-  column-row = own .0
+  column-row = own .row
 
   pub column-past : (i : ℕ) → r ≤ i → (j : ℕ) → enter j x (index i) ≡ refused 12 j
   unfolding enter column
-  column-past i h j = rw (own .1 .1, le-ltb i r h)
+  column-past i h j = rw (own .shape-is, le-ltb i r h)
 
   pub column-no-member : (i j : ℕ) → enter j x (member i) ≡ refused 11 j
   unfolding enter column
-  column-no-member i j = rw (own .1 .1)
+  column-no-member i j = rw (own .shape-is)
 
   pub scalar-offset : (i : ℕ) → i < r → i * rowAt rows e .size ≤ limit
   unfolding column spanOf
   scalar-offset i h =
-      let w : ℕ = present (widthOf (own .1 .0)) in
-      let span : r * w ≤ limit = rw (own .1 .1) at (at .within) in
-      rw (own .1 .2) (omega (arith, mul-le-mul-right w h, suc-mul i w))
+      let w : ℕ = present (widthOf (own .s)) in
+      let span : r * w ≤ limit = rw (own .shape-is) at (at .within) in
+      rw (own .size-is) (omega (arith, mul-le-mul-right w h, suc-mul i w))
 
   pub scalar-enters : (i : ℕ) → i < r → Enters ts k n (Into (record { offset = i * rowAt rows e .size; size = rowAt rows e .size; place = Entry e })) x (index i)
   unfolding Enters spanOf
   scalar-enters i h =
-      let s : Scalar = own .1 .0 in (
+      let s : Scalar = own .s in (
         one s,
-        own .1 .3,
-        own .1 .2,
-        λ j. ap (λ (y : Shape). enter j y (index i)) (own .1 .1) ∙ column-indexed r s i j h
-            ∙ ap (λ (w : ℕ). good (target (i * w) (one s))) (sym (own .1 .2)),
+        own .below,
+        own .size-is,
+        λ j. ap (λ (y : Shape). enter j y (index i)) (own .shape-is) ∙ column-indexed r s i j h
+            ∙ ap (λ (w : ℕ). good (target (i * w) (one s))) (sym (own .size-is)),
       )
 
   pub column-no-scalar : scalarIn x ≡ 7
   unfolding column scalarIn
-  column-no-scalar = rw (own .1 .1)
+  column-no-scalar = rw (own .shape-is)
 
 -- ---- the one scalar
 

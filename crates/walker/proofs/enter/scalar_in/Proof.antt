@@ -1,6 +1,5 @@
 -- A scalar's row says its kind; an atomic's refers to it; nothing else is one scalar.
 use mathlib.Core.Path.{sym}
-use native.Mathlib.Omega.{arith}
 use borrow.Author.Needs.{needs}
 use Rattle.walker.proofs.Parts.{entry-row, entry-found, column-no-scalar, no-scalar, its-scalar, atomic-row, atomic-scalar}
 use Rattle.walker.proofs.enter.scalar_in.Statement.{statement}

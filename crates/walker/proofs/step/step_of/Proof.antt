@@ -1,6 +1,5 @@
 -- Bit 31 of a step of 32 bits is what is left when the other bits are shifted out; the number is under the mask.
-use Prim.Native.Nat.{ℕ, _/_, _%_, _^_, _<_}
-use mathlib.Core.Path.{_≡_, ap}
+use Prim.Native.Nat.{_/_, _^_, _<_}
 use native.Mathlib.Omega.{arith}
 use native.Mathlib.Nat.{mod-eq-of-lt}
 use lib.Bits.{and-mask}
