@@ -23,7 +23,6 @@ use Rattle.wgsl.specs.Place.{Shape, field, extentOf, shapeOf, column, fieldsOf,
 use Rattle.wgsl.specs.Path.{member, enter}
 use Rattle.wgsl.proofs.Absent.{hold-both, some-present}
 use Rattle.wgsl.proofs.Said.{when-some, andThen-some}
-use Rattle.wgsl.proofs.Shape.{Sound}
 use Rattle.wgsl.proofs.Members.{member-has}
 use Rattle.wgsl.proofs.AtEntry.{Refers, to-none, to-vector, to-matrix, to-array, to-runtime, to-atomic, to-members, refers}
 use Rattle.kinds.specs.Value.{kindOfType}
@@ -36,7 +35,8 @@ use Rattle.walker.specs.Member.{placedIn, Placeables}
 use Rattle.walker.specs.declared.enter.Place.the-variants.{Entry}
 use Rattle.walker.specs.declared.enter.Entered.the-variants.{Into}
 use Rattle.walker.specs.Way.{sizeAt, Site, Stands, at-entry, Standing, Enters}
-use Rattle.walker.proofs.Sizes.{step-inside, row-inside, kind-there, row-there, well-there, sound-at, inner-size}
+use Rattle.walker.proofs.Sizes.{step-inside, row-inside, kind-there, row-there, well-there, inner-size}
+use Rattle.walker.proofs.Parts.{stands-sound}
 
 -- ---- a member by those before it
 
@@ -187,12 +187,6 @@ module _ {f : List ℕ} {ts : List Ty} {ms rows : List ℕ} {k : ℕ} (site : Si
   entry-low : {n e : ℕ} {x : Shape} → Stands ts k n (Entry e) x → e < k
   entry-low (at-entry low there laid) = low
 
-  entry-sound : {n e : ℕ} {x : Shape} → Stands ts k n (Entry e) x → Sound x
-  entry-sound {n} (at-entry {e} low there laid) = sound-at site n e there laid .0
-
-  pub entry-inside : {n e : ℕ} {x : Shape} → Stands ts k n (Entry e) x → 10 * e + 10 ≤ length rows
-  entry-inside stands = row-inside site (entry-low stands)
-
   -- Outside a struct there is no member,
   pub member-outside : {n e : ℕ} {x : Shape} → Stands ts k n (Entry e) x → (rowAt rows e .kind ≡ 12 → ⊥) → (i j : ℕ) → enter j x (member i) ≡ refused 11 j
   member-outside {n} (at-entry {e} {t} low there laid) h i j = outside n i t (λ q. h (kind-there site low there ∙ q)) j
@@ -218,7 +212,7 @@ module _ {f : List ℕ} {ts : List Ty} {ms rows : List ℕ} {k n e : ℕ} {x : S
 
   pub found-within : sizeAt rows n (placedIn ms rows m 0 i .ty) ≤ limit
   found-within =
-      let inside = step-inside 0 x (member i) _ (entry-sound (s .site) (s .stands)) (found .enters 0) .1 in
+      let inside = step-inside 0 x (member i) _ (stands-sound (s .site) (s .stands)) (found .enters 0) .1 in
       rw found-size (omega (arith, s .within))
 
   pub found-enters : Enters ts k n (Into (record { offset = placedIn ms rows m 0 i .start; size = sizeAt rows n (placedIn ms rows m 0 i .ty); place = Entry (placedIn ms rows m 0 i .ty) })) x (member i)

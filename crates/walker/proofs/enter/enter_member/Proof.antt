@@ -10,12 +10,13 @@ use Rattle.rows.specs.declared.Row.{Row}
 use Rattle.walker.specs.declared.enter.Place.the-variants.{Entry}
 use Rattle.walker.specs.Way.{Standing, Enters}
 use Rattle.walker.proofs.Sizes.{size-within}
-use Rattle.walker.proofs.Members.{MemberFound, entry-inside, member-outside, member-past, member-found, found-inside, found-within, found-enters}
+use Rattle.walker.proofs.Parts.{entry-row}
+use Rattle.walker.proofs.Members.{MemberFound, member-outside, member-past, member-found, found-inside, found-within, found-enters}
 use Rattle.walker.proofs.enter.enter_member.Statement.{statement}
 use Rattle.walker.proofs.enter.enter_member.Tie as tie
 
 row-at-requires : tie.Need-row-at-requires
-row-at-requires c κs = let (f, ts, k, x, s) = c .before .before .pre in entry-inside (s .site) (s .stands)
+row-at-requires c κs = let (f, ts, k, x, s) = c .before .before .pre in entry-row s
 
 returns : tie.Need-returns
 unfolding Enters
