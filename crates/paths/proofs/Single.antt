@@ -51,11 +51,10 @@ partLength (refused number place) = 0
 
 -- Such a part is as long as the target.
 pub length-part : (f : List ℕ) (e : ℕ) (steps b : List ℕ) → length (partOf (viewCall f e steps b) b) ≡ partLength (viewCall f e steps b)
-unfolding viewCall targetCall
+unfolding viewCall targetCall partOf
 length-part f e steps b = go (viewCall f e steps b) refl
   where
     go : (said : Said path.Target) → viewCall f e steps b ≡ said → length (partOf said b) ≡ partLength said
-    unfolding partOf
     go (good u) q =
         let x = target-room false f e steps b refl q in
         length-take-le (spanOf (u .shape)) (drop (u .offset) b) (simp length-drop (omega (arith, x .inside)))

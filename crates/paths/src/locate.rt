@@ -76,7 +76,14 @@ fn held_of(l: Layout, bytes: usize) -> Held
 }
 
 // What lies under a path: 15, and then the first bad step.
-fn target_in(members: &[u8], rows: &[u32], e: usize, l: Layout, path: &[u32], bytes: usize) -> Walked
+fn target_in(
+    members: &[u8],
+    rows: &[u32],
+    e: usize,
+    l: Layout,
+    path: &[u32],
+    bytes: usize,
+) -> Walked
     requires { ⌜ ((f : List ℕ) × (t : Ty) × Viewable f (now members) (now rows) e l t × (bytes ≤ limit)) ⌝ }
     ensures { λ r. ⌜ ((f : List ℕ) (t : Ty) (b : List ℕ) → Viewable f (now (members .entry)) (now (rows .entry)) e l t → length b ≡ bytes → saidWalked r ≡ reached (targetIn t (now (path .entry)) b)) ⌝ }
 {

@@ -18,7 +18,7 @@ returns-2 : tie.Need-returns-2
 returns-2 c t b x l = sym (closed-short x b (opens x (c .before .before .if1 .left)) (omega (arith, c .before .wide .ensures .0)))
 
 returns-3 : tie.Need-returns-3
-returns-3 c t b x l = 
+returns-3 c t b x l =
     let size = c .before .wide .ensures .0 in
     rw size (sym (closed-there x b (opens x (c .before .before .if1 .left)) (omega arith)))
 

@@ -45,7 +45,7 @@ returns-2 c f t b x l =
     let n = c .before .before in
     let there = held n t b (x .laid) l in
     let y = begins x there (rw l (n .before .before .before .before .before .before .pre .3)) in
-    c .walk .ensures f (x .types) _ (shapeOf _ t) (y .standing) (y .size-is) ∙ ap reached (sym (there .target-is))
+    rw (there .target-is) (c .walk .ensures f (x .types) _ (shapeOf _ t) (y .standing) (y .size-is))
 
 pub target-in-spec : {M : Type 1} → statement M
 target-in-spec =
