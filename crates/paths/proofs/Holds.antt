@@ -3,7 +3,7 @@
 -- In order: a type of fixed size; an open type; the target by what is held.
 -- Assumes nothing.
 use Prim.Native.Nat.{ℕ, suc, _+_, _*_, _<_, _≤_}
-use mathlib.Core.Bool.{Bool, true, false, cond}
+use mathlib.Core.Bool.{Bool, true, false}
 use mathlib.Core.List.{List, map}
 use mathlib.Core.Option.{some, Option·some-injective}
 use mathlib.Core.Path.{_≡_, refl, ap, sym, _∙_}
@@ -12,7 +12,7 @@ use borrow.Author.Tests.{lt-ltb, le-ltb}
 use lib.ListN.{length}
 use Rattle.wgsl.specs.Types.{Ty, scalar, vector, matrix, array, runtime, atomic, struct, isOpen}
 use Rattle.wgsl.specs.Size.{present, sizeOf}
-use Rattle.wgsl.specs.Said.{good, refused, _>>_, refuse}
+use Rattle.wgsl.specs.Said.{refused, _>>_, refuse}
 use Rattle.wgsl.specs.Place.{Tail, tailAt, tailOf, extentBy, extentOf, elementsBy, elementsIn, shapeOf}
 use Rattle.wgsl.specs.Path.{walk, stepOf}
 use Rattle.wgsl.specs.Call.{isShort, targetIn}

@@ -11,7 +11,7 @@ use borrow.Author.Tests.{le-leb, lt-leb, leb-true, not-false}
 use lib.ListN.{length}
 use Rattle.wgsl.specs.Round.{limit, withinLimit}
 use Rattle.wgsl.specs.Types.{Ty, everywhere}
-use Rattle.wgsl.specs.Size.{isPresent, hasLayout, isStorable}
+use Rattle.wgsl.specs.Size.{isPresent, hasLayout}
 use Rattle.wgsl.specs.Said.{Said, good, refused, _>>=_, _>>_, refuse}
 use Rattle.wgsl.specs.Rule.{isWellFormed}
 use Rattle.wgsl.specs.Call.{entryOf, laidEntry, storedEntry}

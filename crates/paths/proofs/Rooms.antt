@@ -5,7 +5,7 @@
 use Prim.Native.Nat.{ℕ, _+_, _-_, _≤_}
 use mathlib.Core.Bool.{Bool, false}
 use mathlib.Core.List.{List, [], map}
-use mathlib.Core.Path.{_≡_, refl, ap, sym, _∙_}
+use mathlib.Core.Path.{_≡_, refl, ap, sym}
 use native.Mathlib.Omega.{arith}
 use native.Mathlib.Nat.{add-sub-cancel-left}
 use borrow.Author.Tests.{leb-true}
@@ -17,7 +17,6 @@ use Rattle.wgsl.specs.Path as steps
 use Rattle.wgsl.specs.Path.{stepOf}
 use Rattle.wgsl.specs.Call.{targetIn, viewCall, partOf, partStart}
 use Rattle.wgsl.proofs.Said.{good-not-refused, then-good, refuse-good}
-use Rattle.wgsl.proofs.Shape.{Sound}
 use Rattle.wgsl.proofs.Path.{target-inside}
 use Rattle.wgsl.proofs.Call.{entry-sound, short-no}
 use Rattle.walker.specs.declared.walk.Target.{Target}

@@ -13,12 +13,12 @@ use Rattle.wgsl.specs.Number.{store}
 use Rattle.wgsl.specs.Types.{Scalar, bool, i32, u32, f32, f16, abstractInt, abstractFloat}
 use Rattle.wgsl.specs.Size.{present, widthOf}
 use Rattle.wgsl.specs.Said.{good, refused, _>>=_, _>>_, refuse, orRefuse}
-use Rattle.wgsl.specs.Rank.{kindOf}
 use Rattle.wgsl.specs.Place.{Shape, one, parts, field, whole, spanOf, wordPlaces, storeWords, canHold, checkWords}
 use Rattle.wgsl.specs.Path as path
 use Rattle.wgsl.specs.Call.{storedEntry, scalarAt, setCall}
 use Rattle.wgsl.proofs.Shape.{Sound}
 use Rattle.wgsl.proofs.Said.{then-good, then-cases, then-is, then-refused}
+use Rattle.layout.proofs.Asks.{scalar-kind}
 use Rattle.walker.specs.declared.walk.Target.{Target}
 use Rattle.walker.specs.Way.{scalarIn}
 use Rattle.paths.specs.Locate.{targetCall}
@@ -40,47 +40,37 @@ module _ (f : List ℕ) (e : ℕ) (steps : List ℕ) (w : ℕ) (b : List ℕ) wh
 
 -- ---- 14, or one scalar
 
-kind-low : (s : Scalar) → kindOf s ≤ 6
-unfolding kindOf
-kind-low bool = omega arith
-kind-low i32 = omega arith
-kind-low u32 = omega arith
-kind-low f32 = omega arith
-kind-low f16 = omega arith
-kind-low abstractInt = omega arith
-kind-low abstractFloat = omega arith
-
 -- A kind above 6 is no scalar's, and any other is.
 no-scalar : (x : Shape) → 6 < scalarIn x → scalarAt x ≡ none
 unfolding scalarIn scalarAt
-no-scalar (one s) h = absurd (omega (arith, kind-low s))
+no-scalar (one s) h = absurd (omega (arith, scalar-kind s))
 no-scalar (parts n stride x) h = refl
 no-scalar (field offset x rest) h = refl
 no-scalar (whole z) h = refl
 
-one-scalar : (x : Shape) → scalarIn x ≤ 6 → (s : Scalar) × (x ≡ one s)
+scalar-shape : (x : Shape) → scalarIn x ≤ 6 → (s : Scalar) × (x ≡ one s)
 unfolding scalarIn
-one-scalar (one s) h = (s, refl)
-one-scalar (parts n stride x) h = absurd (omega arith)
-one-scalar (field offset x rest) h = absurd (omega arith)
-one-scalar (whole z) h = absurd (omega arith)
+scalar-shape (one s) h = (s, refl)
+scalar-shape (parts n stride x) h = absurd (omega arith)
+scalar-shape (field offset x rest) h = absurd (omega arith)
+scalar-shape (whole z) h = absurd (omega arith)
 
 pub set-none : {t : Target} {u : path.Target} {bytes : ℕ} → Roomy t u bytes → (w : ℕ) (b : List ℕ) → 6 < t .scalar → setAs u w b ≡ refused 14 0
 unfolding setAs orRefuse _>>=_
 set-none {u = u} x w b h = rw (no-scalar (u .shape) (rw (x .is) at h)) refl
 
 -- the one scalar that a target is
-pub record Single (t : Target) (u : path.Target) : Type 0 where
+pub record OneScalar (t : Target) (u : path.Target) : Type 0 where
   pub scalar : Scalar
   pub shape-is : u .shape ≡ one scalar
   pub offset-is : u .offset ≡ t .offset
   pub size-is : present (widthOf scalar) ≡ t .size
   pub above : 0 < present (widthOf scalar)
 
-pub single : {t : Target} {u : path.Target} {bytes : ℕ} → Roomy t u bytes → t .scalar ≤ 6 → Single t u
+pub one-scalar : {t : Target} {u : path.Target} {bytes : ℕ} → Roomy t u bytes → t .scalar ≤ 6 → OneScalar t u
 unfolding Sound spanOf
-single {u = u} x h =
-    let y = one-scalar (u .shape) (rw (x .is) at h) in
+one-scalar {u = u} x h =
+    let y = scalar-shape (u .shape) (rw (x .is) at h) in
     record {
       scalar = y .0;
       shape-is = y .1;
@@ -89,14 +79,14 @@ single {u = u} x h =
       above = rw (y .1) at (x .sound);
     }
 
-pub set-single : {t : Target} {u : path.Target} (x : Single t u) (w : ℕ) (b : List ℕ) → setAs u w b ≡ storedAs (x .scalar) (t .offset) w b
+pub set-one : {t : Target} {u : path.Target} (x : OneScalar t u) (w : ℕ) (b : List ℕ) → setAs u w b ≡ storedAs (x .scalar) (t .offset) w b
 unfolding setAs scalarAt orRefuse _>>=_
-set-single x w b = rw (x .shape-is, x .offset-is) refl
+set-one x w b = rw (x .shape-is, x .offset-is) refl
 
 -- ---- a scalar's width
 
 -- It takes two bytes, or four.
-pub narrow : {t : Target} {u : path.Target} (x : Single t u) → t .size ≡ 2 → Narrow (x .scalar)
+pub narrow : {t : Target} {u : path.Target} (x : OneScalar t u) → t .size ≡ 2 → Narrow (x .scalar)
 unfolding present
 narrow x e = record { width-is = go (widthOf (x .scalar)) (x .size-is ∙ e) }
   where
@@ -114,7 +104,7 @@ four f16 h k = absurd (k refl)
 four abstractInt h k = absurd (omega arith)
 four abstractFloat h k = absurd (omega arith)
 
-pub wide : {t : Target} {u : path.Target} (x : Single t u) → (t .size ≡ 2 → ⊥) → (widthOf (x .scalar) ≡ some 4) × (t .size ≡ 4)
+pub wide : {t : Target} {u : path.Target} (x : OneScalar t u) → (t .size ≡ 2 → ⊥) → (widthOf (x .scalar) ≡ some 4) × (t .size ≡ 4)
 unfolding present
 wide x h =
     let e = four (x .scalar) (x .above) (λ q. h (sym (x .size-is) ∙ q)) in
@@ -134,5 +124,6 @@ module _ (s : Scalar) (at w : ℕ) (b : List ℕ) where
   pub stored-narrow : Narrow s → w ≤ 65535 → storedAs s at w b ≡ good (record { value = at; contents = store 2 b at w })
   stored-narrow x h = stored-fits (x .width-is) (omega arith)
 
-  pub stored-wide : widthOf s ≡ some 4 → w < 4294967296 → storedAs s at w b ≡ good (record { value = at; contents = store 4 b at w })
-  stored-wide e h = stored-fits e (omega arith)
+-- A scalar of four bytes takes any word.
+pub set-four : {t : Target} {u : path.Target} (x : OneScalar t u) (w : ℕ) (b : List ℕ) → (t .size ≡ 2 → ⊥) → w < 4294967296 → setAs u w b ≡ good (record { value = t .offset; contents = store 4 b (t .offset) w })
+set-four {t} x w b h fits = set-one x w b ∙ stored-fits (x .scalar) (t .offset) w b (wide x h .0) (omega arith)

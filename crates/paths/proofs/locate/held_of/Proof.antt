@@ -1,5 +1,5 @@
 -- By the laws of `Holds`. Assumes nothing.
-use mathlib.Core.Path.{ap, sym, _∙_}
+use mathlib.Core.Path.{sym}
 use native.Mathlib.Omega.{arith}
 use borrow.Author.Needs.{needs}
 use Rattle.paths.proofs.Holds.{opens, closed-short, closed-there}

@@ -1,5 +1,5 @@
 -- The entry that `lay` finds, or its refusal (proofs/Plants). Assumes nothing.
-use mathlib.Core.Path.{ap, sym, _∙_}
+use mathlib.Core.Path.{ap, sym}
 use denote.Ref.{now}
 use borrow.Author.Needs.{needs}
 use Rattle.wgsl.specs.Types.{Ty}

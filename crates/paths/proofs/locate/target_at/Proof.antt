@@ -1,5 +1,4 @@
 -- What `permit` says decides (proofs/Permits); the entry has what its walk asks (proofs/Plants). Assumes nothing.
-use Prim.Native.Nat.{_≤_}
 use mathlib.Core.Path.{_≡_, ap, sym, _∙_}
 use denote.Ref.{now}
 use borrow.Author.Needs.{needs}

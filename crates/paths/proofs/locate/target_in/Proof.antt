@@ -32,6 +32,7 @@ walk-requires c κs =
     let start = n .before .before .before .before .before .before in
     let a = start .args in
     let x = start .pre .2 in
+    -- any buffer of so many bytes will do
     let long = length-replicate {A = ℕ} (a .bytes) 0 in
     let y = begins x (held n (start .pre .1) (replicate (a .bytes) 0) (x .laid) long) (rw long (start .pre .3)) in
     (start .pre .0, x .types, suc (a .e), shapeOf _ (start .pre .1), y .standing, y .size-is, y .within, omega arith)

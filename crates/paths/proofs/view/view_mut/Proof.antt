@@ -1,5 +1,5 @@
 -- The target that `locate` finds lies inside the buffer, and the part is its own (proofs/Rooms). Assumes nothing.
-use mathlib.Core.Path.{_≡_, refl, ap, sym, _∙_}
+use mathlib.Core.Path.{_≡_, refl, ap}
 use native.Mathlib.Omega.{arith}
 use denote.Ref.{now}
 use borrow.Author.Needs.{needs}
@@ -35,7 +35,9 @@ stopped c =
 
 add-to : tie.Need-add-to
 unfolding limit
-add-to c = omega (arith, part-inside _ _ _ _ (found (c .before .before)) .0, part-inside _ _ _ _ (found (c .before .before)) .1)
+add-to c =
+    let x = part-inside _ _ _ _ (found (c .before .before)) in
+    omega (arith, x .0, x .1)
 
 part-buf-end : tie.Need-part-buf-end
 part-buf-end c = part-inside _ _ _ _ (found (c .before .before)) .0
