@@ -1,5 +1,6 @@
-/* One call of the library for a program on another processor: the call and what it is lent on standard input, the answer and what was
- * lent to be written, or the part that is viewed, on standard output (bench/src/lepugaso.rs). Numbers as this processor has them, little-endian. */
+/* One call of the library for a program on another processor: the call and what it is lent on standard input, the answer and what was lent
+ * to be written, or the part that is viewed, on standard output (bench/src/lepugaso.rs). Numbers as this processor has them, little-
+ * endian. */
 #include <stdio.h>
 #include <stdlib.h>
 

@@ -12,7 +12,8 @@ static double now(void) {
 
 int main(void) {
     enum { REFUSED, WRITE, CHECK, VIEW, SET, WAYS };
-    static const char *const names[WAYS] = {"write, refused at its trailer", "write of a u32", "check of a u32", "view of a u32", "set of a u32"};
+    static const char *const names[WAYS] = {"write, refused at its trailer", "write of a u32", "check of a u32", "view of a u32",
+                                             "set of a u32"};
     uint8_t file[22] = {[0] = 2, [12] = 1, [20] = 1}, buf[4];
     const uint8_t *part;
     size_t part_len;

@@ -89,7 +89,7 @@ fn say_bytes(b: &[u8]) {
     if b.len() == 0 {
         return;
     }
-    let mut text = io::large_buffer();
+    let mut text = [0u8; 8192];
     let p = spell(b, &mut text);
     let n = p.count;
     say(b" ");

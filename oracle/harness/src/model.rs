@@ -276,7 +276,7 @@ pub struct Target {
 
 impl Good {
     /// "A type has a layout if it has an alignment and is open or has a size."
-    fn has_layout(&self, e: usize) -> bool {
+    pub fn has_layout(&self, e: usize) -> bool {
         let l = &self.laid[e];
         l.align.is_some() && (l.open || l.size.is_some())
     }
