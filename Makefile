@@ -15,13 +15,11 @@ FILE = examples/receiver.txt
 run:
 	@tools/run $(FILE)
 
-# Everything that must hold. `rt ci` comes last, and its last line is the last line.
+# Everything that must hold. The last line is that of `rt ci`.
 test:
 	@rt fmt --check
 	@tools/examples
-	@$(MAKE) --no-print-directory shim
-	@tools/test-shim
-	@rt ci
+	@tools/gate
 
 # Why each wrong program of must-fail/ is refused.
 edits:

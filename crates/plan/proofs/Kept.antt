@@ -4,19 +4,18 @@
 -- Assumes nothing.
 use Prim.Native.Nat.{ℕ, _*_, _≤_}
 use mathlib.Core.Bool.{true, _||_}
-use mathlib.Core.List.{List, _∷_}
-use mathlib.Core.Option.{Option, none, some}
+use mathlib.Core.Option.{Option, some}
 use mathlib.Core.Path.{_≡_}
 use native.Mathlib.Omega.{arith}
-use Rattle.wgsl.specs.Round.{up, withinLimit}
+use Rattle.wgsl.specs.Round.{up}
 use Rattle.wgsl.specs.Types.{Ty, array, runtime, struct, Members, isOpen, everywhere, everyMember}
-use Rattle.wgsl.specs.Size.{both, isPresent, present, sizeOf, alignOf, minSizeOf, strideOf, offsetsOf, innerNumbersOf, numbersOf, withinLimits, fitsLimit, hasLayout, isPlain, isStorable}
-use Rattle.wgsl.specs.Rule.{membersAllowed, isWellFormed, membersGivenFit}
+use Rattle.wgsl.specs.Size.{both, isPresent, present, sizeOf, alignOf, strideOf, hasLayout, isPlain, isStorable}
+use Rattle.wgsl.specs.Rule.{isWellFormed}
 use Rattle.wgsl.specs.Place.{extentOf, shapeOf, fieldsOf, spanOf}
 use Rattle.wgsl.proofs.Absent.{both-hold, hold-both, present-some, some-present, both-some}
 use Rattle.wgsl.proofs.Round.{up-not-below}
 use Rattle.wgsl.proofs.Power.{power-positive}
-use Rattle.wgsl.proofs.Passed.{passed, array-passed, runtime-passed, struct-passed}
+use Rattle.wgsl.proofs.Passed.{array-passed, runtime-passed}
 use Rattle.wgsl.proofs.Align.{align-power}
 use Rattle.wgsl.proofs.Shape.{Sound}
 use Rattle.wgsl.proofs.Tail.{sized-closed, sized-has, sized-takes}
@@ -24,6 +23,7 @@ use Rattle.wgsl.proofs.Closed.{closed-shape}
 use Rattle.wgsl.proofs.Laid.{Laid, laid}
 use Rattle.wgsl.proofs.Count.{words, count-words}
 use Rattle.kinds.specs.Value.{fixedWords}
+use Rattle.plan.proofs.MemberRead.{Ruled, struct-ruled}
 
 -- a well-formed type that is storable
 pub record Kept (t : Ty) : Type 0 where
@@ -112,29 +112,15 @@ module _ {t : Ty} (x : Element t) where
 
 -- members of a storable struct of z bytes, where the one before them ended at `end`
 pub record Fine (end : Option ℕ) (z : ℕ) (ms : Members) : Type 0 where
-  pub well : everyMember isWellFormed ms ≡ true
-  pub allowed : membersAllowed ms ≡ true
-  pub given : membersGivenFit ms ≡ true
+  pub ruled : Ruled end ms
   pub plain : everyMember isPlain ms ≡ true
-  pub within : withinLimits (offsetsOf end ms) ≡ true
   pub sound : Sound (fieldsOf 0 z end ms)
 
-pub limits-rest : (n : Option ℕ) (ns : List (Option ℕ)) → withinLimits (n ∷ ns) ≡ true → withinLimits ns ≡ true
-unfolding withinLimits
-limits-rest none ns e = e
-limits-rest (some n) ns e = both-hold (withinLimit n) (withinLimits ns) e .1
-
 pub struct-members : {k : ℕ} {ms : Members} → Kept (struct k ms) → Fine (some 0) (extentOf 0 (struct k ms)) ms
-unfolding everywhere shapeOf fitsLimit numbersOf innerNumbersOf
+unfolding everywhere shapeOf
 struct-members {k} {ms} x =
-    let p = struct-passed k ms (x .well) in
-    let fits = passed (struct k ms) (x .well) .fits in
     record {
-      well = p .below;
-      allowed = p .allowed;
-      given = p .given;
+      ruled = struct-ruled k ms (x .well);
       plain = both-hold (isPlain (struct k ms)) (everyMember isPlain ms) (x .plain) .1;
-      within =
-          limits-rest (minSizeOf (struct k ms)) _ (limits-rest (alignOf (struct k ms)) _ (limits-rest (sizeOf (struct k ms)) _ fits));
       sound = kept-laid x 0 .sound;
     }

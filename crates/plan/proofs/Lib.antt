@@ -2,9 +2,10 @@
 pub mod Parting
 pub mod Putting
 pub mod Laying
+pub mod MemberBytes
+pub mod MemberRead
 pub mod Kept
 pub mod Widths
-pub mod MemberBytes
 pub mod MembersLeft
 pub mod Says
 pub mod Trees
