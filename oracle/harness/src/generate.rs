@@ -257,15 +257,17 @@ fn path_edges(r: &mut Random, good: &Good, e: usize, n: u64) -> Vec<Question> {
     }
     let more = 1 + r.below(9);
     let reached = if good.laid[e].open { rows::start(good, e) } else { rows::reach(good, e) };
+    let room = bytes(r, extent + more);
     let mut qs = Vec::new();
     let mut ask = |r: &mut Random, path: Vec<u32>, length: u64| {
-        let (words, buffer) = (any_words(r, 2), bytes(r, length));
+        let words = any_words(r, 2);
         let word = r.of(&[words[0], words[1] % 65_536, 65_535, 65_536, u32::MAX]);
-        qs.push(Question::View(entry, path.clone(), buffer.clone()));
-        qs.push(Question::Set(entry, word, path, buffer));
+        let buffer = &room[..length as usize];
+        qs.push(Question::View(entry, path.clone(), buffer.to_vec()));
+        qs.push(Question::Set(entry, word, path, buffer.to_vec()));
     };
     ask(r, vec![], extent);
-    for length in [extent.saturating_sub(1), extent, extent + more, reached] {
+    for length in [extent, extent.saturating_sub(1), reached, extent + more] {
         let path = good_path(r, good, e, n, 300);
         ask(r, path, length);
     }
