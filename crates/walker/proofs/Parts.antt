@@ -119,11 +119,13 @@ module _ {f : List ℕ} {ts : List Ty} {ms rows : List ℕ} {k n e i : ℕ} {x :
   here : Indexed ts rows k n e i x
   here = indexed (entry-found at) has
 
+  -- it lies within the limit
   inside : i * rowAt rows e .stride + spanOf (here .y) ≤ limit
   inside =
       let sound = stands-sound (at .site) (at .stands) in
       omega (arith, step-inside 0 x (index i) (target (i * rowAt rows e .stride) (here .y)) sound (here .enters 0) .1, at .within)
 
+  -- So the row below is there, and the numbers that are worked out are within the limit.
   pub part-row : 10 * rowAt rows e .reference + 10 ≤ length rows
   part-row = row-inside (at .site) (here .part .lower)
 
@@ -136,10 +138,12 @@ module _ {f : List ℕ} {ts : List Ty} {ms rows : List ℕ} {k n e i : ℕ} {x :
   pub part-size : (rowAt rows e .kind ≡ 8 → ⊥) → rowAt rows (rowAt rows e .reference) .kind ≡ 10 → n * rowAt rows (rowAt rows e .reference) .stride ≤ limit
   part-size other = size-within rows n (rowAt rows e .reference) (omega (arith, inside, here .part .as-entry other .1))
 
+  -- The step leads to a matrix's column,
   pub column-enters : rowAt rows e .kind ≡ 8 → Enters ts k n (Into (record { offset = i * rowAt rows e .stride; size = rowAt rows e .unit * rowAt rows (rowAt rows e .reference) .size; place = Column (rowAt rows e .unit) (rowAt rows e .reference) })) x (index i)
   unfolding Enters
   column-enters is = (here .y, here .part .as-column is .0, here .part .as-column is .1, here .enters)
 
+  -- and else to the entry below.
   pub part-enters : (rowAt rows e .kind ≡ 8 → ⊥) → Enters ts k n (Into (record { offset = i * rowAt rows e .stride; size = sizeAt rows n (rowAt rows e .reference); place = Entry (rowAt rows e .reference) })) x (index i)
   unfolding Enters
   part-enters other = (here .y, here .part .as-entry other .0, here .part .as-entry other .1, here .enters)
@@ -194,14 +198,7 @@ unfolding scalarIn fieldsOf
 members-no-scalar n z end no-more = refl
 members-no-scalar n z end (types.member t size align ms) = refl
 
--- what a place is, where it is no one scalar, and where it is an atomic
-pub no-scalar : {ts : List Ty} {rows : List ℕ} {k n e : ℕ} {x : Shape} → Found ts rows k n e x → 6 < rowAt rows e .kind → (rowAt rows e .kind ≡ 11 → ⊥) → scalarIn x ≡ 7
-unfolding scalarIn
-no-scalar (a-scalar s is under) high other = absurd (omega arith)
-no-scalar (an-atomic s is lower below) high other = absurd (other is)
-no-scalar (of-parts under over count stride part) high other = refl
-no-scalar (of-members z end ms is) high other = members-no-scalar _ z end ms
-
+-- A scalar's row says its kind.
 pub its-scalar : {ts : List Ty} {rows : List ℕ} {k n e : ℕ} {x : Shape} → Found ts rows k n e x → rowAt rows e .kind ≤ 6 → rowAt rows e .kind ≡ scalarIn x
 unfolding scalarIn
 its-scalar (a-scalar s is under) low = is
@@ -209,6 +206,7 @@ its-scalar (an-atomic s is lower below) low = absurd (omega arith)
 its-scalar (of-parts under over count stride part) low = absurd (omega arith)
 its-scalar (of-members z end ms is) low = absurd (omega arith)
 
+-- An atomic's row refers to its scalar's.
 pub atomic-scalar : {ts : List Ty} {rows : List ℕ} {k n e : ℕ} {x : Shape} → Found ts rows k n e x → rowAt rows e .kind ≡ 11 → (rowAt rows e .reference < k) × (rowAt rows (rowAt rows e .reference) .kind ≡ scalarIn x)
 unfolding scalarIn
 atomic-scalar (a-scalar s is under) eleven = absurd (omega arith)
@@ -218,3 +216,11 @@ atomic-scalar (of-members z end ms is) eleven = absurd (omega arith)
 
 pub atomic-row : {f : List ℕ} {ts : List Ty} {ms rows : List ℕ} {k n e : ℕ} {x : Shape} → Standing f ts ms rows k n (Entry e) x → rowAt rows e .kind ≡ 11 → 10 * rowAt rows e .reference + 10 ≤ length rows
 atomic-row at eleven = row-inside (at .site) (atomic-scalar (entry-found at) eleven .0)
+
+-- Parts and structs are no one scalar.
+pub no-scalar : {ts : List Ty} {rows : List ℕ} {k n e : ℕ} {x : Shape} → Found ts rows k n e x → 6 < rowAt rows e .kind → (rowAt rows e .kind ≡ 11 → ⊥) → scalarIn x ≡ 7
+unfolding scalarIn
+no-scalar (a-scalar s is under) high other = absurd (omega arith)
+no-scalar (an-atomic s is lower below) high other = absurd (other is)
+no-scalar (of-parts under over count stride part) high other = refl
+no-scalar (of-members z end ms is) high other = members-no-scalar _ z end ms
