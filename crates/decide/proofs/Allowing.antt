@@ -22,14 +22,14 @@ pub too-long : (t : Ty) (bytes : ℕ) → 4294967295 < bytes → allowedFor t by
 unfolding allowedFor withinLimit limit _>>_ refuse
 too-long t bytes h = rw (lt-leb bytes 4294967295 h) refl
 
-module _ (t : Ty) (l : Layout) (is : l ≡ valueOf t) (w : everywhere isWellFormed t ≡ true) (bytes : ℕ) (fits : bytes ≤ 4294967295) where
+module _ (t : Ty) (l : Layout) (is : l ≡ valueOf t) (w : everywhere isWellFormed t ≡ true) where
   there : (o : Option ℕ) → 0 < present o → isPresent o ≡ true
   unfolding present isPresent
   there (some n) h = refl
   there none h = absurd (omega arith)
 
   -- What has an alignment has a layout.
-  has-layout : 0 < l .align → hasLayout t ≡ true
+  pub has-layout : 0 < l .align → hasLayout t ≡ true
   unfolding hasLayout valueOf
   has-layout h =
       let a : isPresent (alignOf t) ≡ true = there (alignOf t) (rw is at h) in
@@ -39,22 +39,23 @@ module _ (t : Ty) (l : Layout) (is : l ≡ valueOf t) (w : everywhere isWellForm
       go true q = rw (opens-is t l is true q) refl
       go false q = rw (some-present (element t l is w q h .size-is)) (or-true (isOpen t))
 
-  pub no-layout : l .align ≡ 0 → allowedFor t bytes ≡ refused 9 0
-  unfolding allowedFor withinLimit limit _>>_ refuse hasLayout isPresent
-  no-layout e = rw (le-leb bytes 4294967295 fits, unaligned t l is w e) refl
+  module _ (bytes : ℕ) (fits : bytes ≤ 4294967295) where
+    pub no-layout : l .align ≡ 0 → allowedFor t bytes ≡ refused 9 0
+    unfolding allowedFor withinLimit limit _>>_ refuse hasLayout isPresent
+    no-layout e = rw (le-leb bytes 4294967295 fits, unaligned t l is w e) refl
 
-  stored : {b : Bool} → l .storable ≡ b → isStorable t ≡ b
-  unfolding valueOf
-  stored e = sym (ap (λ (x : Layout). x .storable) is) ∙ e
+    stored : {b : Bool} → l .storable ≡ b → isStorable t ≡ b
+    unfolding valueOf
+    stored e = sym (ap (λ (x : Layout). x .storable) is) ∙ e
 
-  laid : isStorable t ≡ true → hasLayout t ≡ true
-  unfolding isStorable
-  laid q = both-hold (hasLayout t) (everywhere isPlain t) q .0
+    laid : isStorable t ≡ true → hasLayout t ≡ true
+    unfolding isStorable
+    laid q = both-hold (hasLayout t) (everywhere isPlain t) q .0
 
-  pub allowed : l .storable ≡ true → allowedFor t bytes ≡ good tt
-  unfolding allowedFor withinLimit limit _>>_ refuse
-  allowed e = rw (le-leb bytes 4294967295 fits, laid (stored e), stored e) refl
+    pub allowed : l .storable ≡ true → allowedFor t bytes ≡ good tt
+    unfolding allowedFor withinLimit limit _>>_ refuse
+    allowed e = rw (le-leb bytes 4294967295 fits, laid (stored e), stored e) refl
 
-  pub unstorable : (l .align ≡ 0 → ⊥) → l .storable ≡ false → allowedFor t bytes ≡ refused 10 0
-  unfolding allowedFor withinLimit limit _>>_ refuse
-  unstorable h e = rw (le-leb bytes 4294967295 fits, has-layout (omega arith), stored e) refl
+    pub unstorable : (l .align ≡ 0 → ⊥) → l .storable ≡ false → allowedFor t bytes ≡ refused 10 0
+    unfolding allowedFor withinLimit limit _>>_ refuse
+    unstorable h e = rw (le-leb bytes 4294967295 fits, has-layout (omega arith), stored e) refl

@@ -138,35 +138,59 @@ module _ (t : Ty) (offset stride : ℕ) (extent-is : (n : ℕ) → extentOf n t 
       go false h = is-not-no (sym e ∙ rw h refl)
 
 -- the elements that bytes hold
-module _ (t : Ty) (o : isOpen t ≡ true) (offset stride : ℕ) (tail-is : tailOf t ≡ some (record { offset = offset; stride = stride })) (ws b : List ℕ) where
+module _ (bytes offset stride : ℕ) where
   abbrev held : ℕ
-  held = (length b - offset) / stride
+  held = (bytes - offset) / stride
 
-  held-is : elementsIn (length b) t ≡ held
-  unfolding elementsIn elementsBy
-  held-is = rw tail-is refl
-
-  pub elements-short : elementsFound (length b) offset stride ≡ No → readAs t b ws ≡ refused 15 0
-  unfolding elementsFound readAs isShort _>>_ refuse
-  elements-short e = go (eqb held 0) refl
+  found-zero : elementsFound bytes offset stride ≡ No → eqb held 0 ≡ true
+  unfolding elementsFound
+  found-zero e = go (eqb held 0) refl
     where
-      go : (p : Bool) → eqb held 0 ≡ p → readAs t b ws ≡ refused 15 0
-      go true h = rw (o, held-is, h) refl
+      go : (p : Bool) → eqb held 0 ≡ p → p ≡ true
+      go true h = refl
       go false h = is-not-no {k = held} (sym (rw h refl) ∙ e)
 
-  pub elements-there : {k : ℕ} → elementsFound (length b) offset stride ≡ Is k → (offset + k * stride ≤ length b) × (readAs t b ws ≡ loadedAs k t b ws)
-  unfolding elementsFound readAs loadedAs isShort _>>_ refuse
-  elements-there {k} e = go (eqb held 0) refl
+  found-above : {k : ℕ} → elementsFound bytes offset stride ≡ Is k → (eqb held 0 ≡ false) × (held ≡ k)
+  unfolding elementsFound
+  found-above {k} e = go (eqb held 0) refl
     where
-      go : (p : Bool) → eqb held 0 ≡ p → (offset + k * stride ≤ length b) × (readAs t b ws ≡ loadedAs k t b ws)
+      go : (p : Bool) → eqb held 0 ≡ p → (p ≡ false) × (held ≡ k)
       go true h = is-not-no (sym e ∙ rw h refl)
-      go false h =
-          let same : held ≡ k = is-same (sym (rw h refl) ∙ e) in
-          let d : ¬ (held ≡ 0) = eqb-false held 0 h in
-          rw (← same) (
-            omega (arith, div-mul-le-self (length b - offset) stride, div-le-self (length b - offset) stride),
-            rw (o, held-is, h) refl,
-          )
+      go false h = (refl, is-same (sym (rw h refl) ∙ e))
+
+  -- They end inside the bytes.
+  pub found-inside : {k : ℕ} → elementsFound bytes offset stride ≡ Is k → offset + k * stride ≤ bytes
+  found-inside e =
+      let x = found-above e in
+      let d : ¬ (held ≡ 0) = eqb-false held 0 (x .0) in
+      rw (← x .1) (omega (arith, div-mul-le-self (bytes - offset) stride, div-le-self (bytes - offset) stride))
+
+module _ (t : Ty) (o : isOpen t ≡ true) (offset stride : ℕ) (tail-is : tailOf t ≡ some (record { offset = offset; stride = stride })) where
+  held-is : (bytes : ℕ) → elementsIn bytes t ≡ held bytes offset stride
+  unfolding elementsIn elementsBy
+  held-is bytes = rw tail-is refl
+
+  -- what 15 says of them
+  pub found-short : (b : List ℕ) → elementsFound (length b) offset stride ≡ No → isShort t b ≡ true
+  unfolding isShort
+  found-short b e = rw (o, held-is (length b)) (found-zero (length b) offset stride e)
+
+  pub found-there : (b : List ℕ) {k : ℕ} → elementsFound (length b) offset stride ≡ Is k → (isShort t b ≡ false) × (elementsIn (length b) t ≡ k)
+  unfolding isShort
+  found-there b e =
+      let x = found-above (length b) offset stride e in
+      (rw (o, held-is (length b)) (x .0), held-is (length b) ∙ x .1)
+
+  module _ (ws b : List ℕ) where
+    pub elements-short : elementsFound (length b) offset stride ≡ No → readAs t b ws ≡ refused 15 0
+    unfolding readAs _>>_ refuse
+    elements-short e = rw (found-short b e) refl
+
+    pub elements-there : {k : ℕ} → elementsFound (length b) offset stride ≡ Is k → (offset + k * stride ≤ length b) × (readAs t b ws ≡ loadedAs k t b ws)
+    unfolding readAs loadedAs _>>_ refuse
+    elements-there e =
+        let x = found-there b e in
+        (found-inside (length b) offset stride e, rw (x .0, x .1) refl)
 
 -- ---- what is left
 

@@ -60,7 +60,8 @@ marked-is ask p t w e = rw e (marked-present (ask t) (λ n h. p t n w h))
 
 -- ---- minimum sizes
 
-scalar-kind : (s : Scalar) → kindOf s ≤ 6
+-- The kind of a scalar is one of 0 to 6.
+pub scalar-kind : (s : Scalar) → kindOf s ≤ 6
 unfolding kindOf
 scalar-kind bool = omega arith
 scalar-kind i32 = omega arith

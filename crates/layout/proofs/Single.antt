@@ -1,6 +1,7 @@
 -- No slack: what an answer says, number and place included, tells which answer it is. So two answers that a claim allows are the same.
 --
--- In order: anything that tells itself; refusals; a number or a refusal; the three numbers of an entry; the table.
+-- In order: anything that tells itself; refusals; a number or a refusal; a number beside what was lent; the three numbers of an entry; the
+-- table.
 -- Assumes nothing.
 use Prim.Native.Nat.{ℕ}
 use mathlib.Core.List.{List, [], _∷_}
@@ -71,6 +72,13 @@ number-told (Number.Refused r) = ap Number.Refused (refusal-told r)
 -- Two numbers that a claim of check, size, align, min_size, rank or common allows are the same.
 pub single-number : {said : Said ℕ} (a b : Number) → saidNumber a ≡ said → saidNumber b ≡ said → a ≡ b
 single-number = single saidNumber numberFrom number-told
+
+-- ---- a number beside what was lent
+
+-- Two results that a claim of write, read or set allows are the same, the answer and the contents of what was lent. `said` is what
+-- `writeCall`, `readCall` or `setCall` says, and `before` what was lent.
+pub single-done : (before : List ℕ) (said : Said call.Done) (a b : Number) (x y : List ℕ) → saidNumber a ≡ call.answerOf said → saidNumber b ≡ call.answerOf said → x ≡ call.contentsOf before said → y ≡ call.contentsOf before said → (a ≡ b) × (x ≡ y)
+single-done before said a b x y p q r s = (single-number a b p q, r ∙ sym s)
 
 -- ---- the three numbers of an entry
 

@@ -61,7 +61,7 @@ fn held_open(l: Layout, bytes: usize) -> Held
 }
 
 // 15: for an entry of the layout `l` and a buffer of so many bytes.
-fn held(l: Layout, bytes: usize) -> Held
+fn held_of(l: Layout, bytes: usize) -> Held
     requires { ⌜ ((t : Ty) × Laid l t × (bytes ≤ limit)) ⌝ }
     ensures { λ r. ⌜ ((t : Ty) (b : List ℕ) → Laid l t → length b ≡ bytes → r ≡ heldOf t b) ⌝ }
 {
@@ -76,11 +76,18 @@ fn held(l: Layout, bytes: usize) -> Held
 }
 
 // What lies under a path: 15, and then the first bad step.
-fn target(members: &[u8], rows: &[u32], e: usize, l: Layout, path: &[u32], bytes: usize) -> Walked
+fn target_in(
+    members: &[u8],
+    rows: &[u32],
+    e: usize,
+    l: Layout,
+    path: &[u32],
+    bytes: usize,
+) -> Walked
     requires { ⌜ ((f : List ℕ) × (t : Ty) × Viewable f (now members) (now rows) e l t × (bytes ≤ limit)) ⌝ }
     ensures { λ r. ⌜ ((f : List ℕ) (t : Ty) (b : List ℕ) → Viewable f (now (members .entry)) (now (rows .entry)) e l t → length b ≡ bytes → saidWalked r ≡ reached (targetIn t (now (path .entry)) b)) ⌝ }
 {
-    match held(l, bytes) {
+    match held_of(l, bytes) {
         Held::No => Walked::Refused(Refusal::Buffer),
         Held::Is(n, size) => walk(members, rows, n, Place::Entry(e), size, path, 0, 0),
     }
@@ -105,7 +112,7 @@ fn target_at(
         Allowed::Yes => {
             let start = g.start;
             let end = g.end;
-            target(&file[start..end], rows, e, l, path, bytes)
+            target_in(&file[start..end], rows, e, l, path, bytes)
         }
     }
 }

@@ -2,6 +2,7 @@
 pub mod Parting
 pub mod Putting
 pub mod Laying
+pub mod Grounds
 pub mod MemberBytes
 pub mod MemberRead
 pub mod Kept

@@ -5,4 +5,3 @@ pub mod Entries
 pub mod Parts
 pub mod Readings
 pub mod Writings
-pub mod Single

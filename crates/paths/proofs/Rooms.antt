@@ -1,0 +1,89 @@
+-- What a view or a set finds (specs/Locate) is sound and lies inside the buffer; a view's part by what the code has.
+--
+-- In order: what the code has of a target; the target lies inside; its part.
+-- Assumes nothing.
+use Prim.Native.Nat.{ℕ, _+_, _-_, _≤_}
+use mathlib.Core.Bool.{Bool, false}
+use mathlib.Core.List.{List, [], map}
+use mathlib.Core.Path.{_≡_, refl, ap, sym}
+use native.Mathlib.Omega.{arith}
+use native.Mathlib.Nat.{add-sub-cancel-left}
+use borrow.Author.Tests.{leb-true}
+use lib.ListN.{length, take, drop}
+use Rattle.wgsl.specs.Round.{limit, withinLimit}
+use Rattle.wgsl.specs.Said.{Said, good, refused}
+use Rattle.wgsl.specs.Place.{elementsIn, shapeOf, spanOf}
+use Rattle.wgsl.specs.Path as steps
+use Rattle.wgsl.specs.Path.{stepOf}
+use Rattle.wgsl.specs.Call.{targetIn, viewCall, partOf, partStart}
+use Rattle.wgsl.proofs.Said.{good-not-refused, then-good, refuse-good}
+use Rattle.wgsl.proofs.Path.{target-inside}
+use Rattle.wgsl.proofs.Call.{entry-sound, short-no}
+use Rattle.walker.specs.declared.walk.Target.{Target}
+use Rattle.walker.specs.Walk.{targetIs, reached}
+use Rattle.paths.specs.Locate.{targetCall}
+use Rattle.paths.specs.Set.{Roomy}
+use Rattle.paths.proofs.Permits.{entryAs, entry-laid-out}
+
+-- ---- what the code has
+
+-- a target that is reached is the code's
+pub reached-good : {t : Target} (said : Said steps.Target) → good t ≡ reached said → (u : steps.Target) × (said ≡ good u) × (t ≡ targetIs u)
+reached-good (good u) e = (u, refl, cc)
+reached-good (refused number place) e = good-not-refused refl e
+
+pub reached-refused : {number place : ℕ} (said : Said steps.Target) → refused number place ≡ reached said → said ≡ refused number place
+reached-refused (good u) e = good-not-refused refl (sym e)
+reached-refused (refused number place) e = cc
+
+-- ---- inside the buffer
+
+module _ (stored : Bool) (f : List ℕ) (e : ℕ) (path b : List ℕ) where
+  pub target-room : {t : Target} {u : steps.Target} → t ≡ targetIs u → targetCall stored f e path b ≡ good u → Roomy t u (length b)
+  unfolding targetCall targetIn withinLimit
+  target-room {u = u} is h =
+      let s = then-good (entryAs stored f e b) _ h in
+      let t = s .value in
+      let laid = entry-laid-out stored (s .first) in
+      let short = refuse-good 15 0 _ _ (s .after) in
+      let n = elementsIn (length b) t in
+      let x = entry-sound f e t (laid .entry) (laid .layout) n in
+      let i = target-inside 0 0 (shapeOf n t) (map stepOf path) u (x .0) (short .1) in
+      record {
+        is = is;
+        sound = i .0;
+        inside = omega (arith, i .2, x .1, short-no t b (short .0));
+        within = leb-true (length b) limit (laid .within);
+      }
+
+  -- the target that the code has
+  pub roomy : {t : Target} → good t ≡ reached (targetCall stored f e path b) → (u : steps.Target) × (targetCall stored f e path b ≡ good u) × Roomy t u (length b)
+  roomy h =
+      let x = reached-good (targetCall stored f e path b) h in
+      (x .0, x .1, target-room (x .2) (x .1))
+
+-- The bytes that the code has of it lie inside.
+pub room : {t : Target} {u : steps.Target} {bytes : ℕ} → Roomy t u bytes → t .offset + t .size ≤ bytes
+room x = rw (x .is) (x .inside)
+
+-- ---- its part
+
+module _ (f : List ℕ) (e : ℕ) (path b : List ℕ) where
+  pub part-inside : {t : Target} → good t ≡ reached (viewCall f e path b) → (t .offset + t .size ≤ length b) × (length b ≤ limit)
+  unfolding viewCall targetCall
+  part-inside h =
+      let x = roomy false f e path b h in
+      (room (x .2), x .2 .within)
+
+-- where the part begins, and its bytes, are the target's
+pub part-is : {t : Target} (said : Said steps.Target) (b : List ℕ) → good t ≡ reached said → (take (t .offset + t .size - t .offset) (drop (t .offset) b) ≡ partOf said b) × (t .offset ≡ partStart said)
+unfolding partOf partStart
+part-is {t} (good u) b e =
+    let is : t ≡ targetIs u = cc in
+    rw is (ap (λ (n : ℕ). take n (drop (u .offset) b)) (add-sub-cancel-left (u .offset) (spanOf (u .shape))), refl)
+part-is (refused number place) b e = good-not-refused refl e
+
+pub part-none : {number place : ℕ} (said : Said steps.Target) (b : List ℕ) → refused number place ≡ reached said → ([] ≡ partOf said b) × (0 ≡ partStart said)
+unfolding partOf partStart
+part-none (good u) b e = good-not-refused refl (sym e)
+part-none (refused number place) b e = (refl, refl)

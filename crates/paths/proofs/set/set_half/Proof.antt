@@ -1,0 +1,32 @@
+-- The word fits or it does not (proofs/Settings). Assumes nothing.
+use mathlib.Core.Path.{ap, sym, _∙_}
+use native.Mathlib.Omega.{arith}
+use borrow.Author.Needs.{needs}
+use Rattle.wgsl.specs.Round.{limit}
+use Rattle.wgsl.specs.Call.{answerOf, contentsOf}
+use Rattle.paths.proofs.Settings.{stored-large, stored-narrow}
+use Rattle.paths.proofs.set.set_half.Statement.{statement}
+use Rattle.paths.proofs.set.set_half.Tie as tie
+
+returns : tie.Need-returns
+unfolding answerOf contentsOf
+returns c = (
+  λ s x. ap answerOf (sym (stored-large s _ _ _ x (omega arith))),
+  λ s x. ap (contentsOf _) (sym (stored-large s _ _ _ x (omega arith))),
+)
+
+cast-t10 : tie.Need-cast-t10
+unfolding limit
+cast-t10 c = omega (arith, c .before .before .before .before .before .before .pre)
+
+returns-2 : tie.Need-returns-2
+unfolding answerOf contentsOf
+returns-2 c = (
+  λ s x. ap answerOf (sym (stored-narrow s _ _ _ x (omega arith))),
+  λ s x. c .before .before .store-u16 .ensures ∙ ap (contentsOf _) (sym (stored-narrow s _ _ _ x (omega arith))),
+)
+
+pub set-half-spec : {M : Type 1} → statement M
+set-half-spec =
+    tie.close (tie.spec
+    returns (λ c. search needs) (λ c κs. search needs) cast-t10 (λ c. search needs) returns-2)
