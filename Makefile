@@ -35,6 +35,6 @@ compare:
 record:
 	@oracle/record $(GIVEN)
 
-# How long writing and reading take, beside wgsl-types and memcpy, in one process.
+# How long writing, reading, views and sets take, beside wgsl-types and memcpy, in one process.
 bench: shim
 	@bench/run $(GIVEN)

@@ -1,5 +1,6 @@
-/* One call of the library for a program on another processor: the call and what it is lent on standard input, the answer and what was
- * lent to be written on standard output (bench/src/lepugaso.rs). Numbers as this processor has them, little-endian. */
+/* One call of the library for a program on another processor: the call and what it is lent on standard input, the answer and what was lent
+ * to be written, or the part that is viewed, on standard output (bench/src/lepugaso.rs). Numbers as this processor has them, little-
+ * endian. */
 #include <stdio.h>
 #include <stdlib.h>
 
@@ -12,19 +13,35 @@ static void *take(size_t length) {
 }
 
 int main(void) {
-    enum { WRITE, READ };
+    enum { WRITE, READ, VIEW, SET };
     uint32_t *call = take(2 * sizeof *call), entry = call[1];
-    uint64_t *lengths = take(3 * sizeof *lengths);
+    uint64_t *lengths = take(3 * sizeof *lengths), count = lengths[1], length = lengths[2];
     uint8_t *file = take(lengths[0]);
-    uint32_t *words = take(lengths[1] * sizeof *words);
-    uint8_t *buf = take(lengths[2]);
-    lepugaso_answer answer = call[0] == WRITE ? lepugaso_write(file, lengths[0], entry, words, lengths[1], buf, lengths[2])
-                                              : lepugaso_read(file, lengths[0], entry, buf, lengths[2], words, lengths[1]);
-    fwrite(&answer, sizeof answer, 1, stdout);
-    if (call[0] == WRITE) {
-        fwrite(buf, 1, lengths[2], stdout);
-    } else {
-        fwrite(words, sizeof *words, lengths[1], stdout);
+    uint32_t *words = take(count * sizeof *words);
+    uint8_t *buf = take(length);
+    const void *out = buf;
+    const uint8_t *part;
+    size_t out_len = length;
+    lepugaso_answer answer;
+    switch (call[0]) {
+    case WRITE:
+        answer = lepugaso_write(file, lengths[0], entry, words, count, buf, length);
+        break;
+    case READ:
+        answer = lepugaso_read(file, lengths[0], entry, buf, length, words, count);
+        out = words, out_len = count * sizeof *words;
+        break;
+    case VIEW:
+        answer = lepugaso_view(file, lengths[0], entry, words, count, buf, length, &part, &out_len);
+        out = part;
+        break;
+    case SET: /* the word, then the path */
+        answer = lepugaso_set(file, lengths[0], entry, words + 1, count - 1, words[0], buf, length);
+        break;
+    default:
+        return 2;
     }
+    fwrite(&answer, sizeof answer, 1, stdout);
+    fwrite(out, 1, out_len, stdout);
     return fflush(stdout) != 0;
 }

@@ -1,5 +1,6 @@
-/* How much stack a call takes on a table of 256 entries, each within the next: nested arrays, nested structs, written and read. The call
- * runs in a thread whose stack was painted before; what is no longer paint was used, the thread's own start included. */
+/* How much stack a call takes on a table of 256 entries, each within the next: nested arrays, nested structs, written, read, and viewed
+ * and set at a path through all of them. The call runs in a thread whose stack was painted before; what is no longer paint was used, the
+ * thread's own start included. */
 #include <pthread.h>
 #include <stdio.h>
 #include <stdlib.h>
@@ -12,7 +13,9 @@ enum { ENTRIES = 256, STACK = 1 << 20, PAINT = 0xa5 };
 static uint8_t file[12 * ENTRIES + 12 * ENTRIES + 10], buf[16];
 static size_t file_len;
 static uint32_t words[3] = {1, 2, 3};
-static int reads;
+static uint32_t path[ENTRIES - 1];
+static enum { WRITE, READ, VIEW, SET, WAYS } way;
+static const char *const names[WAYS] = {"written", "read", "viewed", "set"};
 static lepugaso_answer answer;
 
 static void put(uint8_t *at, uint8_t kind, uint8_t rows, uint8_t reference, uint8_t count) {
@@ -36,17 +39,26 @@ static void nest(int structs) {
     for (int m = 0; m < members; m++, end += 12) end[0] = (uint8_t)(m + 1);
     end[1] = 1, end[2] = (uint8_t)members, end[8] = 1;
     file_len = (size_t)(end - file) + 10;
+    /* A step into each entry but the last, an f32. */
+    for (int k = 0; k < ENTRIES - 1; k++) path[k] = structs || k == ENTRIES - 3 ? LEPUGASO_MEMBER(0) : 0;
+    path[ENTRIES - 2] = 2;
 }
 
 static void *call(void *unused) {
-    answer = reads ? lepugaso_read(file, file_len, ENTRIES - 1, buf, sizeof buf, words, 3)
-                   : lepugaso_write(file, file_len, ENTRIES - 1, words, 3, buf, sizeof buf);
+    const uint8_t *part;
+    size_t part_len;
+    switch (way) {
+    case WRITE: answer = lepugaso_write(file, file_len, ENTRIES - 1, words, 3, buf, sizeof buf); break;
+    case READ: answer = lepugaso_read(file, file_len, ENTRIES - 1, buf, sizeof buf, words, 3); break;
+    case VIEW: answer = lepugaso_view(file, file_len, ENTRIES - 1, path, ENTRIES - 1, buf, sizeof buf, &part, &part_len); break;
+    default: answer = lepugaso_set(file, file_len, ENTRIES - 1, path, ENTRIES - 1, 7, buf, sizeof buf);
+    }
     return unused;
 }
 
 int main(void) {
     for (int structs = 0; structs < 2; structs++) {
-        for (reads = 0; reads < 2; reads++) {
+        for (way = WRITE; way < WAYS; way++) {
             nest(structs);
             unsigned char *stack = aligned_alloc(4096, STACK);
             pthread_attr_t attributes;
@@ -57,9 +69,9 @@ int main(void) {
             if (pthread_attr_init(&attributes) || pthread_attr_setstack(&attributes, stack, STACK)) return 2;
             if (pthread_create(&thread, &attributes, call, NULL) || pthread_join(thread, NULL)) return 2;
             while (clean < STACK && stack[clean] == PAINT) clean++;
-            printf("256 nested %s, %s: %zu bytes of stack\n", structs ? "structs" : "arrays", reads ? "read" : "written", STACK - clean);
+            printf("256 nested %s, %s: %zu bytes of stack\n", structs ? "structs" : "arrays", names[way], STACK - clean);
             free(stack);
-            if (answer.refusal) return 1;
+            if (answer.refusal || (way >= VIEW && answer.value != 8)) return 1;
         }
     }
     return 0;

@@ -11,25 +11,30 @@ static double now(void) {
 }
 
 int main(void) {
-    static const char *const names[] = {"write, refused at its trailer", "write of a u32", "check of a u32"};
+    enum { REFUSED, WRITE, CHECK, VIEW, SET, WAYS };
+    static const char *const names[WAYS] = {"write, refused at its trailer", "write of a u32", "check of a u32", "view of a u32",
+                                             "set of a u32"};
     uint8_t file[22] = {[0] = 2, [12] = 1, [20] = 1}, buf[4];
+    const uint8_t *part;
+    size_t part_len;
     uint32_t word = 0;
-    double best[3] = {1e9, 1e9, 1e9};
+    double best[WAYS] = {1e9, 1e9, 1e9, 1e9, 1e9};
     for (int turn = 0; turn < 40; turn++) {
-        for (int which = 0; which < 3; which++) {
-            file[20] = which == 0 ? 2 : 1;
+        for (int way = REFUSED; way < WAYS; way++) {
+            file[20] = way == REFUSED ? 2 : 1;
             double began = now();
             for (int i = 0; i < 2000; i++) {
-                if (which == 2) {
-                    lepugaso_check(file, sizeof file);
-                } else {
-                    lepugaso_write(file, sizeof file, 0, &word, 1, buf, sizeof buf);
+                switch (way) {
+                case CHECK: lepugaso_check(file, sizeof file); break;
+                case VIEW: lepugaso_view(file, sizeof file, 0, NULL, 0, buf, sizeof buf, &part, &part_len); break;
+                case SET: lepugaso_set(file, sizeof file, 0, NULL, 0, word, buf, sizeof buf); break;
+                default: lepugaso_write(file, sizeof file, 0, &word, 1, buf, sizeof buf);
                 }
             }
             double each = (now() - began) / 2000;
-            if (each < best[which]) best[which] = each;
+            if (each < best[way]) best[way] = each;
         }
     }
-    for (int which = 0; which < 3; which++) printf("%s: %.0f ns\n", names[which], best[which]);
+    for (int way = REFUSED; way < WAYS; way++) printf("%s: %.0f ns\n", names[way], best[way]);
     return 0;
 }

@@ -2,9 +2,8 @@
  *
  *     struct Limits { board: u32, position: vec3<f32>, frost: f32, window: vec2<f32>, on: u32 }
  *
- * Where does each member lie, and where are the gaps? No call answers a member's offset yet, so the program adds up sizes by WGSL's rule
- * for structs, and has the library check every sum: the file also has the structs of the first one, two, .. members as entries, and the
- * size of each must be what the sum makes of it. Then it fills a block and reads it back.
+ * Where does each member lie, and where are the gaps? A view of each member tells. Then the program fills a block and reads it back, and
+ * sets the frost limit alone, by its path.
  */
 #include <inttypes.h>
 #include <stdio.h>
@@ -14,30 +13,35 @@
 #include "lepugaso.h"
 
 static const uint8_t limits[] = {
-    U32,                                                                  /* 0 */
-    F32,                                                                  /* 1 */
-    VECTOR(3, 1),                                                         /* 2: vec3<f32> */
-    VECTOR(2, 1),                                                         /* 3: vec2<f32> */
-    STRUCT(0, 1), STRUCT(0, 2), STRUCT(0, 3), STRUCT(0, 4), STRUCT(0, 5), /* 4 to 8: of the first members; 8 is Limits */
+    U32,          /* 0 */
+    F32,          /* 1 */
+    VECTOR(3, 1), /* 2: vec3<f32> */
+    VECTOR(2, 1), /* 3: vec2<f32> */
+    STRUCT(0, 5), /* 4: Limits */
     MEMBER(0), MEMBER(2), MEMBER(1), MEMBER(3), MEMBER(0),
-    TRAILER(9, 5),
+    TRAILER(5, 5),
 };
-enum { LIMITS = 8 };
+enum { LIMITS = 4, SIZE = 48, WORDS = 8 };
 
 static const struct {
     const char *name, *type;
     uint32_t entry;
 } members[] = {{"board", "u32", 0}, {"position", "vec3<f32>", 2}, {"frost", "f32", 1}, {"window", "vec2<f32>", 3}, {"on", "u32", 0}};
+enum { BOARD, POSITION, FROST, WINDOW, ON, MEMBERS };
 
 /* The same block with @align(12) on `frost`, which WGSL does not allow. */
 static const uint8_t misaligned[] = {
     U32, F32, VECTOR(3, 1), STRUCT(0, 3), MEMBER(0), MEMBER(2), MEMBER_ALIGN(1, 12), TRAILER(4, 3),
 };
 
-static uint64_t round_up(uint64_t align, uint64_t n) { return (n + align - 1) / align * align; }
+static void print_gap(size_t from, size_t to, const char *where, const char *name) {
+    if (from < to) printf("%6zu  %4zu         (gap %s%s)\n", from, to - from, where, name);
+}
 
-static void print_gap(uint64_t from, uint64_t to, const char *where, const char *name) {
-    if (from < to) printf("%6" PRIu64 "  %4" PRIu64 "         (gap %s%s)\n", from, to - from, where, name);
+/* A row of 16 bytes of a block. */
+static void print_row(const uint8_t *block, size_t at) {
+    printf("%6zu", at);
+    for (size_t k = at; k < at + 16; k++) printf("%s%02x", k % 4 ? " " : "  ", block[k]);
 }
 
 /* An f32 is written and read as its bits. */
@@ -53,55 +57,89 @@ static double number(uint32_t word) {
     return number;
 }
 
-/* Where the members lie; 0 if the library agrees with every sum. */
-static int print_layout(void) {
-    uint64_t end = 0;
-    lepugaso_layout block = {0, 1, 0};
+/* Where the members lie; 0 if the library answers everything. */
+static int print_layout(const uint8_t *block) {
+    lepugaso_layout whole;
+    size_t end = 0;
+    if (lepugaso_layout_of(limits, sizeof limits, LIMITS, &whole).refusal || whole.size != SIZE) return 1;
     printf("offset  size  align  member\n");
-    for (uint32_t k = 0; k < sizeof members / sizeof members[0]; k++) {
-        lepugaso_layout member;
-        lepugaso_answer known = lepugaso_layout_of(limits, sizeof limits, members[k].entry, &member);
-        lepugaso_answer laid = lepugaso_layout_of(limits, sizeof limits, 4 + k, &block);
-        if (known.refusal || laid.refusal) return 1;
-        uint64_t start = round_up(member.align, end);
+    for (uint32_t k = 0; k < MEMBERS; k++) {
+        uint32_t path[] = {LEPUGASO_MEMBER(k)};
+        const uint8_t *part;
+        size_t length;
+        lepugaso_answer place = lepugaso_view(limits, sizeof limits, LIMITS, path, 1, block, SIZE, &part, &length);
+        lepugaso_answer align = lepugaso_align(limits, sizeof limits, members[k].entry);
+        if (place.refusal || align.refusal) return 1;
+        size_t start = (size_t)(part - block);
         print_gap(end, start, "before ", members[k].name);
-        printf("%6" PRIu64 "  %4" PRIu64 "  %5" PRIu64 "  %s: %s\n", start, member.size, member.align, members[k].name, members[k].type);
-        end = start + member.size;
-        if (block.size != round_up(block.align, end)) return 1;
+        printf("%6zu  %4zu  %5" PRIu64 "  %s: %s\n", start, length, align.value, members[k].name, members[k].type);
+        end = start + length;
     }
-    print_gap(end, block.size, "at the end", "");
-    printf("        %4" PRIu64 "  %5" PRIu64 "  struct Limits\n\n", block.size, block.align);
+    print_gap(end, SIZE, "at the end", "");
+    printf("        %4d  %5" PRIu64 "  struct Limits\n\n", SIZE, whole.align);
     return 0;
 }
 
 /* A block from its words, one for each scalar in order, and back; 0 if both are answered. */
-static int print_block(void) {
-    uint32_t words[] = {7, bits(12), bits(4.5f), bits(0.25f), bits(-1.5f), bits(20), bits(7), 1}, read[8];
-    uint8_t block[48];
-    memset(block, 0xFF, sizeof block);
-    lepugaso_answer filled = lepugaso_write(limits, sizeof limits, LIMITS, words, 8, block, sizeof block);
-    lepugaso_answer found = lepugaso_read(limits, sizeof limits, LIMITS, block, sizeof block, read, 8);
+static int print_block(uint8_t *block) {
+    uint32_t words[] = {7, bits(12), bits(4.5f), bits(0.25f), bits(-1.5f), bits(20), bits(7), 1}, read[WORDS];
+    lepugaso_answer filled = lepugaso_write(limits, sizeof limits, LIMITS, words, WORDS, block, SIZE);
+    lepugaso_answer found = lepugaso_read(limits, sizeof limits, LIMITS, block, SIZE, read, WORDS);
     if (filled.refusal || found.refusal) return 1;
 
-    printf("8 words fill %" PRIu64 " bytes:\n", filled.value);
-    for (uint64_t k = 0; k < filled.value; k++) {
-        if (k % 16 == 0) printf("%6" PRIu64, k);
-        printf("%s%02x%s", k % 4 ? " " : "  ", block[k], k % 16 == 15 ? "\n" : "");
+    printf("%d words fill %" PRIu64 " bytes:\n", WORDS, filled.value);
+    for (size_t at = 0; at < filled.value; at += 16) {
+        print_row(block, at);
+        printf("\n");
     }
     printf("%" PRIu64 " words read: board %" PRIu32 " at (%g, %g, %g), frost below %g from %g to %g o'clock, heater %s\n\n", found.value,
            read[0], number(read[1]), number(read[2]), number(read[3]), number(read[4]), number(read[5]), number(read[6]),
            read[7] ? "on" : "off");
-
-    lepugaso_answer cut = lepugaso_read(limits, sizeof limits, LIMITS, block, 44, read, 8);
-    printf("without the gap at the end: refused %" PRIu32 "%s\n", cut.refusal,
-           cut.refusal == LEPUGASO_REFUSED_SHORT_BUFFER ? " (LEPUGASO_REFUSED_SHORT_BUFFER)" : "");
     return 0;
 }
 
+/* The frost limit alone, by its path; 0 if all is answered and every other byte stays. */
+static int print_set(uint8_t *block) {
+    uint32_t path[] = {LEPUGASO_MEMBER(FROST)}, read[WORDS];
+    uint8_t before[SIZE];
+    memcpy(before, block, SIZE);
+    lepugaso_answer set = lepugaso_set(limits, sizeof limits, LIMITS, path, 1, bits(-2.3f), block, SIZE);
+    lepugaso_answer found = lepugaso_read(limits, sizeof limits, LIMITS, block, SIZE, read, WORDS);
+    if (set.refusal || found.refusal) return 1;
+
+    size_t changed = 0;
+    for (size_t k = 0; k < SIZE; k++) {
+        if (before[k] == block[k]) continue;
+        if (k < set.value || k >= set.value + 4) return 1;
+        changed++;
+    }
+    printf("frost, at offset %" PRIu64 ", set to -2.3:\n", set.value);
+    print_row(before, 16);
+    printf("  before\n");
+    print_row(block, 16);
+    printf("  after\n");
+    printf("%zu of %d bytes changed, none outside frost; read: (%g, %g, %g), frost below %g from %g to %g o'clock\n\n", changed, SIZE,
+           number(read[1]), number(read[2]), number(read[3]), number(read[4]), number(read[5]), number(read[6]));
+    return 0;
+}
+
+static void print_refusals(uint8_t *block) {
+    uint32_t words[WORDS], path[] = {LEPUGASO_MEMBER(POSITION), 3};
+    lepugaso_answer cut = lepugaso_read(limits, sizeof limits, LIMITS, block, 44, words, WORDS);
+    printf("without the gap at the end: refused %" PRIu32 "%s\n", cut.refusal,
+           cut.refusal == LEPUGASO_REFUSED_SHORT_BUFFER ? " (LEPUGASO_REFUSED_SHORT_BUFFER)" : "");
+    lepugaso_answer past = lepugaso_set(limits, sizeof limits, LIMITS, path, 2, bits(-2.3f), block, SIZE);
+    printf("position[3] set to -2.3: refused %" PRIu32 " at step %" PRIu32 "%s\n", past.refusal, past.place,
+           past.refusal == LEPUGASO_REFUSED_INDEX ? " (LEPUGASO_REFUSED_INDEX)" : "");
+    lepugaso_answer given = lepugaso_size(misaligned, sizeof misaligned, 3);
+    printf("with @align(12) on frost: refused %" PRIu32 " at entry %" PRIu32 "%s\n", given.refusal, given.place,
+           given.refusal == LEPUGASO_REFUSED_GIVEN ? " (LEPUGASO_REFUSED_GIVEN)" : "");
+}
+
 int main(void) {
-    if (print_layout() || print_block()) return 1;
-    lepugaso_answer answer = lepugaso_size(misaligned, sizeof misaligned, 3);
-    printf("with @align(12) on frost: refused %" PRIu32 " at entry %" PRIu32 "%s\n", answer.refusal, answer.place,
-           answer.refusal == LEPUGASO_REFUSED_GIVEN ? " (LEPUGASO_REFUSED_GIVEN)" : "");
+    uint8_t block[SIZE];
+    memset(block, 0xFF, SIZE);
+    if (print_layout(block) || print_block(block) || print_set(block)) return 1;
+    print_refusals(block);
     return 0;
 }

@@ -33,6 +33,27 @@ mod calls {
             words: *mut u32,
             words_len: usize,
         ) -> Answer;
+        fn lepugaso_view(
+            file: *const u8,
+            file_len: usize,
+            entry: u32,
+            path: *const u32,
+            path_len: usize,
+            buf: *const u8,
+            buf_len: usize,
+            part: *mut *const u8,
+            part_len: *mut usize,
+        ) -> Answer;
+        fn lepugaso_set(
+            file: *const u8,
+            file_len: usize,
+            entry: u32,
+            path: *const u32,
+            path_len: usize,
+            word: u32,
+            buf: *mut u8,
+            buf_len: usize,
+        ) -> Answer;
     }
 
     pub fn write(file: &[u8], entry: u32, words: &[u32], buf: &mut [u8]) -> Answer {
@@ -48,10 +69,36 @@ mod calls {
             lepugaso_read(file.as_ptr(), file.len(), entry, buf.as_ptr(), buf.len(), words.as_mut_ptr(), words.len())
         }
     }
+
+    pub fn view<'a>(file: &[u8], entry: u32, path: &[u32], buf: &'a [u8]) -> (Answer, &'a [u8]) {
+        let (mut part, mut length) = (std::ptr::null(), 0);
+        // SAFETY: as above, with places of this function for the part, which is one of `buf` whatever the answer is.
+        unsafe {
+            let answer = lepugaso_view(
+                file.as_ptr(),
+                file.len(),
+                entry,
+                path.as_ptr(),
+                path.len(),
+                buf.as_ptr(),
+                buf.len(),
+                &mut part,
+                &mut length,
+            );
+            (answer, std::slice::from_raw_parts(part, length))
+        }
+    }
+
+    pub fn set(file: &[u8], entry: u32, path: &[u32], word: u32, buf: &mut [u8]) -> Answer {
+        // SAFETY: as above, with `buf` lent alone.
+        unsafe {
+            lepugaso_set(file.as_ptr(), file.len(), entry, path.as_ptr(), path.len(), word, buf.as_mut_ptr(), buf.len())
+        }
+    }
 }
 
 /// The same calls in a process of their own (bench/host.c), which the environment names: the word for the call, the numbers and the bytes
-/// go to its standard input, the answer and what was lent to be written come back.
+/// go to its standard input, the answer and what was lent to be written, or the part that is viewed, come back.
 #[cfg(feature = "emulated")]
 mod calls {
     use super::Answer;
@@ -93,6 +140,19 @@ mod calls {
         }
         answer
     }
+
+    pub fn view<'a>(file: &[u8], entry: u32, path: &[u32], buf: &'a [u8]) -> (Answer, &'a [u8]) {
+        let (answer, part) = call(2, file, entry, path, buf);
+        let found = &buf[answer.value as usize..][..part.len()];
+        assert!(found == part);
+        (answer, found)
+    }
+
+    pub fn set(file: &[u8], entry: u32, path: &[u32], word: u32, buf: &mut [u8]) -> Answer {
+        let (answer, after) = call(3, file, entry, &[&[word], path].concat(), buf);
+        buf.copy_from_slice(&after);
+        answer
+    }
 }
 
-pub use calls::{read, write};
+pub use calls::{read, set, view, write};

@@ -1,5 +1,5 @@
-//! How long Lepugaso takes to write and to read, beside the Rust, and for plain words beside memcpy: in one process, on the same inputs,
-//! after both sides have been seen to give the same results.
+//! How long Lepugaso takes to write, to read, to view and to set, beside the Rust, and for plain words beside memcpy: in one process, on
+//! the same inputs, after both sides have been seen to give the same results.
 mod lepugaso;
 
 use std::cell::RefCell;
@@ -178,6 +178,59 @@ fn times(input: &Input) -> [Vec<f64>; 2] {
     [written, read]
 }
 
+/// A path of nine steps: three times a member that is an array, one of its two elements; then a matrix, its column, its scalar.
+const PATH: [u32; 9] = [MEMBER | 1, 1, MEMBER | 1, 1, MEMBER | 1, 1, MEMBER | 1, 2, 1];
+const MEMBER: u32 = 1 << 31;
+
+/// {u32, array<{u32, array<{u32, array<{u32, mat3x3<f32>}, 2>}, 2>}, 2>}: 87 words in 624 bytes.
+fn nested() -> Table {
+    let (u32, f32, two, pair) = (over(2, 0, 0, 0, 0), over(3, 0, 0, 0, 0), over(9, 0, 0, 0, 2), over(12, 0, 0, 0, 2));
+    let (array, of) = (|of| Entry { reference: of, ..two }, |first| Entry { reference: first, ..pair });
+    table(
+        &[u32, f32, over(8, 3, 3, 1, 0), of(0), array(3), of(2), array(5), of(4), array(7), of(6)],
+        &[0, 2, 0, 4, 0, 6, 0, 8],
+    )
+}
+
+/// Holds what Lepugaso views and sets at the path to what the Rust does. The bytes are the Rust's, so their gaps are 0 on both sides.
+fn check_path(input: &Input, word: u32) -> u64 {
+    let path = types::mem_view(&PATH);
+    let (answer, part) = lepugaso::view(&input.file, input.entry, &PATH, &input.bytes);
+    let offset = answer.value;
+    assert_eq!(answer, lepugaso::Answer { refusal: 0, place: 0, value: offset });
+    assert!(std::ptr::eq(part, &input.bytes[offset as usize..][..4]));
+    assert_eq!(input.value.view(&path).expect("a part").to_buffer().expect("its bytes"), part);
+    let mut buf = input.bytes.clone();
+    assert_eq!(lepugaso::set(&input.file, input.entry, &PATH, word, &mut buf), answer);
+    let mut value = input.value.clone();
+    types::set_part(&mut value, &path, word).expect("a value").expect("a scalar");
+    assert!(value.to_buffer().expect("its bytes") == buf && buf != input.bytes);
+    offset
+}
+
+/// Lepugaso's and the Rust's times, and the Rust's from bytes and to bytes: of viewing, then of setting.
+fn path_times(input: &Input, word: u32) -> [Vec<f64>; 2] {
+    let (file, entry, path) = (&input.file, input.entry, types::mem_view(&PATH));
+    let buf = RefCell::new(input.bytes.clone());
+    let value = RefCell::new(input.value.clone());
+    let read = || Instance::from_buffer(black_box(&input.bytes), &input.ty).expect("a value");
+    let viewed = best(&mut [
+        &mut || drop(black_box(lepugaso::view(black_box(file), entry, black_box(&PATH), &input.bytes))),
+        &mut || assert!(black_box(&input.value).view(black_box(&path)).is_ok()),
+        &mut || assert!(read().view(black_box(&path)).is_ok()),
+    ]);
+    let set = best(&mut [
+        &mut || drop(black_box(lepugaso::set(black_box(file), entry, black_box(&PATH), word, &mut buf.borrow_mut()))),
+        &mut || drop(black_box(types::set_part(&mut value.borrow_mut(), black_box(&path), word))),
+        &mut || {
+            let mut value = read();
+            drop(black_box(types::set_part(&mut value, black_box(&path), word)));
+            drop(black_box(value.to_buffer()))
+        },
+    ]);
+    [viewed, set]
+}
+
 fn shown(seconds: f64) -> String {
     match seconds {
         s if s < 1e-6 => format!("{:.0} ns", s * 1e9),
@@ -199,6 +252,22 @@ fn line(case: &Case, way: &str, times: &[f64]) {
         }
     };
     println!("{:35} {way:5} {:>10} {:>10} {:6.1} {beside}  {goal}", case.name, shown(ours), shown(rust), rust / ours);
+}
+
+/// What the Rust does to view and to set in a value that is there, and in bytes as Lepugaso does.
+fn path_lines(way: &str, times: &[f64]) {
+    let from_bytes =
+        if way == "view" { "the Rust reads the bytes first" } else { "the Rust reads the bytes and writes them" };
+    for (rust, what) in [(times[1], "the Rust has the value already"), (times[2], from_bytes)] {
+        let (ours, times) = (times[0], rust / times[0]);
+        println!(
+            "{:35} {way:5} {:>10} {:>10} {times:6.1} {:>17}  {what}",
+            "a path of 9 steps",
+            shown(ours),
+            shown(rust),
+            ""
+        );
+    }
 }
 
 fn said_by(command: &str, arguments: &[&str]) -> String {
@@ -240,4 +309,13 @@ fn main() {
         line(&case, "write", &written);
         line(&case, "read", &read);
     }
+    let (input, word) = (input(&nested()), 7);
+    let offset = check_path(&input, word);
+    if cfg!(feature = "emulated") {
+        println!("a path of {} steps: at offset {offset} of {} bytes, the same", PATH.len(), input.bytes.len());
+        return;
+    }
+    let [viewed, set] = path_times(&input, word);
+    path_lines("view", &viewed);
+    path_lines("set", &set);
 }

@@ -26,6 +26,10 @@
  * What is written to a buffer and read from it are words: a uint32_t for each scalar of a type, in order of offset. An i32 is its two's
  * complement, an f32 its bits, an f16 its bits, 0 to 65,535; an atomic is the scalar that it refers to. Bits stay as they are, those of a
  * NaN too. A struct {u32, vec3<f32>, f32} has 5 words and takes 32 bytes.
+ *
+ * A path leads from a type to a part of it, by steps of a uint32_t each: the number of a struct's member as LEPUGASO_MEMBER has it, or the
+ * index of an array's element, of a vector's scalar or of a matrix's column, whose scalars have indices in turn. Both count from 0. A path
+ * of no step leads to the type itself.
  */
 #ifndef LEPUGASO_H
 #define LEPUGASO_H
@@ -54,9 +58,12 @@ typedef struct lepugaso_layout {
 
 #define LEPUGASO_ABSENT UINT64_MAX
 
+/* The step of a path into member `number` of a struct: bit 31 tells it from an index. */
+#define LEPUGASO_MEMBER(number) (UINT32_C(0x80000000) | (uint32_t)(number))
+
 /* A pointer that cannot be right, before anything is looked at: null with a length above 0 (null with length 0 is an empty region); null
- * or misaligned where a result goes; misaligned where words or entry numbers are, whatever the length; a length that runs past the end of
- * the address space; a region to be written that shares a byte with another. Nothing is touched, place and value are 0. */
+ * or misaligned where a result goes; misaligned where words, steps or entry numbers are, whatever the length; a length that runs past the
+ * end of the address space; a region to be written that shares a byte with another. Nothing is touched, place and value are 0. */
 #define LEPUGASO_BAD_POINTER 65535u
 
 /* The file is refused as a whole. Every call gives these, in this order. */
@@ -70,15 +77,15 @@ typedef struct lepugaso_layout {
 #define LEPUGASO_REFUSED_GIVEN 6u     /* a member's given size or align does not suit its type */
 #define LEPUGASO_REFUSED_TOO_LARGE 7u /* a size, offset or other number is above 4,294,967,295 */
 
-/* What was asked cannot be answered. Each call below says which of these it gives, and in which order; 11 to 13 belong to calls with a
- * path, of which there is none yet. */
+/* What was asked cannot be answered. Each call below says which of these it gives, and in which order. The place of 11 to 13 is the first
+ * bad step of the path, counted from 0. */
 #define LEPUGASO_REFUSED_ENTRY 8u         /* no entry has this number */
 #define LEPUGASO_REFUSED_ABSENT 9u        /* the type has no such number, or no layout */
 #define LEPUGASO_REFUSED_NOT_STORABLE 10u /* the type holds a bool */
 #define LEPUGASO_REFUSED_MEMBER_STEP 11u  /* a member step outside a struct, or no such member; place is the step */
 #define LEPUGASO_REFUSED_INDEX 12u        /* an index not below the count; place is the step */
 #define LEPUGASO_REFUSED_INDEX_STEP 13u   /* an index step on a struct, scalar or atomic; place is the step */
-#define LEPUGASO_REFUSED_WORDS 14u        /* the wrong number of words, or too few to read into */
+#define LEPUGASO_REFUSED_WORDS 14u        /* the wrong number of words, or too few to read into, or one for what is no single scalar */
 #define LEPUGASO_REFUSED_SHORT_BUFFER 15u /* the buffer is below the size, or holds no whole element of a runtime array */
 #define LEPUGASO_REFUSED_F16_WORD 16u     /* a word above 65,535 for an f16; place is the word */
 #define LEPUGASO_REFUSED_LONG_BUFFER 17u  /* the buffer is above 4,294,967,295 bytes */
@@ -125,6 +132,23 @@ lepugaso_answer lepugaso_write(const uint8_t *file, size_t file_len, uint32_t en
  * element), 14 (there are fewer words than that), and leaves `words` as they were. */
 lepugaso_answer lepugaso_read(const uint8_t *file, size_t file_len, uint32_t entry, const uint8_t *buf, size_t buf_len, uint32_t *words,
                               size_t words_len);
+
+/* What `path` leads to from entry `entry` at the front of `buf`, as that part of `buf`: `*part` is where it begins and `*part_len` how
+ * many bytes it has, gaps included; nothing is copied. The value is its offset, so that `buf + value` is the same place. It has the bytes
+ * of its type's size, whatever size a member gives; a matrix's column has those of its scalars; what is open runs to the end of its last
+ * element, of which `buf` has as many as are whole. A type that holds a bool is viewed as any other.
+ * Refuses 1 to 7, then 8, 17 (the buffer is above 4,294,967,295 bytes), 9 (the type has no layout), 15 (the buffer is below the size, or
+ * has no whole element), then 11, 12 or 13 (the first bad step; place is its number). When refused, `*part` is `buf`, null too, and
+ * `*part_len` is 0; at LEPUGASO_BAD_POINTER both stay as they were. */
+lepugaso_answer lepugaso_view(const uint8_t *file, size_t file_len, uint32_t entry, const uint32_t *path, size_t path_len,
+                              const uint8_t *buf, size_t buf_len, const uint8_t **part, size_t *part_len);
+
+/* Stores `word` in the one scalar, or atomic, that `path` leads to from entry `entry` at the front of `buf`. The value is its offset.
+ * Every other byte of `buf` stays, those of gaps too.
+ * Refuses 1 to 7, then 8, 17, 9 as viewing does, 10 (the type holds a bool), 15, 11 to 13 as viewing does, 14 (the path leads to no single
+ * scalar), 16 (the word is above 65,535 for an f16; place is 0), and leaves `buf` as it was. */
+lepugaso_answer lepugaso_set(const uint8_t *file, size_t file_len, uint32_t entry, const uint32_t *path, size_t path_len, uint32_t word,
+                             uint8_t *buf, size_t buf_len);
 
 #ifdef __cplusplus
 }

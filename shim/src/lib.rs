@@ -203,3 +203,99 @@ pub unsafe extern "C" fn lepugaso_read(
         _ => BAD_POINTER,
     }
 }
+
+/// What a path leads to from an entry's type at the front of `buf`, as that part of `buf`, into `part` and `part_len`.
+///
+/// # Safety
+/// As `lepugaso_check`.
+#[no_mangle]
+pub unsafe extern "C" fn lepugaso_view(
+    file: *const u8,
+    file_len: usize,
+    entry: u32,
+    path: *const u32,
+    path_len: usize,
+    buf: *const u8,
+    buf_len: usize,
+    part: *mut *const u8,
+    part_len: *mut usize,
+) -> Crossing {
+    match (
+        Lent::new(file, file_len),
+        Lent::new(path, path_len),
+        Lent::new(buf, buf_len),
+        Lent::new(part, 1),
+        Lent::new(part_len, 1),
+    ) {
+        (Some(file), Some(path), Some(lent), Some(at), Some(count))
+            if at.is_apart_from(&file)
+                && at.is_apart_from(&path)
+                && at.is_apart_from(&lent)
+                && at.is_apart_from(&count)
+                && count.is_apart_from(&file)
+                && count.is_apart_from(&path)
+                && count.is_apart_from(&lent) =>
+        {
+            let mut size = 0;
+            // SAFETY: the caller lends the first three, and their pointers have passed the tests of a slice's. They are only read, so they
+            // may overlap.
+            let answer = unsafe {
+                lepugaso_surface_view(
+                    file.start(),
+                    file.count(),
+                    entry,
+                    path.start(),
+                    path.count(),
+                    lent.start(),
+                    lent.count(),
+                    &mut size,
+                )
+            };
+            // SAFETY: the caller lends both to be written, they have passed the tests, and no byte of either is another's. When refused the
+            // value is 0 and the size was left alone: the empty part at the start of `buf`, null if that is.
+            unsafe {
+                at.start().write(buf.wrapping_add(answer.value as usize));
+                count.start().write(size as usize);
+            }
+            answer
+        }
+        _ => BAD_POINTER,
+    }
+}
+
+/// A word into the one scalar that a path leads to from an entry's type at the front of `buf`.
+///
+/// # Safety
+/// As `lepugaso_check`.
+#[no_mangle]
+pub unsafe extern "C" fn lepugaso_set(
+    file: *const u8,
+    file_len: usize,
+    entry: u32,
+    path: *const u32,
+    path_len: usize,
+    word: u32,
+    buf: *mut u8,
+    buf_len: usize,
+) -> Crossing {
+    match (
+        Lent::new(file, file_len),
+        Lent::new(path, path_len),
+        Lent::new(buf, buf_len),
+    ) {
+        // SAFETY: as for writing, with the path in the place of the words.
+        (Some(file), Some(path), Some(buf)) if buf.is_apart_from(&file) && buf.is_apart_from(&path) => unsafe {
+            lepugaso_surface_set(
+                file.start(),
+                file.count(),
+                entry,
+                path.start(),
+                path.count(),
+                word,
+                buf.start(),
+                buf.count(),
+            )
+        },
+        _ => BAD_POINTER,
+    }
+}

@@ -1,5 +1,5 @@
 //! What the Rattle archive exports (crates/surface/src/lib.rt), as it passes on x86-64: a slice is a pointer and a count of elements, an
-//! array lent is a pointer. No compiler holds these lines to that source; tests/declarations.rs does.
+//! array or a number lent is a pointer. No compiler holds these lines to that source; tests/declarations.rs does.
 
 /// An answer: 0 or document 01's number, its place, the value (0 when refused).
 #[repr(C)]
@@ -39,5 +39,25 @@ extern "C" {
         buf_len: usize,
         words: *mut u32,
         words_len: usize,
+    ) -> Crossing;
+    pub fn lepugaso_surface_view(
+        file: *const u8,
+        file_len: usize,
+        entry: u32,
+        path: *const u32,
+        path_len: usize,
+        buf: *const u8,
+        buf_len: usize,
+        size: *mut u64,
+    ) -> Crossing;
+    pub fn lepugaso_surface_set(
+        file: *const u8,
+        file_len: usize,
+        entry: u32,
+        path: *const u32,
+        path_len: usize,
+        word: u32,
+        buf: *mut u8,
+        buf_len: usize,
     ) -> Crossing;
 }

@@ -78,6 +78,12 @@ static void refused_files(void) {
         HOLDS(buf[0] == 6 && buf[1] == 7 && buf[2] == 8 && buf[3] == 9);
         EXPECT(lepugaso_read(file, length, 0, bytes, sizeof bytes, &word, 1), refusal, place, 0);
         HOLDS(word == 5);
+        const uint8_t *part = NULL;
+        size_t part_len = 5;
+        EXPECT(lepugaso_view(file, length, 0, NULL, 0, bytes, sizeof bytes, &part, &part_len), refusal, place, 0);
+        HOLDS(part == bytes && part_len == 0);
+        EXPECT(lepugaso_set(file, length, 0, NULL, 0, 1, buf, sizeof buf), refusal, place, 0);
+        HOLDS(buf[0] == 6 && buf[1] == 7 && buf[2] == 8 && buf[3] == 9);
     }
 }
 
@@ -328,6 +334,158 @@ static void read_refusals(void) {
     READ_REFUSED(18, 0, LEPUGASO_REFUSED_SHORT_BUFFER, bytes, 31);
 }
 
+#define M LEPUGASO_MEMBER
+#define PATH WORDS
+#define WHOLE (const uint32_t *)NULL, (size_t)0
+
+/* Views a buffer of `length` bytes: the part at `offset` of `size` bytes, or when refused the empty one at its start. */
+#define VIEWS(entry, length, offset, size, ...) views(__LINE__, entry, length, 0, 0, offset, size, __VA_ARGS__)
+#define VIEW_REFUSED(entry, length, refusal, place, ...) views(__LINE__, entry, length, refusal, place, 0, 0, __VA_ARGS__)
+static void views(int line, uint32_t entry, size_t length, uint32_t refusal, uint32_t place, size_t offset, size_t size,
+                  const uint32_t *path, size_t steps) {
+    static const uint8_t bytes[64] = {1};
+    const uint8_t *file = lent(stored, sizeof stored), *buf = lent(bytes, length), *part = NULL;
+    const void *given = lent(path, steps * sizeof *path);
+    size_t part_len = 999;
+    expect(__FILE__, line, "viewing", lepugaso_view(file, sizeof stored, entry, given, steps, buf, length, &part, &part_len), refusal,
+           place, offset);
+    hold(__FILE__, line, "the part of the buffer", part == buf + offset && part_len == size);
+}
+
+/* Sets a scalar in a buffer of `length` bytes: those from `offset` on become `bytes`, as many as there are of them, and the others stay. */
+#define SETS(entry, length, word, offset, ...) sets(__LINE__, entry, length, word, 0, 0, offset, __VA_ARGS__)
+#define SET_REFUSED(entry, length, word, refusal, place, ...) sets(__LINE__, entry, length, word, refusal, place, 0, NULL, 0, __VA_ARGS__)
+static void sets(int line, uint32_t entry, size_t length, uint32_t word, uint32_t refusal, uint32_t place, size_t offset,
+                 const uint8_t *bytes, size_t width, const uint32_t *path, size_t steps) {
+    const uint8_t *file = lent(stored, sizeof stored);
+    const void *given = lent(path, steps * sizeof *path);
+    uint8_t expected[64], *buf = fresh_page() + PAGE - length;
+    memset(buf, OLD_BYTE, length);
+    memset(expected, OLD_BYTE, sizeof expected);
+    if (width) memcpy(expected + offset, bytes, width);
+    expect(__FILE__, line, "setting", lepugaso_set(file, sizeof stored, entry, given, steps, word, buf, length), refusal, place, offset);
+    hold(__FILE__, line, "the buffer after setting", memcmp(buf, expected, length) == 0);
+}
+
+static void viewed_parts(void) {
+    VIEWS(2, 4, 0, 4, WHOLE);
+    VIEWS(2, 64, 0, 4, WHOLE);
+    VIEWS(4, 2, 0, 2, WHOLE);
+    VIEWS(13, 4, 0, 4, WHOLE);
+    VIEWS(8, 12, 8, 4, PATH(2));
+    VIEWS(10, 6, 4, 2, PATH(2));
+    /* A column has the bytes of its scalars, the gap after it is the matrix's. */
+    VIEWS(11, 48, 0, 48, WHOLE);
+    VIEWS(11, 48, 32, 12, PATH(2));
+    VIEWS(11, 48, 36, 4, PATH(2, 1)); /* P11 */
+    VIEWS(12, 16, 8, 6, PATH(1));
+    VIEWS(12, 16, 12, 2, PATH(1, 2));
+    VIEWS(15, 32, 16, 16, PATH(1));
+    VIEWS(15, 32, 20, 4, PATH(1, M(0), 1));
+    VIEWS(16, 32, 16, 12, PATH(M(1)));
+    VIEWS(16, 32, 28, 4, PATH(M(2)));
+    /* A target has its type's size, whatever size a member gives. */
+    VIEWS(19, 24, 0, 4, PATH(M(0)));
+    VIEWS(19, 24, 20, 4, PATH(M(1)));
+    /* What is open runs to the end of its last whole element. */
+    VIEWS(17, 47, 0, 32, WHOLE);
+    VIEWS(18, 32, 0, 32, WHOLE);
+    VIEWS(18, 47, 0, 32, WHOLE);
+    VIEWS(18, 48, 0, 48, WHOLE);
+    VIEWS(18, 47, 16, 16, PATH(M(1)));
+    VIEWS(18, 48, 16, 32, PATH(M(1)));
+    VIEWS(18, 48, 44, 4, PATH(M(1), 1, 3));
+    VIEWS(21, 33, 28, 2, PATH(1, M(2), 2));
+    /* A bool can be viewed. */
+    VIEWS(0, 4, 0, 4, WHOLE);
+    VIEWS(7, 8, 4, 4, PATH(1));
+    VIEWS(22, 8, 4, 4, PATH(M(1)));
+    VIEWS(23, 24, 16, 8, PATH(2));
+}
+
+static void view_refusals(void) {
+    VIEW_REFUSED(NO_ENTRY, 64, LEPUGASO_REFUSED_ENTRY, 0, WHOLE);
+    VIEW_REFUSED(UINT32_MAX, 64, LEPUGASO_REFUSED_ENTRY, 0, WHOLE);
+    VIEW_REFUSED(5, 64, LEPUGASO_REFUSED_ABSENT, 0, WHOLE);
+    VIEW_REFUSED(6, 64, LEPUGASO_REFUSED_ABSENT, 0, PATH(0));
+    VIEW_REFUSED(2, 0, LEPUGASO_REFUSED_SHORT_BUFFER, 0, WHOLE);
+    VIEW_REFUSED(2, 3, LEPUGASO_REFUSED_SHORT_BUFFER, 0, WHOLE);
+    VIEW_REFUSED(11, 47, LEPUGASO_REFUSED_SHORT_BUFFER, 0, PATH(0, 0));
+    VIEW_REFUSED(18, 31, LEPUGASO_REFUSED_SHORT_BUFFER, 0, PATH(M(0))); /* P10 */
+    /* The first bad step. */
+    VIEW_REFUSED(2, 4, LEPUGASO_REFUSED_MEMBER_STEP, 0, PATH(M(0)));
+    VIEW_REFUSED(2, 4, LEPUGASO_REFUSED_INDEX_STEP, 0, PATH(0));
+    VIEW_REFUSED(13, 4, LEPUGASO_REFUSED_MEMBER_STEP, 0, PATH(M(0)));
+    VIEW_REFUSED(13, 4, LEPUGASO_REFUSED_INDEX_STEP, 0, PATH(0));
+    VIEW_REFUSED(8, 12, LEPUGASO_REFUSED_MEMBER_STEP, 0, PATH(M(0)));
+    VIEW_REFUSED(8, 12, LEPUGASO_REFUSED_INDEX, 0, PATH(3));
+    VIEW_REFUSED(8, 12, LEPUGASO_REFUSED_INDEX, 0, PATH(INT32_MAX));
+    VIEW_REFUSED(8, 12, LEPUGASO_REFUSED_INDEX_STEP, 1, PATH(2, 0, M(0)));
+    VIEW_REFUSED(11, 48, LEPUGASO_REFUSED_MEMBER_STEP, 0, PATH(M(0)));
+    VIEW_REFUSED(11, 48, LEPUGASO_REFUSED_MEMBER_STEP, 1, PATH(0, M(0)));
+    VIEW_REFUSED(11, 48, LEPUGASO_REFUSED_INDEX, 0, PATH(3, 3));
+    VIEW_REFUSED(11, 48, LEPUGASO_REFUSED_INDEX, 1, PATH(2, 3));
+    VIEW_REFUSED(11, 48, LEPUGASO_REFUSED_INDEX_STEP, 2, PATH(2, 2, 0));
+    VIEW_REFUSED(15, 32, LEPUGASO_REFUSED_INDEX, 0, PATH(2, M(7)));
+    VIEW_REFUSED(15, 32, LEPUGASO_REFUSED_MEMBER_STEP, 1, PATH(1, M(1), 9));
+    VIEW_REFUSED(16, 32, LEPUGASO_REFUSED_MEMBER_STEP, 0, PATH(M(3)));
+    VIEW_REFUSED(16, 32, LEPUGASO_REFUSED_MEMBER_STEP, 0, PATH(UINT32_MAX));
+    VIEW_REFUSED(16, 32, LEPUGASO_REFUSED_INDEX_STEP, 0, PATH(0));
+    VIEW_REFUSED(18, 47, LEPUGASO_REFUSED_INDEX, 1, PATH(M(1), 1));
+    VIEW_REFUSED(18, 48, LEPUGASO_REFUSED_INDEX, 2, PATH(M(1), 1, 4));
+    VIEW_REFUSED(18, 48, LEPUGASO_REFUSED_INDEX_STEP, 1, PATH(M(0), 0));
+    /* Of two or more the first by document 01's order. */
+    VIEW_REFUSED(5, 0, LEPUGASO_REFUSED_ABSENT, 0, PATH(M(0)));
+    VIEW_REFUSED(0, 0, LEPUGASO_REFUSED_SHORT_BUFFER, 0, PATH(M(0)));
+    VIEW_REFUSED(16, 31, LEPUGASO_REFUSED_SHORT_BUFFER, 0, PATH(0));
+}
+
+static void set_scalars(void) {
+    SETS(1, 4, (uint32_t)-1, 0, BYTES(0xFF, 0xFF, 0xFF, 0xFF), WHOLE);
+    SETS(2, 9, 0x04030201, 0, BYTES(1, 2, 3, 4), WHOLE);
+    SETS(3, 4, 0x7F800001, 0, BYTES(1, 0, 0x80, 0x7F), WHOLE); /* a NaN that signals */
+    SETS(4, 4, 65535, 0, BYTES(0xFF, 0xFF), WHOLE);
+    SETS(13, 4, 0x80000001, 0, BYTES(1, 0, 0, 0x80), WHOLE);
+    SETS(8, 12, 7, 8, BYTES(LE32(7)), PATH(2));
+    SETS(11, 48, 7, 36, BYTES(LE32(7)), PATH(2, 1));
+    SETS(12, 16, 7, 12, BYTES(LE16(7)), PATH(1, 2));
+    SETS(15, 40, 7, 20, BYTES(LE32(7)), PATH(1, M(0), 1));
+    SETS(16, 32, 7, 28, BYTES(LE32(7)), PATH(M(2)));
+    SETS(18, 47, 7, 0, BYTES(LE32(7)), PATH(M(0)));
+    SETS(18, 48, 7, 44, BYTES(LE32(7)), PATH(M(1), 1, 3));
+    SETS(19, 24, 7, 0, BYTES(LE32(7)), PATH(M(0)));
+    SETS(21, 33, 65535, 28, BYTES(0xFF, 0xFF), PATH(1, M(2), 2));
+    SETS(21, 33, 65536, 20, BYTES(LE32(65536)), PATH(1, M(1)));
+}
+
+static void set_refusals(void) {
+    SET_REFUSED(NO_ENTRY, 64, 1, LEPUGASO_REFUSED_ENTRY, 0, WHOLE);
+    SET_REFUSED(5, 64, 1, LEPUGASO_REFUSED_ABSENT, 0, WHOLE);
+    SET_REFUSED(6, 64, 1, LEPUGASO_REFUSED_ABSENT, 0, PATH(0));
+    SET_REFUSED(0, 64, 1, LEPUGASO_REFUSED_NOT_STORABLE, 0, WHOLE);
+    SET_REFUSED(22, 64, 1, LEPUGASO_REFUSED_NOT_STORABLE, 0, PATH(M(0)));
+    SET_REFUSED(23, 64, 1, LEPUGASO_REFUSED_NOT_STORABLE, 0, PATH(0, 0));
+    SET_REFUSED(2, 3, 1, LEPUGASO_REFUSED_SHORT_BUFFER, 0, WHOLE);
+    SET_REFUSED(11, 47, 1, LEPUGASO_REFUSED_SHORT_BUFFER, 0, PATH(0, 0));
+    SET_REFUSED(18, 31, 1, LEPUGASO_REFUSED_SHORT_BUFFER, 0, PATH(M(0)));
+    SET_REFUSED(16, 32, 1, LEPUGASO_REFUSED_MEMBER_STEP, 0, PATH(M(3)));
+    SET_REFUSED(18, 47, 1, LEPUGASO_REFUSED_INDEX, 1, PATH(M(1), 1, 0));
+    SET_REFUSED(11, 48, 1, LEPUGASO_REFUSED_INDEX, 1, PATH(2, 3));
+    SET_REFUSED(13, 4, 1, LEPUGASO_REFUSED_INDEX_STEP, 0, PATH(0));
+    SET_REFUSED(8, 12, 1, LEPUGASO_REFUSED_WORDS, 0, WHOLE);
+    SET_REFUSED(11, 48, 1, LEPUGASO_REFUSED_WORDS, 0, PATH(1)); /* a column */
+    SET_REFUSED(16, 32, 1, LEPUGASO_REFUSED_WORDS, 0, PATH(M(1)));
+    SET_REFUSED(18, 48, 1, LEPUGASO_REFUSED_WORDS, 0, PATH(M(1)));
+    SET_REFUSED(4, 2, 65536, LEPUGASO_REFUSED_F16_WORD, 0, WHOLE);
+    SET_REFUSED(21, 32, UINT32_MAX, LEPUGASO_REFUSED_F16_WORD, 0, PATH(1, M(2), 2));
+    /* Of two or more the first by document 01's order. */
+    SET_REFUSED(5, 0, 65536, LEPUGASO_REFUSED_ABSENT, 0, PATH(M(0)));
+    SET_REFUSED(0, 0, 65536, LEPUGASO_REFUSED_NOT_STORABLE, 0, PATH(M(0)));
+    SET_REFUSED(16, 31, 1, LEPUGASO_REFUSED_SHORT_BUFFER, 0, PATH(0));
+    SET_REFUSED(10, 6, 65536, LEPUGASO_REFUSED_INDEX, 0, PATH(3));
+    SET_REFUSED(10, 6, 65536, LEPUGASO_REFUSED_WORDS, 0, WHOLE);
+}
+
 /* Lengths above 32 bits are not cut. Of these bytes and words only the first page can be touched. */
 static void long_regions(const uint8_t *file, size_t length) {
     const uint64_t limit = 4294967295u;
@@ -356,6 +514,23 @@ static void long_regions(const uint8_t *file, size_t length) {
     EXPECT(lepugaso_write(file, length, NO_ENTRY, many, 1, bytes, limit + 1), LEPUGASO_REFUSED_ENTRY, 0, 0);
     EXPECT(lepugaso_write(file, length, 5, many, 1, bytes, limit + 1), LEPUGASO_REFUSED_LONG_BUFFER, 0, 0);
     EXPECT(lepugaso_write(file, length, 0, NULL, 0, bytes, limit + 1), LEPUGASO_REFUSED_LONG_BUFFER, 0, 0);
+
+    const uint8_t *part;
+    size_t part_len;
+    EXPECT(lepugaso_view(file, length, 17, PATH(0x0FFFFFFE, 3), bytes, limit, &part, &part_len), 0, 0, limit - 19);
+    HOLDS(part == bytes + limit - 19 && part_len == 4);
+    EXPECT(lepugaso_view(file, length, 17, WHOLE, bytes, limit, &part, &part_len), 0, 0, 0);
+    HOLDS(part == bytes && part_len == limit - 15);
+    EXPECT(lepugaso_view(file, length, 17, PATH(0x0FFFFFFF), bytes, limit, &part, &part_len), LEPUGASO_REFUSED_INDEX, 0, 0);
+    EXPECT(lepugaso_view(file, length, 2, WHOLE, bytes, limit + 1, &part, &part_len), LEPUGASO_REFUSED_LONG_BUFFER, 0, 0);
+    EXPECT(lepugaso_view(file, length, NO_ENTRY, WHOLE, bytes, limit + 1, &part, &part_len), LEPUGASO_REFUSED_ENTRY, 0, 0);
+    EXPECT(lepugaso_view(file, length, 5, WHOLE, bytes, limit + 1, &part, &part_len), LEPUGASO_REFUSED_LONG_BUFFER, 0, 0);
+    HOLDS(part == bytes && part_len == 0);
+    EXPECT(lepugaso_set(file, length, 17, PATH(255, 3), 9, bytes, limit), 0, 0, PAGE - 4);
+    HOLDS(bytes[PAGE - 4] == 9);
+    EXPECT(lepugaso_set(file, length, 2, WHOLE, 3, bytes, limit + 1), LEPUGASO_REFUSED_LONG_BUFFER, 0, 0);
+    EXPECT(lepugaso_set(file, length, NO_ENTRY, WHOLE, 3, bytes, limit + 1), LEPUGASO_REFUSED_ENTRY, 0, 0);
+    EXPECT(lepugaso_set(file, length, 0, PATH(0), 3, bytes, limit + 1), LEPUGASO_REFUSED_LONG_BUFFER, 0, 0);
     HOLDS(bytes[0] == 2 && many[0] == 2 && many[1] == 0);
     if (munmap(bytes, limit + 1) || munmap(words, room)) exit(2);
 }
@@ -369,6 +544,10 @@ int main(void) {
     stored_values();
     write_refusals();
     read_refusals();
+    viewed_parts();
+    view_refusals();
+    set_scalars();
+    set_refusals();
     long_regions(lent(stored, sizeof stored), sizeof stored);
     return failures != 0;
 }

@@ -37,10 +37,12 @@ fn named(declaration: &str) -> Named {
 /// `const uint8_t *name`, as C has it.
 fn named_in_c(declaration: &str) -> Named {
     let (ty, name) = declaration.rsplit_once(' ').unwrap();
-    let (pointer, ty) = match (name.starts_with('*'), ty.strip_prefix("const ")) {
-        (true, Some(ty)) => ("*const ", ty),
-        (true, None) => ("*mut ", ty),
-        (false, _) => ("", ty),
+    let stars = name.chars().take_while(|c| *c == '*').count();
+    let (pointer, ty) = match (stars, ty.strip_prefix("const ")) {
+        (1, Some(ty)) => ("*const ", ty),
+        (1, None) => ("*mut ", ty),
+        (2, Some(ty)) => ("*mut *const ", ty),
+        _ => ("", ty),
     };
     let ty = match ty {
         "uint8_t" => "u8",
@@ -53,19 +55,19 @@ fn named_in_c(declaration: &str) -> Named {
     (name.trim_start_matches('*').to_string(), format!("{}{}", pointer, ty))
 }
 
-/// A parameter of Rattle as it crosses: a slice as a pointer and a count, an array lent as a pointer, a number as it is.
+/// A parameter of Rattle as it crosses: a slice as a pointer and a count, an array or a number lent as a pointer, a number as it is.
 fn crossing((name, ty): Named) -> Vec<Named> {
     let (pointer, lent) = match (ty.strip_prefix("&mut "), ty.strip_prefix('&')) {
         (Some(lent), _) => ("*mut", lent),
         (None, Some(lent)) => ("*const", lent),
         (None, None) => return vec![(name, ty)],
     };
-    match lent.trim_start_matches('[').trim_end_matches(']') {
-        array if array.contains(';') => vec![(name, format!("{} {}", pointer, lent))],
-        element => vec![
+    match lent.strip_prefix('[').and_then(|list| list.strip_suffix(']')) {
+        Some(element) if !element.contains(';') => vec![
             (name.clone(), format!("{} {}", pointer, element)),
             (name + "_len", "usize".to_string()),
         ],
+        _ => vec![(name, format!("{} {}", pointer, lent))],
     }
 }
 

@@ -24,6 +24,12 @@ static void bad_file(const uint8_t *at, size_t length) {
     HOLDS(buf[0] == 6 && buf[1] == 7 && buf[2] == 8 && buf[3] == 9);
     REFUSED(lepugaso_read(at, length, 0, bytes, sizeof bytes, &word, 1));
     HOLDS(word == 5);
+    const uint8_t *part = NULL;
+    size_t part_len = 5;
+    REFUSED(lepugaso_view(at, length, 0, NULL, 0, bytes, sizeof bytes, &part, &part_len));
+    HOLDS(part == NULL && part_len == 5);
+    REFUSED(lepugaso_set(at, length, 0, NULL, 0, 1, buf, sizeof buf));
+    HOLDS(buf[0] == 6 && buf[1] == 7 && buf[2] == 8 && buf[3] == 9);
 }
 
 static void files(void) {
@@ -37,6 +43,8 @@ static void files(void) {
     uint32_t list[] = {0}, word;
     lepugaso_layout out;
     uint8_t buf[] = {6, 7, 8, 9};
+    const uint8_t *part;
+    size_t part_len;
     EXPECT(lepugaso_check(NULL, 0), LEPUGASO_REFUSED_SHORT_FILE, 0, 0);
     EXPECT(lepugaso_size(NULL, 0, 0), LEPUGASO_REFUSED_SHORT_FILE, 0, 0);
     EXPECT(lepugaso_align(NULL, 0, 0), LEPUGASO_REFUSED_SHORT_FILE, 0, 0);
@@ -46,6 +54,8 @@ static void files(void) {
     EXPECT(lepugaso_common(NULL, 0, list, 1), LEPUGASO_REFUSED_SHORT_FILE, 0, 0);
     EXPECT(lepugaso_write(NULL, 0, 0, list, 1, buf, sizeof buf), LEPUGASO_REFUSED_SHORT_FILE, 0, 0);
     EXPECT(lepugaso_read(NULL, 0, 0, buf, sizeof buf, &word, 1), LEPUGASO_REFUSED_SHORT_FILE, 0, 0);
+    EXPECT(lepugaso_view(NULL, 0, 0, NULL, 0, buf, sizeof buf, &part, &part_len), LEPUGASO_REFUSED_SHORT_FILE, 0, 0);
+    EXPECT(lepugaso_set(NULL, 0, 0, NULL, 0, 1, buf, sizeof buf), LEPUGASO_REFUSED_SHORT_FILE, 0, 0);
     EXPECT(lepugaso_check(last, 0), LEPUGASO_REFUSED_SHORT_FILE, 0, 0);
 }
 
@@ -103,25 +113,77 @@ static void overlaps(void) {
     }
 }
 
-/* Words that cannot be, to both calls that take some. */
+/* Words that cannot be, to both calls that take some; and as a path. */
 static void bad_words(uint32_t *at, size_t count) {
     uint8_t buf[] = {6, 7, 8, 9};
+    const uint8_t *part = NULL;
+    size_t part_len = 5;
     REFUSED(lepugaso_write(file, sizeof file, 0, at, count, buf, sizeof buf));
     HOLDS(buf[0] == 6 && buf[1] == 7 && buf[2] == 8 && buf[3] == 9);
     REFUSED(lepugaso_read(file, sizeof file, 0, buf, sizeof buf, at, count));
     /* Before any number of document 01. */
     REFUSED(lepugaso_write(NULL, 0, 9, at, count, NULL, 0));
     REFUSED(lepugaso_read(NULL, 0, 9, NULL, 0, at, count));
+    REFUSED(lepugaso_view(file, sizeof file, 0, at, count, buf, sizeof buf, &part, &part_len));
+    REFUSED(lepugaso_view(NULL, 0, 9, at, count, NULL, 0, &part, &part_len));
+    HOLDS(part == NULL && part_len == 5);
+    REFUSED(lepugaso_set(file, sizeof file, 0, at, count, 1, buf, sizeof buf));
+    REFUSED(lepugaso_set(NULL, 0, 9, at, count, 1, NULL, 0));
+    HOLDS(buf[0] == 6 && buf[1] == 7 && buf[2] == 8 && buf[3] == 9);
 }
 
 /* A buffer that cannot be. */
 static void bad_buffer(uint8_t *at, size_t length) {
     uint32_t word = 5;
+    const uint8_t *part = NULL;
+    size_t part_len = 5;
     REFUSED(lepugaso_write(file, sizeof file, 0, &word, 1, at, length));
     REFUSED(lepugaso_read(file, sizeof file, 0, at, length, &word, 1));
     REFUSED(lepugaso_write(NULL, 0, 9, NULL, 0, at, length));
     REFUSED(lepugaso_read(NULL, 0, 9, at, length, NULL, 0));
     HOLDS(word == 5);
+    REFUSED(lepugaso_view(file, sizeof file, 0, NULL, 0, at, length, &part, &part_len));
+    REFUSED(lepugaso_view(NULL, 0, 9, NULL, 0, at, length, &part, &part_len));
+    HOLDS(part == NULL && part_len == 5);
+    REFUSED(lepugaso_set(file, sizeof file, 0, NULL, 0, 1, at, length));
+    REFUSED(lepugaso_set(NULL, 0, 9, NULL, 0, 1, at, length));
+}
+
+/* Where a view's part goes: both places are tested, and neither is touched if one of them cannot be. */
+static void parts(void) {
+    uint8_t buf[] = {6, 7, 8, 9};
+    struct {
+        const uint8_t *part;
+        size_t part_len;
+    } out[2] = {{NULL, 5}, {NULL, 5}};
+    const uint8_t **odd_part = (const uint8_t **)(void *)((uint8_t *)out + 4);
+    size_t *odd_len = (size_t *)(void *)((uint8_t *)out + 12);
+    REFUSED(lepugaso_view(file, sizeof file, 0, NULL, 0, buf, sizeof buf, NULL, &out->part_len));
+    REFUSED(lepugaso_view(file, sizeof file, 0, NULL, 0, buf, sizeof buf, &out->part, NULL));
+    REFUSED(lepugaso_view(file, sizeof file, 0, NULL, 0, buf, sizeof buf, odd_part, &out[1].part_len));
+    REFUSED(lepugaso_view(file, sizeof file, 0, NULL, 0, buf, sizeof buf, &out->part, odd_len));
+    REFUSED(lepugaso_view(file, sizeof file, 0, NULL, 0, buf, sizeof buf, (const uint8_t **)(UINTPTR_MAX - 7), &out->part_len));
+    REFUSED(lepugaso_view(file, sizeof file, 0, NULL, 0, buf, sizeof buf, &out->part, (size_t *)(UINTPTR_MAX - 7)));
+    /* Both in one place. */
+    REFUSED(lepugaso_view(file, sizeof file, 0, NULL, 0, buf, sizeof buf, (const uint8_t **)(void *)&out->part_len, &out->part_len));
+    /* Before any number of document 01. */
+    REFUSED(lepugaso_view(NULL, 0, 9, NULL, 0, NULL, 0, NULL, NULL));
+    HOLDS(out->part == NULL && out->part_len == 5);
+
+    EXPECT(lepugaso_view(file, sizeof file, 0, NULL, 0, buf, sizeof buf, &out->part, &out->part_len), 0, 0, 0);
+    HOLDS(out->part == buf && out->part_len == 4);
+    /* Refused, the empty part at the start of the buffer, wherever that is and whatever is there; of a null buffer null. */
+    EXPECT(lepugaso_view(file, sizeof file, 0, NULL, 0, buf + 1, 0, &out->part, &out->part_len), LEPUGASO_REFUSED_SHORT_BUFFER, 0, 0);
+    HOLDS(out->part == buf + 1 && out->part_len == 0);
+    out->part_len = 5;
+    EXPECT(lepugaso_view(file, sizeof file, 0, NULL, 0, NULL, 0, &out->part, &out->part_len), LEPUGASO_REFUSED_SHORT_BUFFER, 0, 0);
+    HOLDS(out->part == NULL && out->part_len == 0);
+    EXPECT(lepugaso_view(NULL, 0, 0, NULL, 0, (uint8_t *)UINTPTR_MAX, 0, &out->part, &out->part_len), LEPUGASO_REFUSED_SHORT_FILE, 0, 0);
+    HOLDS(out->part == (uint8_t *)UINTPTR_MAX && out->part_len == 0);
+    /* What is empty shares no byte with the place that it lies in. */
+    EXPECT(lepugaso_view(file, sizeof file, 0, NULL, 0, (uint8_t *)out + 3, 0, &out->part, &out->part_len), LEPUGASO_REFUSED_SHORT_BUFFER,
+           0, 0);
+    HOLDS(out->part == (uint8_t *)out + 3 && out->part_len == 0);
 }
 
 static void words_and_buffers(void) {
@@ -172,6 +234,8 @@ enum { MEMORY = 160, FILE_AT = 20, READ_AT = 88, SPARE = 1 };
 union memory {
     uint8_t bytes[MEMORY];
     uint32_t words[MEMORY / 4];
+    const uint8_t *parts[MEMORY / sizeof(uint8_t *)];
+    size_t lengths[MEMORY / sizeof(size_t)];
 };
 
 static int shares(size_t a, size_t a_len, size_t b, size_t b_len) { return a < b + b_len && b < a + a_len; }
@@ -208,6 +272,37 @@ static void writable_overlaps(void) {
     }
 }
 
+/* The same of a set, whose path of one step is read, and of each place for a view's part: with a path and a buffer behind the file. */
+static void path_overlaps(void) {
+    enum { EIGHT = 8, BUF_AT = 108, OUT = 8 };
+    for (size_t at = 0; at + EIGHT + 4 <= MEMORY; at++) {
+        union memory m = filled_memory(), expected;
+        m.words[READ_AT / 4] = 1;
+        expected = m;
+        int shared = shares(at, EIGHT + SPARE, FILE_AT, sizeof pair) || shares(at, EIGHT + SPARE, READ_AT, 4);
+        if (!shared) memcpy(expected.bytes + at + 4, "\1\2\3\4", 4);
+        EXPECT(lepugaso_set(m.bytes + FILE_AT, sizeof pair, 1, &m.words[READ_AT / 4], 1, 0x04030201, m.bytes + at, EIGHT + SPARE),
+               shared ? LEPUGASO_BAD_POINTER : 0, 0, shared ? 0 : 4);
+        HOLDS(memcmp(&m, &expected, sizeof m) == 0);
+    }
+    for (size_t at = 0; at + OUT <= MEMORY; at += OUT) {
+        for (int which = 0; which < 2; which++) {
+            union memory m = filled_memory(), expected;
+            m.words[READ_AT / 4] = 1;
+            expected = m;
+            const uint8_t *part = NULL, *expected_part = m.bytes + BUF_AT + 4;
+            size_t part_len = 5, expected_len = 4;
+            int shared = shares(at, OUT, FILE_AT, sizeof pair) || shares(at, OUT, READ_AT, 4) || shares(at, OUT, BUF_AT, EIGHT + SPARE);
+            if (!shared) memcpy(expected.bytes + at, which ? (void *)&expected_len : (void *)&expected_part, OUT);
+            EXPECT(lepugaso_view(m.bytes + FILE_AT, sizeof pair, 1, &m.words[READ_AT / 4], 1, m.bytes + BUF_AT, EIGHT + SPARE,
+                                 which ? &part : &m.parts[at / OUT], which ? &m.lengths[at / OUT] : &part_len),
+                   shared ? LEPUGASO_BAD_POINTER : 0, 0, shared ? 0 : 4);
+            HOLDS(memcmp(&m, &expected, sizeof m) == 0);
+            HOLDS(which ? part == (shared ? NULL : expected_part) : part_len == (shared ? 5 : expected_len));
+        }
+    }
+}
+
 /* What is only read may overlap: words, and a buffer, that lie within the file. */
 static void read_only_overlaps(void) {
     union memory m = filled_memory();
@@ -219,6 +314,14 @@ static void read_only_overlaps(void) {
     HOLDS(memcmp(words, pair + 13, sizeof words) == 0);
     EXPECT(lepugaso_read(m.bytes + FILE_AT, sizeof pair, 1, m.bytes + FILE_AT, sizeof pair, words, 2), 0, 0, 2);
     HOLDS(memcmp(words, pair, sizeof words) == 0);
+    /* A path too, and a view of the file itself. */
+    const uint8_t *part;
+    size_t part_len;
+    EXPECT(lepugaso_view(m.bytes + FILE_AT, sizeof pair, 1, &m.words[FILE_AT / 4 + 6], 1, m.bytes + FILE_AT, sizeof pair, &part, &part_len),
+           LEPUGASO_REFUSED_INDEX, 0, 0);
+    EXPECT(lepugaso_view(m.bytes + FILE_AT, sizeof pair, 1, &m.words[FILE_AT / 4 + 1], 1, m.bytes + FILE_AT, sizeof pair, &part, &part_len),
+           0, 0, 0);
+    HOLDS(part == m.bytes + FILE_AT && part_len == 4);
 }
 
 int main(void) {
@@ -227,7 +330,9 @@ int main(void) {
     results();
     overlaps();
     words_and_buffers();
+    parts();
     writable_overlaps();
+    path_overlaps();
     read_only_overlaps();
     return failures != 0;
 }

@@ -1,4 +1,4 @@
-// Answers questions about layout files: reads them on standard input and writes a line for each (oracle/README.md, version 2).
+// Answers questions about layout files: reads them on standard input and writes a line for each (oracle/README.md, version 3).
 use file::refusal::Refusal;
 use file::refusal::number;
 use file::refusal::place;
@@ -12,7 +12,10 @@ use lepugaso::layout;
 use lepugaso::min_size;
 use lepugaso::rank;
 use lepugaso::read;
+use lepugaso::set;
 use lepugaso::size;
+use lepugaso::view;
+use lepugaso::view_at;
 use lepugaso::write;
 use libc::STDIN_FILENO;
 use libc::STDOUT_FILENO;
@@ -22,6 +25,7 @@ use lines::next;
 use lines::numbers;
 use lines::same;
 use lines::spell;
+use walker::walk::Walked;
 ghost use mathlib.Core.Path.{_≡_};
 ghost use Prim.Native.Nat.{_≤_};
 ghost use lib.ListN.{length};
@@ -85,7 +89,7 @@ fn say_bytes(b: &[u8]) {
     if b.len() == 0 {
         return;
     }
-    let mut text = io::large_buffer();
+    let mut text = [0u8; 8192];
     let p = spell(b, &mut text);
     let n = p.count;
     say(b" ");
@@ -120,6 +124,35 @@ fn answer_read(file: &[u8], held: &[u8], ns: &mut [u32])
     let entry = ns[0];
     say_plain(read(file, entry, held, &mut ns[1..]));
     say_words(&ns[1..]);
+    say(b"\n");
+}
+
+// Where a path leads: its offset and how many bytes it has, or a refusal.
+fn say_walked(w: Walked) {
+    match w {
+        Walked::To(t) => {
+            io::print_decimal(STDOUT_FILENO, t.offset as u64);
+            say(b" ");
+            io::print_decimal(STDOUT_FILENO, t.size as u64);
+        }
+        Walked::Refused(r) => say_refused(r),
+    }
+}
+
+// Says where a path leads, and the bytes that a view hands back.
+fn answer_view(file: &[u8], entry: u32, path: &[u32], held: &[u8]) {
+    say_walked(view_at(file, entry, path, held));
+    say_bytes(view(file, entry, path, held));
+    say(b"\n");
+}
+
+// Sets a scalar in a copy of the buffer, and says what the copy holds then.
+fn answer_set(file: &[u8], entry: u32, word: u32, path: &[u32], held: &[u8]) {
+    let mut buffer = io::buffer();
+    let p = copy(held, &mut buffer);
+    let n = p.count;
+    say_plain(set(file, entry, path, word, &mut buffer[..n]));
+    say_bytes(&buffer[..n]);
     say(b"\n");
 }
 
@@ -187,6 +220,14 @@ fn answer_line(file: &[u8], held: &[u8], line: &[u8], word: usize)
         if same(&line[..word], b"read") {
             return answer_read(file, held, &mut ns[..n]);
         }
+        if same(&line[..word], b"view") {
+            return answer_view(file, ns[0], &ns[1..n], held);
+        }
+    }
+    if 1 < n {
+        if same(&line[..word], b"set") {
+            return answer_set(file, ns[0], ns[1], &ns[2..n], held);
+        }
     }
     answer(file, &line[..word], &ns[..n]);
 }
@@ -229,9 +270,9 @@ fn main() {
     let n = io::read_full(STDIN_FILENO, &mut input);
     let text = &input[..n];
     let first = next(text, 0, 10);
-    if !same(&text[..first], b"questions 2") {
-        return say(b"not questions 2\n");
+    if !same(&text[..first], b"questions 3") {
+        return say(b"not questions 3\n");
     }
-    say(b"answers 2\n");
+    say(b"answers 3\n");
     answer_all(text, first + 1, &mut file, &mut buffer);
 }

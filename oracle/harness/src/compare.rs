@@ -12,9 +12,10 @@ use crate::types;
 /// What the answering program reads at most.
 const ROOM: usize = 1_048_576;
 
-const PLAN: Plan = Plan { small: 3, edges: 1, long: 7, random: 60_000, limits: 400, large: 120, damaged: 40_000 };
+const PLAN: Plan =
+    Plan { small: 3, edges: 1, long: 7, nested: 3000, random: 60_000, limits: 400, large: 120, damaged: 40_000 };
 
-const RECORDED: Plan = Plan { small: 2, edges: 4, long: 0, random: 60, limits: 20, large: 0, damaged: 300 };
+const RECORDED: Plan = Plan { small: 2, edges: 4, long: 0, nested: 40, random: 60, limits: 20, large: 0, damaged: 300 };
 
 fn read(path: &str) -> String {
     fs::read_to_string(path).unwrap_or_else(|e| panic!("{path}: {e}"))
@@ -188,7 +189,7 @@ pub fn record(document: &str, folder: &str) -> bool {
         text += due.row.map_or(said, |_| &due.says);
         text.push('\n');
     }
-    assert!(questions.len() <= ROOM);
+    assert!(questions.len() <= ROOM, "{} bytes of questions", questions.len());
     write(&format!("{folder}/stdin"), &questions);
     write(&format!("{folder}/stdout"), &text);
     true

@@ -1,7 +1,7 @@
 //! The questions: all small tables over a menu, random tables, tables at the limits, damaged copies; and on each of them what can be
 //! asked, buffers and words on each side of their edges.
 use crate::file::{Entry, Member, Table};
-use crate::model::{self, Good, Laid};
+use crate::model::{self, Good, Laid, Stand};
 use crate::question::{Block, Question};
 use crate::rows;
 
@@ -192,13 +192,99 @@ fn edges(r: &mut Random, good: &Good, e: usize, n: u64) -> Vec<Question> {
     qs
 }
 
+const MEMBER: u32 = 1 << 31;
+
+/// A good step from where a path stands, if there is any.
+fn step(r: &mut Random, good: &Good, stand: Stand, n: u64) -> Option<u32> {
+    let one_of = |r: &mut Random, count: u64| {
+        let any = r.below(count);
+        r.of(&[0, count - 1, any]) as u32
+    };
+    match (good.member_count(stand), good.parts(stand, n)) {
+        (Some(count), _) => Some(MEMBER | one_of(r, count)),
+        (_, Some(count)) if count > 0 => Some(one_of(r, count.min(1 << 31))),
+        _ => None,
+    }
+}
+
+/// A good path of at most `most` steps, as long as there is one to take; mostly to a scalar.
+fn good_path(r: &mut Random, good: &Good, e: usize, n: u64, most: u64) -> Vec<u32> {
+    let mut path = Vec::new();
+    while (path.len() as u64) < most && good.laid[e].align.is_some() {
+        let stand = good.walk(e, n, &path).expect("a good path").stand;
+        match step(r, good, stand, n) {
+            Some(s) => path.push(s),
+            None => break,
+        }
+    }
+    path
+}
+
+/// A step that is bad, or may be: of the right sort with a number on each side of the count, or of any sort.
+fn bad_step(r: &mut Random, good: &Good, stand: Stand, n: u64) -> u32 {
+    let (members, parts) = (good.member_count(stand), good.parts(stand, n));
+    let count = members.or(parts).unwrap_or(0).min(1 << 31) as u32;
+    let right = if members.is_some() { MEMBER } else { 0 };
+    let flag = if r.one_in(2) { right } else { r.of(&[0, MEMBER]) };
+    let after = count.wrapping_add(r.below(300) as u32);
+    let number = r.of(&[0, count.wrapping_sub(1), count, count, count.wrapping_add(1), after, 65_536, MEMBER - 1]);
+    flag | number & (MEMBER - 1)
+}
+
+/// A path that is good, or has a step that may be bad, at its end or before others, good or not; now and then a long one.
+fn any_path(r: &mut Random, good: &Good, e: usize, n: u64) -> Vec<u32> {
+    let most = r.of(&[0, 1, 2, 3, 300, 300]);
+    let mut path = good_path(r, good, e, n, most);
+    if r.one_in(2) {
+        let at = r.below(path.len() as u64 + 1) as usize;
+        let stand = good.walk(e, n, &path[..at]).expect("a good path").stand;
+        let step = bad_step(r, good, stand, n);
+        if at == path.len() || r.one_in(3) { path.insert(at, step) } else { path[at] = step }
+    }
+    if r.one_in(8) {
+        let more = r.of(&[1, 2, 9, 300]);
+        path.extend((0..more).map(|_| r.of(&[0, 0, 1, MEMBER, MEMBER | 1, u32::MAX])));
+    }
+    path
+}
+
+/// Views and sets of entry `e` with `n` elements: the whole, scalars, parts, each sort of bad step at any place, each edge of the bytes.
+fn path_edges(r: &mut Random, good: &Good, e: usize, n: u64) -> Vec<Question> {
+    let (extent, entry) = (good.extent(e, n), e as u32);
+    if extent > MOST_BYTES - 12 || !good.has_layout(e) {
+        let path = good_path(r, good, e, n, 2);
+        return vec![Question::View(entry, path.clone(), bytes(r, 9)), Question::Set(entry, 1, path, bytes(r, 9))];
+    }
+    let more = 1 + r.below(9);
+    let reached = if good.laid[e].open { rows::start(good, e) } else { rows::reach(good, e) };
+    let room = bytes(r, extent + more);
+    let mut qs = Vec::new();
+    let mut ask = |r: &mut Random, path: Vec<u32>, length: u64| {
+        let words = any_words(r, 2);
+        let word = r.of(&[words[0], words[1] % 65_536, 65_535, 65_536, u32::MAX]);
+        let buffer = &room[..length as usize];
+        qs.push(Question::View(entry, path.clone(), buffer.to_vec()));
+        qs.push(Question::Set(entry, word, path, buffer.to_vec()));
+    };
+    ask(r, vec![], extent);
+    for length in [extent, extent.saturating_sub(1), reached, extent + more] {
+        let path = good_path(r, good, e, n, 300);
+        ask(r, path, length);
+    }
+    for _ in 0..6 {
+        let path = any_path(r, good, e, n);
+        ask(r, path, extent + more);
+    }
+    qs
+}
+
 /// The edges of an entry; of an open one with one element and with some.
 fn all_edges(r: &mut Random, good: &Good, e: usize) -> Vec<Question> {
     if good.laid[e].open {
         let some = 2 + r.below(6);
-        [1, some].into_iter().flat_map(|n| edges(r, good, e, n)).collect()
+        [1, some].into_iter().flat_map(|n| [edges(r, good, e, n), path_edges(r, good, e, n)].concat()).collect()
     } else {
-        edges(r, good, e, 0)
+        [edges(r, good, e, 0), path_edges(r, good, e, 0)].concat()
     }
 }
 
@@ -232,6 +318,30 @@ fn faulty(r: &mut Random, good: Option<&Good>, entry: u32) -> Question {
     if r.one_in(2) { Question::Write(entry, words, buffer) } else { Question::Read(entry, words, buffer) }
 }
 
+/// A view or a set at a path that may be bad, of a buffer that may be short; of a small value mostly.
+fn faulty_path(r: &mut Random, good: Option<&Good>, entry: u32) -> Question {
+    let (mut path, mut length) = ((0..r.below(3)).map(|_| r.of(&[0, 1, MEMBER])).collect(), r.below(20));
+    if let Some(good) = good.filter(|g| (entry as usize) < g.laid.len()) {
+        let e = entry as usize;
+        let n = if good.laid[e].open { r.of(&[0, 1, 1, 2, 3, 7]) } else { 0 };
+        let most = if r.one_in(40) { MOST_BYTES } else { FEW_BYTES };
+        if good.extent(e, n) <= most {
+            length = good.extent(e, n);
+        }
+        path = any_path(r, good, e, n);
+    }
+    if r.one_in(6) {
+        let (less, more) = (r.below(length + 1), (length + r.below(9)).min(MOST_BYTES));
+        length = r.of(&[length.saturating_sub(1), less, more]);
+    }
+    let (words, buffer) = (any_words(r, 2), bytes(r, length));
+    if r.one_in(2) {
+        return Question::View(entry, path, buffer);
+    }
+    let word = r.of(&[words[0], words[1] % 65_536, words[1] % 65_536, 65_536]);
+    Question::Set(entry, word, path, buffer)
+}
+
 /// `n` questions of any sort; now and then an entry that is not there.
 pub fn some(r: &mut Random, t: &Table, n: usize) -> Vec<Question> {
     let types = t.entries.len().max(1) as u64;
@@ -243,7 +353,7 @@ pub fn some(r: &mut Random, t: &Table, n: usize) -> Vec<Question> {
             if r.one_in(40) { past } else { r.below(types) as u32 }
         };
         let top = (types - 1) as u32;
-        qs.push(match r.below(12) {
+        qs.push(match r.below(16) {
             0 => Question::Check,
             1 => Question::Size(e(r)),
             2 => Question::Align(e(r)),
@@ -256,9 +366,14 @@ pub fn some(r: &mut Random, t: &Table, n: usize) -> Vec<Question> {
                 Question::Common((0..many).map(|_| e(r)).collect())
             }
             9 => faulty(r, good.as_ref(), top),
-            _ => {
+            10 | 11 => {
                 let entry = e(r);
                 faulty(r, good.as_ref(), entry)
+            }
+            12 | 13 => faulty_path(r, good.as_ref(), top),
+            _ => {
+                let entry = e(r);
+                faulty_path(r, good.as_ref(), entry)
             }
         });
     }
@@ -381,6 +496,50 @@ fn worked() -> Vec<Table> {
         ]),
         table(&[scalar(6), over(7, 0, 4, 0, 0), over(8, 2, 2, 0, 0), over(9, 0, 0, 1, 2), over(9, 0, 0, 2, 2)]),
     ]
+}
+
+/// An accepted table whose last entry, mostly a small value, has paths of many steps: each entry within the next. Now and then as deep as
+/// a table can be.
+fn nested(r: &mut Random) -> Table {
+    let bottom = 1 + r.below(4) as u8;
+    let mut t = with(&Table::default(), &scalar(bottom));
+    let depth = if r.one_in(32) { 256 } else { 3 + r.below(20) as usize };
+    let most = if r.one_in(32) { MOST_BYTES - 500 } else { FEW_BYTES };
+    while t.entries.len() < depth {
+        let good = model::check(&t.write(&[])).ok().expect("an accepted table");
+        let (k, size) = (t.entries.len() as u16, good.laid[t.entries.len() - 1].size.unwrap_or(0));
+        let choice = match r.below(4) {
+            _ if k == 1 && bottom < 3 && r.one_in(3) => (entry(11, 0, 0, 0, 0), vec![]),
+            _ if k == 1 && r.one_in(2) => (entry(7, 0, 2 + r.below(3) as u8, 0, 0), vec![]),
+            _ if k == 1 && bottom >= 3 => (entry(8, 2 + r.below(3) as u8, 2 + r.below(3) as u8, 0, 0), vec![]),
+            0 => (entry(9, 0, 0, k - 1, if size < most / 4 { 1 + r.below(4) as u32 } else { 1 }), vec![]),
+            _ => {
+                let mut ms = vec![random_member(r, &good.laid, k - 1)];
+                for _ in 0..r.below(3) {
+                    let small = r.below(k.min(3) as u64) as u16;
+                    ms.insert(r.below(ms.len() as u64 + 1) as usize, random_member(r, &good.laid, small));
+                }
+                structure(&t, ms)
+            }
+        };
+        let grown = with(&t, &choice);
+        match model::lay(&grown, &good.laid, k as usize) {
+            Ok(l) if l.size.is_some_and(|s| s <= most) => t = grown,
+            // what does not fit is tried again, or left where nothing may fit any more
+            _ if size > most / 2 => break,
+            _ => {}
+        }
+    }
+    if r.one_in(4) && t.entries.len() < 255 {
+        let k = t.entries.len() as u16;
+        t = with(&t, &(entry(10, 0, 0, k - 1, 0), vec![]));
+        let before = r.below(k as u64) as u16;
+        let grown = with(&t, &structure(&t, vec![member(before, None, None), member(k, None, None)]));
+        if model::check(&grown.write(&[])).is_ok() {
+            t = grown;
+        }
+    }
+    t
 }
 
 /// Values of many words.
@@ -551,6 +710,8 @@ pub struct Plan {
     pub edges: u64,
     /// tables of values of many words
     pub long: usize,
+    /// tables of values with long paths
+    pub nested: usize,
     pub random: usize,
     /// questions on each table at the limits
     pub limits: usize,
@@ -571,12 +732,21 @@ pub fn blocks(seed: u64, plan: &Plan, mut each: impl FnMut(Block)) {
     }
     for t in long().into_iter().take(plan.long) {
         let good = model::check(&t.write(&[])).ok().expect("an accepted table");
-        let questions = edges(&mut r, &good, t.entries.len() - 1, 0);
+        let questions = all_edges(&mut r, &good, t.entries.len() - 1);
+        each(Block { file: t.write(&[]), questions });
+    }
+    for _ in 0..plan.nested {
+        let t = nested(&mut r);
+        let good = model::check(&t.write(&[])).ok().expect("an accepted table");
+        let e = t.entries.len() - 1;
+        let n = if good.laid[e].open { 1 + r.below(3) } else { 0 };
+        let questions = path_edges(&mut r, &good, e, n);
         each(Block { file: t.write(&[]), questions });
     }
     for file in trailers() {
         let mut questions = vec![Question::Check, Question::Size(0)];
         questions.extend([Question::Write(0, vec![1], vec![2; 5]), Question::Read(0, vec![1, 2], vec![3; 5])]);
+        questions.extend([Question::View(0, vec![], vec![4; 5]), Question::Set(0, 1, vec![], vec![5; 5])]);
         each(Block { file, questions });
     }
     for t in small(plan.small) {
@@ -590,7 +760,7 @@ pub fn blocks(seed: u64, plan: &Plan, mut each: impl FnMut(Block)) {
     for i in 0..plan.random {
         let types = 1 + r.below(if i % 16 == 0 { 40 } else { 9 }) as usize;
         let t = random(&mut r, types, 60);
-        each(Block { file: file(&mut r, &t), questions: some(&mut r, &t, 16) });
+        each(Block { file: file(&mut r, &t), questions: some(&mut r, &t, 21) });
     }
     for t in at_limits() {
         each(Block { file: t.write(&[]), questions: some(&mut r, &t, plan.limits) });

@@ -1,7 +1,7 @@
 //! Document 01's rules, written from its text: which file is refused, with what number and place, and what the calls answer. It decides
 //! where Lepugaso and the Rust may differ (the rows of docs/DIFFERENCES.md), and what Lepugaso has to say there.
 use crate::file::{Entry, Member, Table};
-use crate::question::{Answer, Question, with_buffer, with_words};
+use crate::question::{Answer, Question, with_buffer, with_part, with_words};
 use crate::rows::{self, Row};
 
 const LIMIT: u64 = 4_294_967_295;
@@ -259,9 +259,24 @@ pub struct Place {
     pub width: u64,
 }
 
+/// A type of an entry, or a column of so many rows over the entry of a scalar, which has none.
+#[derive(Clone, Copy)]
+pub enum Stand {
+    Entry(usize),
+    Column(u64, usize),
+}
+
+/// What a path leads to, at an offset, and which of all words its first one is.
+#[derive(Clone, Copy)]
+pub struct Target {
+    pub stand: Stand,
+    pub offset: u64,
+    pub word: u64,
+}
+
 impl Good {
     /// "A type has a layout if it has an alignment and is open or has a size."
-    fn has_layout(&self, e: usize) -> bool {
+    pub fn has_layout(&self, e: usize) -> bool {
         let l = &self.laid[e];
         l.align.is_some() && (l.open || l.size.is_some())
     }
@@ -315,14 +330,149 @@ impl Good {
         }
     }
 
-    /// 17, 9, 10, for a buffer of so many bytes.
-    fn stored(&self, e: usize, length: u64) -> Result<(), (u32, u64)> {
+    /// 17, 9, for a buffer of so many bytes.
+    fn laid_out(&self, e: usize, length: u64) -> Result<(), (u32, u64)> {
         match () {
             _ if length > LIMIT => Err((17, 0)),
             _ if !self.has_layout(e) => Err((9, 0)),
-            _ if self.laid[e].holds_bool => Err((10, 0)),
             _ => Ok(()),
         }
+    }
+
+    /// 17, 9, 10.
+    fn stored(&self, e: usize, length: u64) -> Result<(), (u32, u64)> {
+        self.laid_out(e, length)?;
+        if self.laid[e].holds_bool { Err((10, 0)) } else { Ok(()) }
+    }
+
+    /// How many elements a buffer has of an open type whose array begins at `start`.
+    pub fn elements_in(&self, e: usize, start: u64, length: u64) -> u64 {
+        self.laid[e].tail.map_or(0, |t| length.saturating_sub(start) / t.stride)
+    }
+
+    /// How many parts an index step has to choose from.
+    pub fn parts(&self, stand: Stand, n: u64) -> Option<u64> {
+        match stand {
+            Stand::Column(rows, _) => Some(rows),
+            Stand::Entry(e) => {
+                let x = self.table.entries[e];
+                match x.kind {
+                    7 => Some(x.rows as u64),
+                    8 => Some(x.columns as u64),
+                    9 => Some(x.count as u64),
+                    10 => Some(n),
+                    _ => None,
+                }
+            }
+        }
+    }
+
+    /// How many members a member step has to choose from.
+    pub fn member_count(&self, stand: Stand) -> Option<u64> {
+        match stand {
+            Stand::Entry(e) if self.table.entries[e].kind == 12 => Some(self.table.entries[e].count as u64),
+            _ => None,
+        }
+    }
+
+    /// The part of that index or of that member, with offset and word counted from where the step is taken.
+    fn enter(&self, stand: Stand, n: u64, member: bool, number: u64) -> Target {
+        let (x, l) = match stand {
+            Stand::Column(_, scalar) => {
+                let width = self.laid[scalar].size.unwrap_or(0);
+                return Target { stand: Stand::Entry(scalar), offset: number * width, word: number };
+            }
+            Stand::Entry(e) => (self.table.entries[e], &self.laid[e]),
+        };
+        let r = x.reference as usize;
+        if member {
+            let ms = self.table.members_of(&x).expect("members within the table");
+            let before: u64 = ms[..number as usize].iter().map(|m| self.words(m.ty as usize, n)).sum();
+            let offset = members(&self.laid, ms)[number as usize].offset;
+            return Target { stand: Stand::Entry(ms[number as usize].ty as usize), offset, word: before };
+        }
+        let (below, stride, words) = match x.kind {
+            7 => (Stand::Entry(r), self.laid[r].size, 1),
+            8 => (Stand::Column(x.rows as u64, r), l.align, x.rows as u64),
+            _ => (Stand::Entry(r), l.stride, self.words(r, n)),
+        };
+        Target { stand: below, offset: number * stride.unwrap_or(0), word: number.saturating_mul(words) }
+    }
+
+    /// The target of a path, or the first bad step: 11, 12, 13.
+    pub fn walk(&self, e: usize, n: u64, path: &[u32]) -> Result<Target, (u32, u64)> {
+        let mut t = Target { stand: Stand::Entry(e), offset: 0, word: 0 };
+        for (k, step) in path.iter().enumerate() {
+            let (member, number) = (step & (1 << 31) != 0, (step & !(1 << 31)) as u64);
+            let bad = match (member, self.member_count(t.stand), self.parts(t.stand, n)) {
+                (true, Some(count), _) if number < count => None,
+                (true, _, _) => Some(11),
+                (false, _, Some(count)) if number < count => None,
+                (false, _, Some(_)) => Some(12),
+                (false, _, None) => Some(13),
+            };
+            if let Some(refusal) = bad {
+                return Err((refusal, k as u64));
+            }
+            let inner = self.enter(t.stand, n, member, number);
+            t = Target { stand: inner.stand, offset: t.offset + inner.offset, word: t.word.saturating_add(inner.word) };
+        }
+        Ok(t)
+    }
+
+    /// "A target has its type's size, whatever size a member gives; a column has rows x scalar size. A target that is open runs to the end
+    /// of its last element."
+    pub fn span(&self, stand: Stand, n: u64) -> u64 {
+        match stand {
+            Stand::Entry(e) => self.extent(e, n),
+            Stand::Column(rows, scalar) => rows * self.laid[scalar].size.unwrap_or(0),
+        }
+    }
+
+    /// How many words a target has.
+    pub fn count(&self, stand: Stand, n: u64) -> u64 {
+        match stand {
+            Stand::Entry(e) => self.words(e, n),
+            Stand::Column(rows, _) => rows,
+        }
+    }
+
+    /// The bytes of the scalar that a target is.
+    pub fn width(&self, stand: Stand) -> Option<u64> {
+        match stand {
+            Stand::Entry(e) if matches!(self.table.entries[e].kind, 0..=6 | 11) => self.laid[e].size,
+            _ => None,
+        }
+    }
+
+    /// 15, then the first bad step.
+    fn target(&self, e: usize, path: &[u32], length: u64) -> Result<(Target, u64), (u32, u64)> {
+        let l = &self.laid[e];
+        let n = self.elements_in(e, l.tail.map_or(0, |t| t.offset), length);
+        if if l.open { n == 0 } else { length < l.size.unwrap_or(0) } {
+            return Err((15, 0));
+        }
+        Ok((self.walk(e, n, path)?, n))
+    }
+
+    /// Viewing: the offset, and the bytes themselves.
+    pub fn view(&self, e: usize, path: &[u32], buffer: &[u8]) -> Result<(u64, Vec<u8>), (u32, u64)> {
+        self.laid_out(e, buffer.len() as u64)?;
+        let (t, n) = self.target(e, path, buffer.len() as u64)?;
+        let part = &buffer[t.offset as usize..(t.offset + self.span(t.stand, n)) as usize];
+        Ok((t.offset, part.to_vec()))
+    }
+
+    /// Setting: then 14, 16.
+    pub fn set(&self, e: usize, path: &[u32], word: u32, buffer: &mut [u8]) -> Answer {
+        self.stored(e, buffer.len() as u64)?;
+        let (t, _) = self.target(e, path, buffer.len() as u64)?;
+        let width = self.width(t.stand).ok_or((14, 0))? as usize;
+        if width == 2 && word > 65_535 {
+            return Err((16, 0));
+        }
+        buffer[t.offset as usize..][..width].copy_from_slice(&word.to_le_bytes()[..width]);
+        Ok(t.offset)
     }
 
     /// Writing words: then 14, 15, 16.
@@ -349,7 +499,7 @@ impl Good {
         let length = buffer.len() as u64;
         self.stored(e, length)?;
         let tail = self.laid[e].tail;
-        let n = tail.map_or(0, |t| length.saturating_sub(start) / t.stride);
+        let n = self.elements_in(e, start, length);
         if (tail.is_some() && n == 0) || (tail.is_none() && length < needed) {
             return Err((15, 0));
         }
@@ -417,7 +567,7 @@ pub struct Due {
 /// What a call with a buffer answers where the file or the entry is refused: what was lent is as it was.
 fn unchanged(q: &Question, number: u32, place: u64) -> String {
     match q {
-        Question::Write(_, _, buffer) => with_buffer(Err((number, place)), buffer),
+        Question::Write(_, _, buffer) | Question::Set(_, _, _, buffer) => with_buffer(Err((number, place)), buffer),
         Question::Read(_, words, _) => with_words(Err((number, place)), words),
         _ => format!("refused {number} at {place}"),
     }
@@ -456,6 +606,11 @@ pub fn answer(checked: &Result<Good, Refusal>, nodes: &[u64], q: &Question) -> D
             let e = *e as usize;
             let start = laid[e].tail.map_or(0, |t| t.offset);
             with_words(good.read(e, laid[e].size.unwrap_or(0), start, buffer, &mut words), &words)
+        }
+        Question::View(e, path, buffer) => with_part(good.view(*e as usize, path, buffer)),
+        Question::Set(e, word, path, buffer) => {
+            let mut buffer = buffer.clone();
+            with_buffer(good.set(*e as usize, path, *word, &mut buffer), &buffer)
         }
     };
     let deep = |e: &u32| nodes[*e as usize] > crate::types::MOST;

@@ -1,7 +1,7 @@
-//! Questions, their lines and those of their answers (oracle/README.md, version 2).
+//! Questions, their lines and those of their answers (oracle/README.md, version 3).
 
-pub const HEAD: &str = "questions 2";
-pub const ANSWERS_HEAD: &str = "answers 2";
+pub const HEAD: &str = "questions 3";
+pub const ANSWERS_HEAD: &str = "answers 3";
 
 #[derive(Clone)]
 pub enum Question {
@@ -16,6 +16,10 @@ pub enum Question {
     Write(u32, Vec<u32>, Vec<u8>),
     /// an entry, what the words hold before, and the buffer
     Read(u32, Vec<u32>, Vec<u8>),
+    /// an entry, the steps, and the buffer
+    View(u32, Vec<u32>, Vec<u8>),
+    /// an entry, the word, the steps, and what the buffer holds before
+    Set(u32, u32, Vec<u32>, Vec<u8>),
 }
 
 /// A file and what is asked of it.
@@ -48,6 +52,8 @@ impl Question {
             Question::Common(list) => listed("common".into(), list),
             Question::Write(e, words, _) => listed(format!("write {e}"), words),
             Question::Read(e, words, _) => listed(format!("read {e}"), words),
+            Question::View(e, path, _) => listed(format!("view {e}"), path),
+            Question::Set(e, word, path, _) => listed(format!("set {e} {word}"), path),
         }
     }
 
@@ -66,6 +72,8 @@ impl Question {
             ("common", list) => Question::Common(list.to_vec()),
             ("write", [e, words @ ..]) => Question::Write(*e, words.to_vec(), buffer.to_vec()),
             ("read", [e, words @ ..]) => Question::Read(*e, words.to_vec(), buffer.to_vec()),
+            ("view", [e, path @ ..]) => Question::View(*e, path.to_vec(), buffer.to_vec()),
+            ("set", [e, word, path @ ..]) => Question::Set(*e, *word, path.to_vec(), buffer.to_vec()),
             _ => panic!("not a question: {line}"),
         }
     }
@@ -76,6 +84,7 @@ impl Question {
             Question::Check => vec![],
             Question::Size(e) | Question::Align(e) | Question::MinSize(e) | Question::Layout(e) => vec![*e],
             Question::Write(e, _, _) | Question::Read(e, _, _) => vec![*e],
+            Question::View(e, _, _) | Question::Set(e, _, _, _) => vec![*e],
             Question::Rank(a, b) => vec![*a, *b],
             Question::Common(list) => list.clone(),
         }
@@ -85,6 +94,7 @@ impl Question {
     pub fn buffer(&self) -> Option<&[u8]> {
         match self {
             Question::Write(_, _, buffer) | Question::Read(_, _, buffer) => Some(buffer),
+            Question::View(_, _, buffer) | Question::Set(_, _, _, buffer) => Some(buffer),
             _ => None,
         }
     }
@@ -143,7 +153,7 @@ fn told(answer: Answer) -> String {
     }
 }
 
-/// What is said of a write: its answer, and what the buffer holds after it.
+/// What is said of a write or of a set: its answer, and what the buffer holds after it.
 pub fn with_buffer(answer: Answer, buffer: &[u8]) -> String {
     format!("{} {}", told(answer), hex(buffer)).trim_end().into()
 }
@@ -151,4 +161,12 @@ pub fn with_buffer(answer: Answer, buffer: &[u8]) -> String {
 /// What is said of a read: its answer, and what the words hold after it.
 pub fn with_words(answer: Answer, words: &[u32]) -> String {
     listed(told(answer), words)
+}
+
+/// What is said of a view: its offset, and of its bytes how many there are and what they hold; or its refusal.
+pub fn with_part(viewed: Result<(u64, Vec<u8>), (u32, u64)>) -> String {
+    match viewed {
+        Ok((offset, part)) => format!("{offset} {} {}", part.len(), hex(&part)),
+        Err(refusal) => told(Err(refusal)),
+    }
 }

@@ -1,7 +1,7 @@
-//! The rows of docs/DIFFERENCES.md. `model` decides which of them a question falls under, and asks here what the Rust writes and reads
+//! The rows of docs/DIFFERENCES.md. `model` decides which of them a question falls under, and asks here what the Rust does with a buffer
 //! instead; the document's own examples are read here too.
-use crate::model::{Good, members};
-use crate::question::{Answer, Block, Question, parse_bytes, with_buffer, with_words};
+use crate::model::{Good, Stand, Target, members};
+use crate::question::{Answer, Block, Question, parse_bytes, with_buffer, with_part, with_words};
 use crate::types::{NOTHING, PANICS};
 
 macro_rules! rows {
@@ -48,6 +48,10 @@ rows! {
     StructEnd = "struct-end",
     LastPadding = "last-padding",
     ArrayStart = "array-start",
+    ViewBool = "view-bool",
+    ViewGaps = "view-gaps",
+    SetAtomic = "set-atomic",
+    SetGaps = "set-gaps",
 }
 
 /// The Rust writes into a vector of its own: a longer one is not asked for.
@@ -163,8 +167,128 @@ pub fn start(good: &Good, e: usize) -> u64 {
     placed.iter().rev().nth(1).and_then(|p| p.end).unwrap_or(0)
 }
 
-/// The row of a write or a read on a table that 01 accepts, of an entry that it has, and what the Rust says of it; none where that is
-/// what 01 says.
+/// What the Rust writes of a part of a value: of an entry's type as above, of a column its scalars.
+fn made_of(good: &Good, stand: Stand, n: u64, words: &[u32]) -> Vec<u8> {
+    let mut words = words.iter().copied();
+    match stand {
+        Stand::Column(rows, scalar) => {
+            let width = good.laid[scalar].size.unwrap_or(0) as usize;
+            words.take(rows as usize).flat_map(|w| w.to_le_bytes()[..width].to_vec()).collect()
+        }
+        Stand::Entry(e) => match made(good, e, n, &mut words) {
+            Made::Bytes(bytes) => bytes,
+            _ => unreachable!("what was read can be written"),
+        },
+    }
+}
+
+/// The same as 01 writes it: every struct's end is padded.
+fn padded(good: &Good, stand: Stand, n: u64, words: &[u32]) -> Vec<u8> {
+    let mut bytes = vec![0; good.span(stand, n) as usize];
+    match stand {
+        Stand::Column(..) => bytes = made_of(good, stand, n, words),
+        Stand::Entry(e) => {
+            for (p, w) in good.places(e, n, 0).iter().zip(words) {
+                bytes[p.at as usize..][..p.width as usize].copy_from_slice(&w.to_le_bytes()[..p.width as usize]);
+            }
+        }
+    }
+    bytes
+}
+
+/// A value as the Rust reads it: its words, how many elements it has if it is open, and how far before their place in 01 it read those.
+struct Held {
+    words: Vec<u32>,
+    n: u64,
+    early: u64,
+}
+
+/// What the Rust reads of an entry's type, if it reads anything; else what its `None` is told as.
+fn held(good: &Good, e: usize, buffer: &[u8]) -> Result<Held, (u32, u64)> {
+    let l = &good.laid[e];
+    let (start, length) = (start(good, e), buffer.len() as u64);
+    let n = good.elements_in(e, start, length);
+    // More words than bytes are never read.
+    let mut words = vec![0; good.words(e, n).min(length) as usize];
+    let count = good.read(e, reach(good, e), start, buffer, &mut words)?;
+    words.truncate(count as usize);
+    Ok(Held { words, n, early: l.tail.map_or(0, |t| t.offset - start) })
+}
+
+impl Held {
+    /// Whether the Rust has read all or some of a target from another place than 01's: some of its words are those of the array.
+    fn is_moved(&self, good: &Good, e: usize, t: &Target) -> bool {
+        self.early > 0 && t.word + good.count(t.stand, self.n) > good.laid[e].words
+    }
+
+    /// Where the Rust has read a target from.
+    fn offset(&self, good: &Good, e: usize, t: &Target) -> u64 {
+        if t.word < good.laid[e].words { t.offset } else { t.offset - self.early }
+    }
+}
+
+/// The row of an entry that the Rust reads where 01 does not.
+fn early(good: &Good, e: usize) -> Row {
+    if good.laid[e].open { Row::ArrayStart } else { Row::LastPadding }
+}
+
+/// The first row that holds of a view, and what the Rust says of it.
+fn viewed(good: &Good, e: usize, path: &[u32], buffer: &[u8]) -> (Row, String) {
+    let held = match held(good, e, buffer) {
+        Err((10, _)) => return (Row::ViewBool, with_part(Err((10, 0)))),
+        Err(refusal) => return (early(good, e), with_part(Err(refusal))),
+        Ok(held) => held,
+    };
+    let t = match good.walk(e, held.n, path) {
+        Err(bad) => return (early(good, e), with_part(Err(bad))),
+        Ok(t) => t,
+    };
+    let words = &held.words[t.word as usize..];
+    let bytes = made_of(good, t.stand, held.n, words);
+    let row = match () {
+        _ if good.view(e, path, buffer).is_err() || held.is_moved(good, e, &t) => early(good, e),
+        _ if bytes != padded(good, t.stand, held.n, words) => Row::StructEnd,
+        _ => Row::ViewGaps,
+    };
+    (row, with_part(Ok((held.offset(good, e, &t), bytes))))
+}
+
+/// The first row that holds of a set, and what the Rust says of it.
+fn changed(good: &Good, e: usize, path: &[u32], word: u32, buffer: &[u8]) -> (Row, String) {
+    let refused = |refusal| with_buffer(Err(refusal), buffer);
+    let mut held = match held(good, e, buffer) {
+        Err(refusal) => return (early(good, e), refused(refusal)),
+        Ok(held) => held,
+    };
+    let t = match good.walk(e, held.n, path) {
+        Err(bad) => return (early(good, e), refused(bad)),
+        Ok(t) => t,
+    };
+    let unseen = good.view(e, path, buffer).is_err();
+    match (t.stand, good.width(t.stand)) {
+        (_, None) => return (early(good, e), refused((14, 0))),
+        (Stand::Entry(s), _) if good.table.entries[s].kind == 11 => {
+            return (if unseen { early(good, e) } else { Row::SetAtomic }, refused((14, 0)));
+        }
+        (_, Some(2)) if word > 65_535 => return (Row::F16Word, NOTHING.into()),
+        _ => held.words[t.word as usize] = word,
+    }
+    let bytes = made_of(good, Stand::Entry(e), held.n, &held.words);
+    let row = match () {
+        _ if unseen || held.early > 0 => early(good, e),
+        _ if bytes != padded(good, Stand::Entry(e), held.n, &held.words) => Row::StructEnd,
+        _ => Row::SetGaps,
+    };
+    let mut after = buffer.to_vec();
+    if bytes.len() > after.len() {
+        return (row, refused((15, 0)));
+    }
+    after[..bytes.len()].copy_from_slice(&bytes);
+    (row, with_buffer(Ok(held.offset(good, e, &t)), &after))
+}
+
+/// The row of a question about a buffer on a table that 01 accepts, of an entry that it has, and what the Rust says of it; none where that
+/// is what 01 says.
 pub fn departure(good: &Good, q: &Question, says: &str) -> Option<(Row, String)> {
     let (row, said) = match q {
         Question::Write(e, words, buffer) => written(good, *e as usize, words, buffer),
@@ -174,6 +298,8 @@ pub fn departure(good: &Good, q: &Question, says: &str) -> Option<(Row, String)>
             let row = if good.laid[e].open { Row::ArrayStart } else { Row::LastPadding };
             (row, with_words(answer, &words))
         }
+        Question::View(e, path, buffer) => viewed(good, *e as usize, path, buffer),
+        Question::Set(e, word, path, buffer) => changed(good, *e as usize, path, *word, buffer),
         _ => return None,
     };
     (said != says).then_some((row, said))

@@ -3,15 +3,16 @@ use std::cell::Cell;
 use std::panic::{AssertUnwindSafe, catch_unwind};
 
 use half::f16;
+use wgsl_types::Error;
 use wgsl_types::conv::{conversion_rank, convert_all_ty};
 use wgsl_types::inst::{
-    ArrayInstance, AtomicInstance, Instance, LiteralInstance, MatInstance, StructInstance, VecInstance,
+    ArrayInstance, AtomicInstance, Instance, LiteralInstance, MatInstance, MemView, StructInstance, VecInstance,
 };
-use wgsl_types::ty::{StructMemberType, StructType, Type};
+use wgsl_types::ty::{StructMemberType, StructType, Ty, Type};
 
 use crate::file::{Entry, Table};
 use crate::model::{Good, Refusal};
-use crate::question::{Answer, Question, with_buffer, with_words};
+use crate::question::{Answer, Question, with_buffer, with_part, with_words};
 use crate::rows::VAST;
 
 /// The Rust's types are trees without sharing: a type of more nodes is not built.
@@ -252,6 +253,103 @@ fn read(ty: &Type, words: &[u32], buffer: &[u8]) -> String {
     with_words(answer, &words)
 }
 
+/// A path as the Rust has it: members by their names.
+pub fn mem_view(path: &[u32]) -> MemView {
+    path.iter().rev().fold(MemView::Whole, |rest, step| {
+        let number = step & 0x7fff_ffff;
+        if step >> 31 == 1 {
+            MemView::Member(format!("m{number}"), Box::new(rest))
+        } else {
+            MemView::Index(number as usize, Box::new(rest))
+        }
+    })
+}
+
+/// 01's number for an error of the Rust's.
+fn number(error: Error) -> u32 {
+    match error {
+        Error::Component(..) => 11,
+        Error::OutOfBounds(..) => 12,
+        Error::NotIndexable(..) => 13,
+        Error::WriteRefType(..) => 14,
+        _ => unreachable!("no view and no write gives such an error"),
+    }
+}
+
+/// The part of a value that a path leads to; else the Rust's error, and the end of the shortest path that gives one.
+fn part<'a>(value: &'a Instance, path: &[u32]) -> Result<&'a Instance, (u32, u64)> {
+    value.view(&mem_view(path)).map_err(|error| {
+        let bad = (0..path.len()).position(|k| value.view(&mem_view(&path[..=k])).is_err());
+        (number(error), bad.expect("a bad step") as u64)
+    })
+}
+
+/// Bytes of which no two neighbours stand together a second time.
+fn unlike(length: usize) -> Vec<u8> {
+    (0..=255).flat_map(|a| std::iter::once(a).chain((a + 1..=255).flat_map(move |b| [a, b]))).take(length).collect()
+}
+
+/// Where in a buffer the Rust reads the first scalar of what a path leads to: read from bytes of which no two neighbours stand together a
+/// second time, it tells.
+fn offset(ty: &Type, path: &[u32], length: usize) -> u64 {
+    let bytes = unlike(length);
+    let value = Instance::from_buffer(&bytes, ty).expect("bytes of the same length");
+    let mut words = Vec::new();
+    words_of(value.view(&mem_view(path)).expect("the same path"), &mut words);
+    let first = (words[0] as u16).to_le_bytes();
+    bytes.windows(2).position(|pair| pair == first).expect("a scalar in the buffer") as u64
+}
+
+/// The Rust reads the buffer, takes the part of the value that the path leads to, and writes that part.
+fn view(ty: &Type, path: &[u32], buffer: &[u8]) -> String {
+    let viewed = || {
+        let value = Instance::from_buffer(buffer, ty).ok_or((unshared(ty).unwrap_or(15), 0))?;
+        let bytes = part(&value, path)?.to_buffer().expect("what was read can be written");
+        Ok((offset(ty, path, buffer.len()), bytes))
+    };
+    with_part(viewed())
+}
+
+/// What the Rust is given to set a part of this type to a word: a literal of the scalar that it is, or that its atomic refers to, else any.
+/// None where an f16 can't have the word's bits.
+fn literal_for(ty: &Type, word: u32) -> Option<LiteralInstance> {
+    match ty {
+        Type::Atomic(scalar) => literal(scalar, word),
+        Type::Vec(..) | Type::Mat(..) | Type::Array(..) | Type::Struct(_) => Some(LiteralInstance::U32(word)),
+        scalar => literal(scalar, word),
+    }
+}
+
+/// The Rust sets what a path leads to in a value; none where there is no such value.
+pub fn set_part(value: &mut Instance, path: &MemView, word: u32) -> Option<Result<(), Error>> {
+    let set = |part: &mut Instance| Some(part.write(literal_for(&part.ty(), word)?.into()).map(|_| ()));
+    match value.view_mut(path) {
+        Ok(part) => set(part),
+        Err(error) => Some(Err(error)),
+    }
+}
+
+/// The Rust reads the buffer, sets what the path leads to in the value, and its bytes of the whole value go to the front of the buffer.
+fn set(ty: &Type, path: &[u32], word: u32, buffer: &[u8]) -> Option<String> {
+    let mut after = buffer.to_vec();
+    let answer: Answer = match Instance::from_buffer(buffer, ty) {
+        None => Err((unshared(ty).unwrap_or(15), 0)),
+        Some(mut value) => match set_part(&mut value, &mem_view(path), word)? {
+            Err(error) => Err(part(&value, path).err().unwrap_or((number(error), 0))),
+            Ok(()) => {
+                let bytes = value.to_buffer().expect("what was read can be written");
+                if bytes.len() > after.len() {
+                    Err((15, 0))
+                } else {
+                    after[..bytes.len()].copy_from_slice(&bytes);
+                    Ok(offset(ty, path, buffer.len()))
+                }
+            }
+        },
+    };
+    Some(with_buffer(answer, &after))
+}
+
 /// What the Rust says of a question; `NOTHING` where it has no type, or no value, to be asked about. Buffers are asked about on tables
 /// that 01 accepts.
 pub fn answer(types: &[Option<Type>], checked: &Result<Good, Refusal>, q: &Question) -> String {
@@ -277,6 +375,14 @@ pub fn answer(types: &[Option<Type>], checked: &Result<Good, Refusal>, q: &Quest
         Question::Read(e, words, buffer) => {
             let (_, ty) = checked.as_ref().ok().zip(of(e))?;
             Some(read(ty, words, buffer))
+        }
+        Question::View(e, path, buffer) => {
+            let (_, ty) = checked.as_ref().ok().zip(of(e))?;
+            Some(view(ty, path, buffer))
+        }
+        Question::Set(e, word, path, buffer) => {
+            let (_, ty) = checked.as_ref().ok().zip(of(e))?;
+            set(ty, path, *word, buffer)
         }
     };
     ASKING.set(true);
