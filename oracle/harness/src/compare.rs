@@ -13,7 +13,7 @@ use crate::types;
 const ROOM: usize = 1_048_576;
 
 const PLAN: Plan =
-    Plan { small: 3, edges: 1, long: 7, nested: 3000, random: 60_000, limits: 400, large: 120, damaged: 40_000 };
+    Plan { small: 3, edges: 1, long: 7, nested: 3000, random: 60_000, limits: 120, large: 120, damaged: 40_000 };
 
 const RECORDED: Plan = Plan { small: 2, edges: 4, long: 0, nested: 40, random: 60, limits: 20, large: 0, damaged: 300 };
 

@@ -279,8 +279,9 @@ fn number(error: Error) -> u32 {
 /// The part of a value that a path leads to; else the Rust's error, and the end of the shortest path that gives one.
 fn part<'a>(value: &'a Instance, path: &[u32]) -> Result<&'a Instance, (u32, u64)> {
     value.view(&mem_view(path)).map_err(|error| {
-        let bad = (0..path.len()).position(|k| value.view(&mem_view(&path[..=k])).is_err());
-        (number(error), bad.expect("a bad step") as u64)
+        let ends: Vec<usize> = (0..path.len()).collect();
+        let bad = ends.partition_point(|k| value.view(&mem_view(&path[..=*k])).is_ok());
+        (number(error), bad as u64)
     })
 }
 
