@@ -99,7 +99,7 @@ pub record OneReplaced {f : List ℕ} {e : ℕ} {b : List ℕ} (g : Given f e b)
 pub record OnTheCode {f : List ℕ} {e : ℕ} {b : List ℕ} (g : Given f e b) : Type 0 where
   -- "every valid path to one scalar leads inside the size, at a multiple of the scalar's own size"
   pub inside : (path : List ℕ) (t : Target) → ToScalar f e b path t → (t .offset + t .size ≤ g .size) × (t .offset % t .size ≡ 0)
-  -- "different paths share no byte"
+  -- "different paths share no byte" (`Words`: steps are numbers of 32 bits, as those of every slice of u32 are)
   pub apart : (p q : List ℕ) (t u : Target) → ToScalar f e b p t → ToScalar f e b q u → Words p → Words q → (p ≡ q) ⊎ Apart (t .offset) (t .size) (u .offset) (u .size)
   -- "setting a scalar with a word its type can hold is never refused and changes only its bytes"
   pub set-alone : (path : List ℕ) (t : Target) → ToScalar f e b path t → (w : ℕ) → w < 256 ^ t .size → (r : Number) (b′ : List ℕ) → Sets f e path w b r b′ → IsSet t b r b′
