@@ -2,7 +2,7 @@
 --
 -- In order: the entries of a list; what the table's answer tells; the rank of two entries; the common type of a list.
 -- Assumes nothing.
-use Prim.Native.Nat.{ℕ, zero, suc, _<_, _≤_}
+use Prim.Native.Nat.{ℕ, _<_, _≤_}
 use mathlib.Core.Bool.{Bool, true, false}
 use mathlib.Core.List.{List, [], _∷_}
 use mathlib.Core.Option.{Option, none, some}
@@ -13,29 +13,24 @@ use lib.Dec.{ltb}
 use lib.ListN.{length, getD, getElem?}
 use Rattle.wgsl.specs.Types.{bool, Ty, scalar}
 use Rattle.wgsl.specs.Said.{good, refused, _>>=_, orRefuse}
-use Rattle.wgsl.specs.File.{trailerOf}
 use Rattle.wgsl.specs.Rule.{typesOf}
 use Rattle.wgsl.specs.Rank.{Entry, rankOf, commonOfAll}
 use Rattle.wgsl.specs.Call.{entryOf, rankCall, entriesOf, commonCall}
 use Rattle.wgsl.proofs.Absent.{both-hold, true-not-false}
-use Rattle.wgsl.proofs.Said.{good-not-refused, then-good, then-cases, then-is, then-refused}
+use Rattle.wgsl.proofs.Said.{then-is, then-refused}
 use Rattle.wgsl.proofs.Accepted.{accepted}
 use Rattle.file.specs.Refusal.{numberOf, placeOf}
 use Rattle.file.specs.declared.refusal.Refusal.{Refusal}
 use Rattle.file.specs.declared.trailer.Trailer.{Trailer}
 use Rattle.table.specs.Table.{acceptedTrailer, saidChecked}
 use Rattle.table.specs.declared.Checked.{Checked}
-use Rattle.table.specs.declared.Checked.the-variants.{Types, Refused}
+use Rattle.table.specs.declared.Checked.the-variants.{Refused}
+use Rattle.table.proofs.Taken.{Taken, told-refused}
 use Rattle.rank.specs.Ranked.{Pair}
-use Rattle.wgsl.proofs.AtEntry.{getElem-getD}
+use Rattle.wgsl.proofs.AtEntry.{getElem-past, getElem-getD}
 use Rattle.common.specs.Chosen.{allBelow, Listed, entryIn, entriesIn, numberIn}
 
 -- ---- the entries of a list
-
-type-past : (ts : List Ty) (e : ℕ) → length ts ≤ e → getElem? ts e ≡ none
-type-past [] e h = refl
-type-past (t ∷ ts) zero h = absurd (omega arith)
-type-past (t ∷ ts) (suc e) h = type-past ts e (omega arith)
 
 -- Where all numbers are below T, the list names entries.
 entries-below : (ts : List Ty) (es : List ℕ) → allBelow es (length ts) ≡ true → entriesOf ts es ≡ good (entriesIn ts es)
@@ -53,7 +48,7 @@ entries-past ts (e ∷ es) h = go (entries-past ts es) (ltb e (length ts)) refl
   where
     go : (allBelow es (length ts) ≡ false → entriesOf ts es ≡ refused 8 0) → (b : Bool) → ltb e (length ts) ≡ b → entriesOf ts (e ∷ es) ≡ refused 8 0
     go later true q = rw (getElem-getD ts e (scalar bool) (ltb-true e (length ts) q), later (rw q at h))
-    go later false q = rw (type-past ts e (ltb-false e (length ts) q))
+    go later false q = rw (getElem-past ts e (ltb-false e (length ts) q))
 
 -- The number of what is chosen, or 18.
 chosen-number : (o : Option Entry) → orRefuse 18 0 (numberIn o) ≡ _>>=_ (orRefuse 18 0 o) (λ e. good (e .number))
@@ -69,41 +64,15 @@ none-listed ts (e ∷ es) h = absurd (omega arith)
 
 -- ---- what the table's answer tells
 
--- The file is accepted, ts are its types, and t is its trailer.
-pub record Taken (f : List ℕ) (t : Trailer) : Type 0 where
-  ts : List Ty
-  taken : typesOf f ≡ good ts
-  count : length ts ≡ t .types
-  start-is : t .start ≡ trailerOf f .start
-
 module _ (f : List ℕ) (answer : Checked) (says : saidChecked answer ≡ acceptedTrailer f) where
-  pub told : (t : Trailer) → answer ≡ Types t → Taken f t
-  unfolding acceptedTrailer
-  told t is =
-      let x = then-good _ _ (sym says ∙ ap saidChecked is) in
-      let types : trailerOf f .types ≡ t .types = cc (x .after) in
-      let start : t .start ≡ trailerOf f .start = cc (x .after) in
-      record {
-        ts = x .value;
-        taken = x .first;
-        count = accepted f (x .value) (x .first) .count ∙ types;
-        start-is = start;
-      }
-
-  -- A file that the table refuses has no types,
-  told-refused : (r : Refusal) → answer ≡ Refused r → typesOf f ≡ refused (numberOf r) (placeOf r)
-  unfolding acceptedTrailer
-  told-refused r is =
-      then-cases _ _ (sym says ∙ ap saidChecked is) (λ h. h) (λ h. good-not-refused refl (h .after))
-
-  -- and both questions about it are refused so.
+  -- Of a file that the table refuses both questions are refused so.
   pub rank-refused : (a b : ℕ) (r : Refusal) → answer ≡ Refused r → refused (numberOf r) (placeOf r) ≡ rankCall f a b
   unfolding rankCall entryOf
-  rank-refused a b r is = sym (then-refused _ (then-refused _ (told-refused r is)))
+  rank-refused a b r is = sym (then-refused _ (then-refused _ (told-refused f answer says r is)))
 
   pub common-refused : (es : List ℕ) (r : Refusal) → answer ≡ Refused r → refused (numberOf r) (placeOf r) ≡ commonCall f es
   unfolding commonCall
-  common-refused es r is = sym (then-refused _ (told-refused r is))
+  common-refused es r is = sym (then-refused _ (told-refused f answer says r is))
 
 module _ {f : List ℕ} {t : Trailer} (file : Taken f t) where
   -- ---- the rank of two entries
@@ -111,7 +80,7 @@ module _ {f : List ℕ} {t : Trailer} (file : Taken f t) where
   entry-past : (e : ℕ) → t .types ≤ e → entryOf f e ≡ refused 8 0
   unfolding entryOf orRefuse
   entry-past e h =
-      then-is _ (file .taken) ∙ ap (orRefuse 8 0) (type-past (file .ts) e (omega (arith, file .count)))
+      then-is _ (file .taken) ∙ ap (orRefuse 8 0) (getElem-past (file .ts) e (omega (arith, file .count)))
 
   module _ (e : ℕ) (low : e < t .types) where
     type-is : getElem? (file .ts) e ≡ some (getD (file .ts) e (scalar bool))

@@ -1,12 +1,11 @@
 -- 17, 9 and 10, read from an entry's layout (specs/Decide).
 -- Assumes nothing.
 use Prim.Native.Nat.{ℕ, _<_, _≤_}
-use mathlib.Core.Bool.{Bool, true, false, not, _&&_, _||_, or-true}
+use mathlib.Core.Bool.{Bool, true, false, _||_, or-true}
 use mathlib.Core.Option.{Option, none, some}
 use mathlib.Core.Path.{_≡_, refl, ap, sym, _∙_}
 use native.Mathlib.Omega.{arith}
 use borrow.Author.Tests.{le-leb, lt-leb}
-use lib.Dec.{leb}
 use Rattle.wgsl.specs.Round.{limit, withinLimit}
 use Rattle.wgsl.specs.Types.{Ty, isOpen, everywhere}
 use Rattle.wgsl.specs.Size.{isPresent, present, sizeOf, alignOf, isPlain, hasLayout, isStorable}

@@ -1,22 +1,21 @@
 -- Numbers of a storable entry (specs/Whole) that the code works with: strides and words above 0, counts below 2 ^ 32.
 -- Assumes nothing.
-use Prim.Native.Nat.{ℕ, suc, _+_, _*_, _<_, _≤_}
+use Prim.Native.Nat.{ℕ, _+_, _*_, _<_, _≤_}
 use mathlib.Core.Bool.{Bool, true, false, _||_}
 use mathlib.Core.List.{List}
-use mathlib.Core.Option.{some, Option·some-injective}
-use mathlib.Core.Path.{_≡_, refl, ap, sym, _∙_}
+use mathlib.Core.Option.{Option·some-injective}
+use mathlib.Core.Path.{_≡_, refl, sym, _∙_}
 use native.Mathlib.Omega.{arith}
 use native.Mathlib.Nat.{mul-le-mul-left}
-use Rattle.wgsl.specs.Types.{Ty, runtime, isOpen, everywhere}
-use Rattle.wgsl.specs.Size.{isPresent, present, sizeOf, alignOf, strideOf, isPlain, hasLayout, isStorable}
-use Rattle.wgsl.specs.Rule.{isWellFormed}
-use Rattle.wgsl.specs.Place.{Tail, tailOf, extentOf, shapeOf, spanOf, wordCount}
+use Rattle.wgsl.specs.Types.{Ty, isOpen, everywhere}
+use Rattle.wgsl.specs.Size.{isPresent, present, sizeOf, alignOf, isPlain, hasLayout, isStorable}
+use Rattle.wgsl.specs.Place.{extentOf, shapeOf, wordCount}
 use Rattle.wgsl.proofs.Absent.{both-hold, present-some, some-not-none}
 use Rattle.wgsl.proofs.Laid.{laid}
 use Rattle.wgsl.proofs.Tail.{closed-tail}
 use Rattle.wgsl.proofs.Count.{count-words, words-room}
 use Rattle.wgsl.proofs.Elements.{open-tail}
-use Rattle.wgsl.proofs.Opened.{Opened, opened-words, opened-extent}
+use Rattle.wgsl.proofs.Opened.{opened-words, opened-extent}
 use Rattle.kinds.specs.declared.value.Layout.{Layout}
 use Rattle.kinds.specs.Value.{valueOf}
 use Rattle.decide.specs.Decide.{runtimeRow}

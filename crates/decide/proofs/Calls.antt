@@ -11,14 +11,14 @@ use mathlib.Core.Path.{_≡_, refl, ap, sym, _∙_}
 use native.Mathlib.Omega.{arith}
 use native.Mathlib.Nat.{div-mul-le-self, div-le-self}
 use borrow.Author.Tests.{eq-eqb, ne-eqb, lt-ltb, le-ltb, eqb-true, eqb-false, leb-true, leb-false}
-use lib.Dec.{eqb, ltb, leb}
+use lib.Dec.{eqb, leb}
 use lib.ListN.{length, drop}
 use Rattle.wgsl.specs.Types.{Ty, isOpen, everywhere}
 use Rattle.wgsl.specs.Size.{present, sizeOf}
-use Rattle.wgsl.specs.Said.{Said, good, refused, _>>_, refuse}
+use Rattle.wgsl.specs.Said.{good, refused, _>>_, refuse}
 use Rattle.wgsl.specs.Rule.{isWellFormed}
-use Rattle.wgsl.specs.Place.{tailOf, extentOf, elementsBy, elementsIn, shapeOf, placesOf, places, wordCount, written, wordsRead, checkWords}
-use Rattle.wgsl.specs.Call.{Done, isShort, elementsFor, isWrongCount}
+use Rattle.wgsl.specs.Place.{tailOf, extentOf, elementsBy, elementsIn, placesOf, places, wordCount, written, wordsRead, checkWords}
+use Rattle.wgsl.specs.Call.{isShort, elementsFor, isWrongCount}
 use Rattle.wgsl.proofs.Tail.{closed-tail, closed-extent}
 use Rattle.wgsl.proofs.Closed.{closed-shape}
 use Rattle.decide.specs.declared.Found.{Found}

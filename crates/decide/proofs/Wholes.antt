@@ -2,8 +2,8 @@
 --
 -- In order: a storable type's shape; a type of fixed size; an open type; words and room; storing, testing and loading both parts.
 -- Assumes nothing.
-use Prim.Native.Nat.{ℕ, zero, suc, _+_, _*_, _<_, _≤_}
-use mathlib.Core.Bool.{Bool, true, false, _||_}
+use Prim.Native.Nat.{ℕ, _+_, _≤_}
+use mathlib.Core.Bool.{true, _||_}
 use mathlib.Core.List.{List, _++_, append-nil}
 use mathlib.Core.Logic.{inr}
 use mathlib.Core.Path.{_≡_, refl, ap, sym, _∙_}
@@ -11,25 +11,25 @@ use native.Mathlib.Omega.{arith}
 use native.Mathlib.Nat.{zero-add}
 use lib.ListN.{length, length-append, drop, replicate}
 use Rattle.wgsl.specs.Types.{Ty, runtime, isOpen, everywhere}
-use Rattle.wgsl.specs.Size.{isPresent, present, sizeOf, alignOf, strideOf, isPlain, hasLayout, isStorable}
+use Rattle.wgsl.specs.Size.{isPresent, sizeOf, alignOf, isPlain, hasLayout, isStorable}
 use Rattle.wgsl.specs.Said.{Said, good, refused}
-use Rattle.wgsl.specs.Place.{extentOf, Shape, whole, shapeOf, spanOf, Place, placesOf, repeated, places, wordCount, storeWords, written, wordsRead, checkWords}
+use Rattle.wgsl.specs.Place.{extentOf, whole, shapeOf, spanOf, Place, placesOf, repeated, places, wordCount, written, wordsRead, checkWords}
 use Rattle.wgsl.proofs.Absent.{both-hold, present-some}
 use Rattle.wgsl.proofs.Laid.{laid}
 use Rattle.wgsl.proofs.Count as counting
 use Rattle.wgsl.proofs.Count.{places-words}
-use Rattle.wgsl.proofs.Opened.{Opened, opened-extent}
+use Rattle.wgsl.proofs.Opened.{opened-extent}
 use Rattle.kinds.specs.declared.value.Layout.{Layout}
 use Rattle.kinds.specs.Value.{fixedWords, valueOf}
 use Rattle.folds.specs.Fold.{overPlaces, storing, loading, testing}
-use Rattle.folds.specs.Run.{runPlaces, partPlaces}
+use Rattle.folds.specs.Run.{partPlaces}
 use Rattle.folds.proofs.Folds.{over-append, stored-words, loaded-words, tested-words, tested-refused}
 use Rattle.folds.proofs.Covered.{covers}
 use Rattle.rows.specs.Row.{rowAt}
-use Rattle.rows.specs.Tree.{Runs, runs, Room, WordRoom}
+use Rattle.rows.specs.Tree.{Runs, runs, Room}
 use Rattle.decide.specs.declared.Tail.{Tail}
 use Rattle.decide.specs.Decide.{runtimeRow, openTail, closedTail}
-use Rattle.decide.specs.Whole.{Covered, Ready, Tailed, Whole}
+use Rattle.decide.specs.Whole.{Ready, Tailed, Whole}
 
 -- ---- a storable type
 

@@ -9,12 +9,12 @@ use mathlib.Core.Bool.{true}
 use mathlib.Core.List.{List, _++_}
 use lib.Dec.{ltb}
 use lib.ListN.{length, drop}
-use Rattle.wgsl.specs.Types.{Ty, runtime, isOpen, everywhere}
+use Rattle.wgsl.specs.Types.{Ty, runtime, everywhere}
 use Rattle.wgsl.specs.Size.{isStorable}
 use Rattle.wgsl.specs.Said.{Said, good, _>>_, refuse}
 use Rattle.wgsl.specs.Rule.{isWellFormed}
 use Rattle.wgsl.specs.Place.{extentOf, elementsIn, Shape, shapeOf, spanOf, placesOf, places, wordCount, written, wordsRead, checkWords}
-use Rattle.wgsl.specs.Call.{Done, entryOf, isShort, elementsFor, isWrongCount}
+use Rattle.wgsl.specs.Call.{Done, isShort, elementsFor, isWrongCount}
 use Rattle.wgsl.proofs.Opened.{Opened}
 use Rattle.kinds.specs.declared.value.Layout.{Layout}
 use Rattle.kinds.specs.Value.{valueOf}

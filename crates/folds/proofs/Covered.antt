@@ -11,7 +11,7 @@ use native.Mathlib.Nat.{suc-mul, eq-or-lt-of-le}
 use lib.ListN.{length, getD, set, drop, replicate, length-set, length-drop, length-replicate, length-append}
 use lib.Seq.{sets, ext-getD, getD-set-same, getD-set-other}
 use Rattle.wgsl.specs.Number.{store, bytesOf}
-use Rattle.wgsl.specs.Place.{Place, repeated}
+use Rattle.wgsl.specs.Place.{repeated}
 use Rattle.wgsl.proofs.Number.{length-bytesOf}
 use Rattle.folds.specs.Fold.{overPlaces, storing}
 use Rattle.folds.specs.Run.{runPlaces}

@@ -8,10 +8,10 @@
 use Prim.Native.Nat.{ℕ, zero, suc, _+_, _-_, _*_, _<_, _≤_}
 use mathlib.Core.Bool.{Bool, true, false, not}
 use mathlib.Core.List.{List, [], _∷_, _++_, map, map-append}
-use mathlib.Core.Path.{_≡_, refl, ap, sym, _∙_}
+use mathlib.Core.Path.{_≡_, refl, sym, _∙_}
 use native.Mathlib.Nat.{add-zero, zero-mul, suc-mul, mul-one}
 use native.Mathlib.Omega.{arith}
-use lib.ListN.{length, getD, drop, replicate, length-append, length-set, replicate-append-replicate}
+use lib.ListN.{length, getD, drop, replicate, length-set, replicate-append-replicate}
 use lib.Seq.{sets, sets-eq, drop-cons}
 use Rattle.wgsl.specs.Said.{Said, good, refused, _>>_, refuse}
 use Rattle.wgsl.specs.Place.{Place, repeated, storeWords, wordsRead, canHold, checkWords}

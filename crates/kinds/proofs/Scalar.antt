@@ -115,7 +115,7 @@ storable-scalar f16 = refl
 storable-scalar abstractInt = refl
 storable-scalar abstractFloat = refl
 
-kind-bounded : (s : Scalar) → kindOf s ≤ 6
+pub kind-bounded : (s : Scalar) → kindOf s ≤ 6
 unfolding kindOf
 kind-bounded bool = omega arith
 kind-bounded i32 = omega arith

@@ -5,9 +5,9 @@
 -- Definitions only. Assumes nothing.
 use Prim.Native.Nat.{ℕ}
 use mathlib.Core.Path.{_≡_}
-use mathlib.Core.Bool.{Bool, true, false, cond}
+use mathlib.Core.Bool.{true, false, cond}
 use mathlib.Core.Option.{Option, none, some}
-use Rattle.wgsl.specs.Types.{Scalar, Ty, scalar, vector, matrix, array, runtime, atomic, struct, isOpen, everywhere}
+use Rattle.wgsl.specs.Types.{Ty, scalar, vector, matrix, array, runtime, atomic, struct, isOpen, everywhere}
 use Rattle.wgsl.specs.Size.{present, widthOf, vectorAlign, sizeOf, alignOf, strideOf, fitsLimit, hasLayout, isStorable}
 use Rattle.wgsl.specs.Rule.{isAllowed, givenFits, isWellFormed}
 use Rattle.wgsl.specs.Place.{Tail, tailOf, wordCount}

@@ -11,24 +11,24 @@ use mathlib.Core.Path.{_≡_, refl, sym, ap, _∙_}
 use native.Mathlib.Omega.{arith}
 use borrow.Author.Tests.{eq-eqb, ne-eqb}
 use lib.ListN.{length, getD, getElem?}
-use Rattle.wgsl.specs.Types.{Scalar, bool, i32, u32, f32, f16, abstractInt, abstractFloat, Ty, scalar, vector, matrix, array, runtime, atomic, struct, everywhere}
+use Rattle.wgsl.specs.Types.{Ty, scalar, vector, matrix, array, runtime, atomic, struct, everywhere}
 use Rattle.wgsl.specs.Size.{present, sizeOf, alignOf, minSizeOf}
 use Rattle.wgsl.specs.Said.{Said, good, refused, _>>=_, orRefuse}
-use Rattle.wgsl.specs.File.{trailerOf}
 use Rattle.wgsl.specs.Rule.{isWellFormed, typesOf}
-use Rattle.wgsl.specs.Rank.{kindOf}
 use Rattle.wgsl.specs.Call.{checkOf, entryOf, sizeCall, alignCall, minSizeCall, layoutOf, layoutCall}
-use Rattle.wgsl.proofs.Said.{good-not-refused, then-good, then-cases, then-is, then-refused}
-use Rattle.wgsl.proofs.Accepted.{accepted}
+use Rattle.wgsl.proofs.Said.{good-not-refused, then-is, then-refused}
 use Rattle.wgsl.proofs.Passed.{runtime-passed}
 use Rattle.wgsl.proofs.Entry.{size-positive, align-positive, stride-positive}
+use Rattle.wgsl.proofs.AtEntry.{getElem-past}
 use Rattle.wgsl.proofs.Call.{entry-well-formed}
 use Rattle.file.specs.Refusal.{numberOf, placeOf}
 use Rattle.file.specs.declared.refusal.Refusal.{Refusal}
 use Rattle.file.specs.declared.trailer.Trailer.{Trailer}
+use Rattle.kinds.proofs.Scalar.{kind-bounded}
 use Rattle.kinds.specs.Value.{kindOfType, elementStride, valueOf}
 use Rattle.kinds.specs.declared.value.Layout.{Layout}
 use Rattle.table.specs.Table.{layoutsOf, acceptedTrailer, saidChecked, valued}
+use Rattle.table.proofs.Taken.{told, told-refused}
 use Rattle.layout.specs.Answer.{marked, saidFound}
 use Rattle.table.specs.declared.Checked.{Checked}
 use Rattle.table.specs.declared.Checked.the-variants.{Types, Refused}
@@ -60,20 +60,9 @@ marked-is ask p t w e = rw e (marked-present (ask t) (λ n h. p t n w h))
 
 -- ---- minimum sizes
 
--- The kind of a scalar is one of 0 to 6.
-pub scalar-kind : (s : Scalar) → kindOf s ≤ 6
-unfolding kindOf
-scalar-kind bool = omega arith
-scalar-kind i32 = omega arith
-scalar-kind u32 = omega arith
-scalar-kind f32 = omega arith
-scalar-kind f16 = omega arith
-scalar-kind abstractInt = omega arith
-scalar-kind abstractFloat = omega arith
-
 runtime-least : (t : Ty) → kindOfType t ≡ 10 → present (elementStride t) ≡ present (minSizeOf t)
 unfolding kindOfType elementStride minSizeOf
-runtime-least (scalar s) h = absurd (omega (arith, scalar-kind s))
+runtime-least (scalar s) h = absurd (omega (arith, kind-bounded s))
 runtime-least (vector n s) h = absurd (omega arith)
 runtime-least (matrix c r s) h = absurd (omega arith)
 runtime-least (array n t) h = absurd (omega arith)
@@ -128,9 +117,7 @@ table-there (t ∷ ts) rest (suc e) d h = table-there ts rest e d (omega arith)
 
 table-past : (ts : List Ty) (e : ℕ) → length ts ≤ e → refused 8 0 ≡ valued (orRefuse 8 0 (getElem? ts e))
 unfolding valued orRefuse
-table-past [] e h = refl
-table-past (t ∷ ts) zero h = absurd (omega arith)
-table-past (t ∷ ts) (suc e) h = table-past ts e (omega arith)
+table-past ts e h = rw (getElem-past ts e h) refl
 
 valued-refused : (s : Said Ty) (number place : ℕ) → s ≡ refused number place → refused number place ≡ valued s
 unfolding valued
@@ -138,47 +125,26 @@ valued-refused s number place h = rw h
 
 -- ---- what the table's answer tells
 
--- the file is accepted, ts are its types, and so many are told
-record Taken (f : List ℕ) (types : ℕ) : Type 0 where
-  ts : List Ty
-  taken : typesOf f ≡ good ts
-  count : length ts ≡ types
-  few : types ≤ 256
-
 module _ (f : List ℕ) (a : Checked) (says : saidChecked a ≡ acceptedTrailer f) where
-  told : (t : Trailer) → a ≡ Types t → Taken f (t .types)
-  unfolding acceptedTrailer
-  told t is =
-      let x = then-good _ _ (sym says ∙ ap saidChecked is) in
-      let y = accepted f (x .value) (x .first) in
-      let z : trailerOf f .types ≡ t .types = cc (x .after) in
-      record { ts = x .value; taken = x .first; count = y .count ∙ z; few = omega (arith, y .types-high) }
-
-  -- A file that the table refuses has no types.
-  told-refused : (r : Refusal) → a ≡ Refused r → typesOf f ≡ refused (numberOf r) (placeOf r)
-  unfolding acceptedTrailer
-  told-refused r is =
-      then-cases _ _ (sym says ∙ ap saidChecked is) (λ h. h) (λ h. good-not-refused refl (h .after))
-
   -- "check: how many entries the file has"
   pub check-types : (t : Trailer) → a ≡ Types t → good (t .types) ≡ checkOf f
   unfolding checkOf
-  check-types t is = let x = told t is in sym (then-is _ (x .taken) ∙ ap good (x .count))
+  check-types t is = let x = told f a says t is in sym (then-is _ (x .taken) ∙ ap good (x .count))
 
   pub check-refused : (r : Refusal) → a ≡ Refused r → refused (numberOf r) (placeOf r) ≡ checkOf f
   unfolding checkOf
-  check-refused r is = sym (then-refused _ (told-refused r is))
+  check-refused r is = sym (then-refused _ (told-refused f a says r is))
 
   module _ (e : ℕ) where
     -- The table has room for every entry.
     pub found-inside : (t : Trailer) → a ≡ Types t → e < t .types → e < 256
-    found-inside t is h = let x = told t is in omega (arith, x .few)
+    found-inside t is h = let x = told f a says t is in omega (arith, x .few)
 
     -- An entry's layout stands in the table.
     pub found-there : (t : Trailer) → a ≡ Types t → e < t .types → (ls : List Layout) (d : Layout) → ls ≡ layoutsOf (typesOf f) → good (getD ls e d) ≡ valued (entryOf f e)
     unfolding entryOf layoutsOf _>>=_
     found-there t is h ls d same =
-        let x = told t is in
+        let x = told f a says t is in
         let low : e < length (x .ts) = omega (arith, x .count) in
         rw (same, x .taken) (table-there (x .ts) _ e d low)
 
@@ -186,13 +152,13 @@ module _ (f : List ℕ) (a : Checked) (says : saidChecked a ≡ acceptedTrailer 
     pub found-missing : (t : Trailer) → a ≡ Types t → t .types ≤ e → refused 8 0 ≡ valued (entryOf f e)
     unfolding entryOf
     found-missing t is h =
-        let x = told t is in
+        let x = told f a says t is in
         let high : length (x .ts) ≤ e = omega (arith, x .count) in
         rw (then-is _ (x .taken)) (table-past (x .ts) e high)
 
     pub found-refused : (r : Refusal) → a ≡ Refused r → refused (numberOf r) (placeOf r) ≡ valued (entryOf f e)
     unfolding entryOf
-    found-refused r is = valued-refused _ _ _ (then-refused _ (told-refused r is))
+    found-refused r is = valued-refused _ _ _ (then-refused _ (told-refused f a says r is))
 
 -- ---- what the layout of an entry tells
 

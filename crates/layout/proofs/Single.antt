@@ -19,7 +19,6 @@ use Rattle.table.specs.Table.{saidChecked}
 use Rattle.layout.specs.Answer.{saidNumber, maybeOf, saidAnswer}
 use Rattle.layout.specs.declared.ask.Number.{Number}
 use Rattle.layout.specs.declared.ask.Maybe.{Maybe}
-use Rattle.layout.specs.declared.ask.Sizes.{Sizes}
 use Rattle.layout.specs.declared.ask.Answer.{Answer}
 use Rattle.table.specs.declared.Checked.{Checked}
 

@@ -13,9 +13,9 @@ use lib.ListN.{length, getD, getElem?, replicate, set, length-replicate}
 use Rattle.wgsl.specs.Types.{Scalar}
 use Rattle.wgsl.specs.Size.{present, widthOf}
 use Rattle.wgsl.specs.Said.{Said, good, refused}
-use Rattle.wgsl.specs.Place.{Shape, one, parts, field, whole, spanOf, Place, places, wordCount}
+use Rattle.wgsl.specs.Place.{Shape, one, parts, field, whole, spanOf, places, wordCount}
 use Rattle.wgsl.specs.Path as ways
-use Rattle.wgsl.specs.Call.{Done, answerOf, contentsOf, readCall, viewCall, setCall}
+use Rattle.wgsl.specs.Call.{Done, answerOf, contentsOf, readCall, viewCall}
 use Rattle.wgsl.proofs.Said.{good-not-refused}
 use Rattle.wgsl.proofs.Number.{Outside}
 use Rattle.wgsl.proofs.Path.{Apart}

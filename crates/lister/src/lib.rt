@@ -9,13 +9,12 @@ use table::layouts;
 use text::put_heading;
 use text::put_line;
 use text::put_refused;
-ghost use mathlib.Core.Path.{_≡_};
-ghost use mathlib.Core.List.{List, _++_};
+ghost use mathlib.Core.List.{List};
 ghost use Prim.Native.Nat.{_≤_};
 ghost use lib.ListN.{length};
 ghost use Rattle.wgsl.specs.Types.{Ty};
 ghost use Rattle.wgsl.specs.Said.{good};
-ghost use Rattle.wgsl.specs.Listing.{entryLines, listed, listingOf};
+ghost use Rattle.wgsl.specs.Listing.{listed, listingOf};
 ghost use Rattle.text.specs.Put.{Put};
 ghost use Rattle.lister.specs.List.{Entries};
 

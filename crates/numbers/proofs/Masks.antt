@@ -1,6 +1,6 @@
 -- Masking off the low k digits of a number of 64 bits leaves the multiple of 2 ^ k below it.
 -- Assumes nothing.
-use Prim.Native.Nat.{ℕ, _^_, _<_, _≤_, _+_, _-_, _*_, _/_}
+use Prim.Native.Nat.{ℕ, _^_, _<_, _+_, _-_, _*_, _/_}
 use native.Mathlib.Omega.{arith}
 use mathlib.Core.Path.{_≡_, ap, sym, subst, _∙_}
 use lib.Bits.{bitAnd, and-high}

@@ -6,7 +6,7 @@ use native.Mathlib.Nat.{eq-zero-or-pos, pow-suc, add-zero, one-mul}
 use mathlib.Core.Path.{_≡_, refl, ap, sym, _∙_}
 use mathlib.Core.Bool.{Bool, true, false}
 use mathlib.Core.Logic.{⊎-elim}
-use borrow.Author.Tests.{eq-eqb, ne-eqb, eqb-true}
+use borrow.Author.Tests.{eq-eqb, eqb-true}
 use lib.Dec.{eqb}
 use lib.Count.{ones, ones-step, ones-cat}
 use lib.Pow.{pow-pos}

@@ -18,7 +18,7 @@ use Rattle.wgsl.specs.Path as path
 use Rattle.wgsl.specs.Call.{storedEntry, scalarAt, setCall}
 use Rattle.wgsl.proofs.Shape.{Sound}
 use Rattle.wgsl.proofs.Said.{then-good, then-cases, then-is, then-refused}
-use Rattle.layout.proofs.Asks.{scalar-kind}
+use Rattle.kinds.proofs.Scalar.{kind-bounded}
 use Rattle.walker.specs.declared.walk.Target.{Target}
 use Rattle.walker.specs.Way.{scalarIn}
 use Rattle.paths.specs.Locate.{targetCall}
@@ -43,7 +43,7 @@ module _ (f : List ℕ) (e : ℕ) (steps : List ℕ) (w : ℕ) (b : List ℕ) wh
 -- A kind above 6 is no scalar's, and any other is.
 no-scalar : (x : Shape) → 6 < scalarIn x → scalarAt x ≡ none
 unfolding scalarIn scalarAt
-no-scalar (one s) h = absurd (omega (arith, scalar-kind s))
+no-scalar (one s) h = absurd (omega (arith, kind-bounded s))
 no-scalar (parts n stride x) h = refl
 no-scalar (field offset x rest) h = refl
 no-scalar (whole z) h = refl

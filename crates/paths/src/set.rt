@@ -7,7 +7,7 @@ use numbers::bytes::store_u32;
 use walker::walk::Target;
 use walker::walk::Walked;
 ghost use mathlib.Core.Path.{_≡_};
-ghost use Prim.Native.Nat.{ℕ, _+_, _≤_};
+ghost use Prim.Native.Nat.{_+_, _≤_};
 ghost use lib.ListN.{length};
 ghost use Rattle.wgsl.specs.Round.{limit};
 ghost use Rattle.wgsl.specs.Types.{Scalar};

@@ -5,7 +5,7 @@
 use Prim.Native.Nat.{ℕ, zero, suc, _+_, _*_, _<_, _≤_}
 use mathlib.Core.List.{List, [], _∷_, _++_, map}
 use mathlib.Core.Logic.{⊎-elim}
-use mathlib.Core.Option.{none, some}
+use mathlib.Core.Option.{some}
 use mathlib.Core.Path.{_≡_, refl, sym, ap, _∙_}
 use native.Mathlib.Omega.{arith}
 use native.Mathlib.Nat.{eq-or-lt-of-le}
@@ -14,22 +14,17 @@ use lib.Seq.{sets, length-sets}
 use Rattle.wgsl.specs.Types.{Ty}
 use Rattle.wgsl.specs.Said.{good, refused, orRefuse}
 use Rattle.wgsl.specs.File as wgsl
-use Rattle.wgsl.specs.File.{trailerOf, trailerLength, typeEntryLength, memberEntryLength, lengthBy, TypeEntry, typeEntryAt, typeEntryFrom}
+use Rattle.wgsl.specs.File.{typeEntryLength, memberEntryLength, TypeEntry, typeEntryAt, typeEntryFrom}
 use Rattle.wgsl.specs.Rule.{typesOf}
 use Rattle.wgsl.specs.Call.{entryOf}
 use Rattle.wgsl.proofs.Absent.{some-not-none}
-use Rattle.wgsl.proofs.Said.{good-not-refused, then-good, then-cases, then-is, then-refused}
-use Rattle.wgsl.proofs.Accepted.{accepted}
-use Rattle.wgsl.proofs.AtEntry.{getElem-low, Refers, to-none, to-vector, to-matrix, to-array, to-runtime, to-atomic, to-members, refers}
-use Rattle.file.specs.Fields.{trailerIs}
-use Rattle.file.specs.Refusal.{numberOf, placeOf}
-use Rattle.file.specs.declared.refusal.Refusal.{Refusal}
+use Rattle.wgsl.proofs.Said.{then-is, then-refused}
+use Rattle.wgsl.proofs.AtEntry.{getElem-low, getElem-past, Refers, to-none, to-vector, to-matrix, to-array, to-runtime, to-atomic, to-members, refers}
 use Rattle.file.specs.declared.trailer.Trailer.{Trailer}
 use Rattle.kinds.specs.declared.value.Layout.{Layout}
 use Rattle.kinds.specs.Value.{valueOf}
-use Rattle.table.specs.Table.{layoutsOf, acceptedTrailer, saidChecked}
-use Rattle.table.specs.declared.Checked.{Checked}
-use Rattle.table.specs.declared.Checked.the-variants.{Types, Refused}
+use Rattle.table.specs.Table.{layoutsOf}
+use Rattle.table.proofs.Taken.{Taken}
 use Rattle.rows.specs.declared.Row.{Row}
 use Rattle.rows.specs.Row.{rowAt, rowNumbers}
 use Rattle.plan.proofs.Putting.{rowAt-put-same, rowAt-put-other}
@@ -37,11 +32,6 @@ use Rattle.plan.specs.declared.Ground.{Ground}
 use Rattle.plan.specs.Plan.{rowOf, Rows, membersStart, Over, of-scalar, of-vector, of-matrix, of-array, of-runtime, of-atomic, of-struct, Parted, groundOf, plannedOf}
 
 -- ---- what the table says of an entry
-
-type-past : (ts : List Ty) (e : ℕ) → length ts ≤ e → getElem? ts e ≡ none
-type-past [] e h = refl
-type-past (t ∷ ts) zero h = absurd (omega arith)
-type-past (t ∷ ts) (suc e) h = type-past ts e (omega arith)
 
 type-there : (ts : List Ty) (e : ℕ) → e < length ts → (t : Ty) × (getElem? ts e ≡ some t)
 type-there [] e h = absurd (omega arith)
@@ -52,40 +42,6 @@ layout-there : (ts : List Ty) (rest : List Layout) (e : ℕ) (d : Layout) {t : T
 layout-there [] rest e d h = some-not-none h refl
 layout-there (u ∷ ts) rest zero d {t} h = let q : u ≡ t = cc in ap valueOf q
 layout-there (u ∷ ts) rest (suc e) d h = layout-there ts rest e d h
-
--- The file is accepted, ts are its types, and t is its trailer.
-pub record Taken (f : List ℕ) (t : Trailer) : Type 0 where
-  pub ts : List Ty
-  pub taken : typesOf f ≡ good ts
-  pub trailer-is : trailerIs t ≡ trailerOf f
-  pub count : length ts ≡ t .types
-  pub few : t .types ≤ 256
-  pub inside : t .start + 12 * t .types + 12 * t .members ≤ length f
-
-module _ (f : List ℕ) (answer : Checked) (says : saidChecked answer ≡ acceptedTrailer f) where
-  pub told : (t : Trailer) → answer ≡ Types t → Taken f t
-  unfolding acceptedTrailer lengthBy typeEntryLength memberEntryLength trailerLength
-  told t is =
-      let x = then-good _ _ (sym says ∙ ap saidChecked is) in
-      let a = accepted f (x .value) (x .first) in
-      let same : trailerIs t ≡ trailerOf f = cc (x .after) in
-      let types : t .types ≡ trailerOf f .types = ap (λ (r : wgsl.Trailer). r .types) same in
-      let members : t .members ≡ trailerOf f .members = ap (λ (r : wgsl.Trailer). r .members) same in
-      let start : t .start ≡ trailerOf f .start = ap (λ (r : wgsl.Trailer). r .start) same in
-      record {
-        ts = x .value;
-        taken = x .first;
-        trailer-is = same;
-        count = a .count ∙ sym types;
-        few = omega (arith, a .types-high);
-        inside = omega (arith, a .length-is);
-      }
-
-  -- A file that the table refuses has no types.
-  pub told-refused : (r : Refusal) → answer ≡ Refused r → typesOf f ≡ refused (numberOf r) (placeOf r)
-  unfolding acceptedTrailer
-  told-refused r is =
-      then-cases _ _ (sym says ∙ ap saidChecked is) (λ h. h) (λ h. good-not-refused refl (h .after))
 
 -- ---- rows up to entry k
 
@@ -180,7 +136,7 @@ laid-rows {entry = entry} l h ts e =
 pub missing-answer : {f : List ℕ} {t : Trailer} (entry : ℕ) → Taken f t → t .types ≤ entry → refused 8 0 ≡ plannedOf f entry
 unfolding plannedOf entryOf orRefuse
 missing-answer entry file h =
-    sym (then-refused _ (then-is _ (file .taken) ∙ rw (type-past (file .ts) entry (omega (arith, file .count)))))
+    sym (then-refused _ (then-is _ (file .taken) ∙ rw (getElem-past (file .ts) entry (omega (arith, file .count)))))
 
 pub missing-none : {A : Type 0} {f : List ℕ} {t : Trailer} (entry : ℕ) → Taken f t → t .types ≤ entry → (ts : List Ty) (u : Ty) → typesOf f ≡ good ts → getElem? ts entry ≡ some u → A
 missing-none entry file h ts u e there =

@@ -2,11 +2,9 @@
 --
 -- In order: a member's entry and row, as they are found; its alignment and size, given or its type's own; its place.
 -- Assumes nothing.
-use Prim.Native.Nat.{ℕ, _+_, _*_, _/_, _%_, _≤_}
+use Prim.Native.Nat.{ℕ, _+_, _/_, _≤_}
 use mathlib.Core.List.{List}
-use mathlib.Core.Path.{_≡_, refl, ap, sym, _∙_}
-use lib.Dec.{eqb}
-use lib.ListN.{length}
+use mathlib.Core.Path.{_≡_, refl, ap, _∙_}
 use Rattle.wgsl.specs.Round.{IsPower, up, limit}
 use Rattle.wgsl.specs.Size.{givenOr, present}
 use Rattle.wgsl.specs.File.{MemberEntry, sizeIsGiven, alignIsGiven, givenSize, givenAlign}

@@ -10,7 +10,7 @@ use native.Mathlib.Omega.{arith}
 use Rattle.wgsl.specs.Place.{Shape, parts, repeated, placesOf}
 use Rattle.rows.specs.declared.Row.{Row}
 use Rattle.rows.specs.Row.{rowAt, memberAt, placedAt}
-use Rattle.rows.specs.Tree.{Runs, Member, Many, runs, each, Left, none, more, Tree, many, members}
+use Rattle.rows.specs.Tree.{Runs, Many, runs, each, Left, none, more, Tree, many, members}
 
 -- A run has a width, so no part is both a run and an entry.
 pub run-width : {r : Row} {x : Shape} → Runs r x → r .width ≡ 0 → ⊥

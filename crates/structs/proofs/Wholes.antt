@@ -9,7 +9,7 @@ use mathlib.Core.Option.{none, some}
 use mathlib.Core.Path.{_≡_, refl, sym, ap, _∙_}
 use native.Mathlib.Omega.{arith}
 use borrow.Author.Tests.{le-leb}
-use Rattle.wgsl.specs.Round.{up, limit, withinLimit}
+use Rattle.wgsl.specs.Round.{up, limit}
 use Rattle.wgsl.specs.Types.{struct, Members, no-more, member, isOpen, endsInRuntime, everywhere, everyMember}
 use Rattle.wgsl.specs.Size.{both, isPresent, present, sizeOf, alignOf, membersAlign, membersEnd, offsetsOf, withinLimits, fitsLimit, hasLayout, isPlain, isStorable}
 use Rattle.wgsl.specs.File.{between}

@@ -15,7 +15,7 @@ use numbers::limit::Limited;
 use numbers::limit::round_up;
 use numbers::limit::sum;
 ghost use mathlib.Core.Path.{_≡_};
-ghost use mathlib.Core.Bool.{Bool, cond, _&&_};
+ghost use mathlib.Core.Bool.{cond, _&&_};
 ghost use Prim.Native.Nat.{ℕ, _≤_, max};
 ghost use Rattle.wgsl.specs.Types.{Ty, Members, no-more, struct};
 ghost use Rattle.file.specs.Fields.{entryIs, memberIs};

@@ -5,12 +5,12 @@
 use Prim.Native.Nat.{ℕ, _+_, _*_, _<_, _≤_}
 use mathlib.Core.Bool.{Bool, true, false}
 use mathlib.Core.List.{List, [], _∷_}
-use mathlib.Core.Option.{Option, some}
+use mathlib.Core.Option.{some}
 use mathlib.Core.Path.{_≡_, refl, sym, _∙_}
 use native.Mathlib.Omega.{arith}
 use borrow.Author.Tests.{eqb-true, eqb-false}
 use lib.Dec.{eqb}
-use Rattle.wgsl.specs.Types.{Ty, Members, struct}
+use Rattle.wgsl.specs.Types.{Ty, struct}
 use Rattle.wgsl.specs.File.{trailerOf, TypeEntry, typeEntryAt, MemberEntry, memberEntryFrom}
 use Rattle.wgsl.specs.Rule.{unused, lower, andThen, typeOfEntry}
 use Rattle.kinds.specs.Value.{madeOf}

@@ -8,7 +8,7 @@ use mathlib.Core.Bool.{Bool, false, true, cond}
 use mathlib.Core.List.{List, _++_, map}
 use mathlib.Core.Option.{Option, none, some}
 use lib.Dec.{leb}
-use lib.ListN.{length, take, getElem?, replicate}
+use lib.ListN.{length, replicate}
 use Rattle.wgsl.specs.Types.{Ty, Members, struct, everywhere}
 use Rattle.wgsl.specs.Said.{Said, good, refused, _>>=_}
 use Rattle.wgsl.specs.File as wgsl

@@ -1,9 +1,7 @@
 // Lines of text into a lent buffer: what the listing program writes.
-ghost use mathlib.Core.Path.{_≡_};
-ghost use mathlib.Core.List.{_++_};
 ghost use Prim.Native.Nat.{_+_, _≤_};
 ghost use lib.ListN.{length};
-ghost use Rattle.wgsl.specs.Listing.{entriesText, refusedText, atText, newline, decimal, refusedLine};
+ghost use Rattle.wgsl.specs.Listing.{decimal, refusedLine};
 ghost use Rattle.text.specs.Put.{Put, marked, line, heading};
 
 // Puts the text at `at` and answers where it ends; every other byte stays.

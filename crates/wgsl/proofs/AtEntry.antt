@@ -6,7 +6,7 @@
 use Prim.Native.Nat.{ℕ, zero, suc, _+_, _-_, _*_, _<_, _≤_}
 use mathlib.Core.Bool.{Bool, true, false}
 use mathlib.Core.List.{List, [], _∷_}
-use mathlib.Core.Option.{some}
+use mathlib.Core.Option.{none, some}
 use mathlib.Core.Path.{_≡_, refl, sym, _∙_}
 use native.Mathlib.Omega.{arith}
 use borrow.Author.Tests.{leb-true, leb-false}
@@ -34,6 +34,12 @@ module _ {A : Type 0} where
   getElem-first (suc n) [] i e = some-not-none e refl
   getElem-first (suc n) (b ∷ l) zero e = (omega arith, e)
   getElem-first (suc n) (b ∷ l) (suc i) e = let h = getElem-first n l i e in (omega arith, h .1)
+
+  -- Past the end there is none.
+  pub getElem-past : (l : List A) (i : ℕ) → length l ≤ i → getElem? l i ≡ none
+  getElem-past [] i h = refl
+  getElem-past (b ∷ l) zero h = absurd (omega arith)
+  getElem-past (b ∷ l) (suc i) h = getElem-past l i (omega arith)
 
   -- The element that is found is the one that `getD` gives.
   pub getElem-getD : (l : List A) (i : ℕ) (d : A) → i < length l → getElem? l i ≡ some (getD l i d)

@@ -2,21 +2,20 @@
 --
 -- Not here: what is claimed of code (each function's contract), the demand's own theorem in full (`Demand`, cited last).
 -- Assumes nothing.
-use Prim.Native.Nat.{ℕ, _+_, _*_, _^_, _<_, _≤_}
-use mathlib.Core.Bool.{true, false, _||_}
-use mathlib.Core.List.{List, [], _∷_, _++_, List·Memᴰ}
-use mathlib.Core.Logic.{_⊎_}
-use mathlib.Core.Option.{Option, some}
+use Prim.Native.Nat.{ℕ, _+_, _^_, _<_, _≤_}
+use mathlib.Core.Bool.{true}
+use mathlib.Core.List.{List, _++_, List·Memᴰ}
+use mathlib.Core.Option.{some}
 use mathlib.Core.Path.{_≡_, refl, sym, _∙_}
 use lib.Dec.{T}
 use lib.ListN.{length, getD, take, drop, getElem?}
 use Rattle.wgsl.specs.Number.{load, store}
 use Rattle.wgsl.specs.Round.{IsUp, up, IsPower, isPower, limit}
-use Rattle.wgsl.specs.Types.{Scalar, Ty, isOpen, everywhere}
-use Rattle.wgsl.specs.Size.{isPresent, present, widthOf, sizeOf, alignOf, numbersOf, hasLayout}
-use Rattle.wgsl.specs.Said.{Said, good, refused}
+use Rattle.wgsl.specs.Types.{Ty, isOpen, everywhere}
+use Rattle.wgsl.specs.Size.{alignOf, numbersOf, hasLayout}
+use Rattle.wgsl.specs.Said.{good, refused}
 use Rattle.wgsl.specs.Rule.{isWellFormed, judged, typesBelow, typesOf}
-use Rattle.wgsl.specs.Place.{Place, shapeOf, extentOf, elementsIn, places, wordCount, wordsRead}
+use Rattle.wgsl.specs.Place.{extentOf, places, wordCount}
 use Rattle.wgsl.specs.Call.{Done, entryOf, contentsOf, readCall, writeCall}
 use Rattle.wgsl.specs.Case.{casesPass}
 use Rattle.wgsl.proofs.Number as number

@@ -2,13 +2,12 @@
 --
 -- In order: what is shown of an open type (`Opened`); a runtime array; members; every open type; its words.
 -- Assumes nothing.
-use Prim.Native.Nat.{ℕ, zero, suc, _+_, _*_}
-use mathlib.Core.Bool.{Bool, true, false}
-use mathlib.Core.List.{List, _++_, append-nil, append-assoc}
+use Prim.Native.Nat.{ℕ, _+_, _*_}
+use mathlib.Core.Bool.{true, false}
+use mathlib.Core.List.{_++_, append-nil, append-assoc}
 use mathlib.Core.Logic.{⊎-elim}
 use mathlib.Core.Option.{Option, none, some}
 use mathlib.Core.Path.{_≡_, refl, ap, sym, _∙_}
-use native.Mathlib.Omega.{arith}
 use native.Mathlib.Nat.{zero-add}
 use lib.ListN.{length, length-append}
 use Rattle.wgsl.specs.Types.{Ty, scalar, vector, matrix, array, runtime, atomic, struct, Members, no-more, member, isRuntime, endsInRuntime, isOpen, everywhere, everyMember}
@@ -18,7 +17,7 @@ use Rattle.wgsl.specs.Place.{Tail, tailAt, membersTail, tailOf, extentBy
 use Rattle.wgsl.proofs.Absent.{true-not-false, present-some}
 use Rattle.wgsl.proofs.Passed.{struct-passed}
 use Rattle.wgsl.proofs.Tail.{sized-closed}
-use Rattle.wgsl.proofs.Members.{Member, first-member}
+use Rattle.wgsl.proofs.Members.{first-member}
 use Rattle.wgsl.proofs.Closed.{closed-shape}
 use Rattle.wgsl.proofs.Count.{wordCount-runtime, places-words}
 

@@ -5,9 +5,9 @@
 -- they apply (10 on read, write, set only). Then read: 15, 14. Write: 14, 15, 16. View: 15, then the first bad step. Set: the same, then
 -- 14, 16."
 -- Definitions only. Assumes nothing.
-use Prim.Native.Nat.{ℕ, zero, suc, _+_, _-_, _/_}
+use Prim.Native.Nat.{ℕ, _+_, _-_, _/_}
 use mathlib.Core.List.{List, [], _∷_, _++_, map}
-use mathlib.Core.Bool.{Bool, true, false, cond, not, _&&_, _||_}
+use mathlib.Core.Bool.{Bool, cond, not, _&&_, _||_}
 use mathlib.Core.Option.{Option, none, some}
 use lib.ListN.{length, getElem?, take, drop}
 use lib.Dec.{eqb, ltb}
@@ -16,7 +16,7 @@ use Rattle.wgsl.specs.Types.{Scalar, Ty, isOpen}
 use Rattle.wgsl.specs.Size.{present, sizeOf, alignOf, minSizeOf, hasLayout, isStorable}
 use Rattle.wgsl.specs.Said.{Said, good, refused, _>>=_, _>>_, refuse, orRefuse}
 use Rattle.wgsl.specs.Rule.{typesOf}
-use Rattle.wgsl.specs.Place.{Shape, one, parts, field, whole, Place, shapeOf, spanOf, wordPlaces, places, wordCount, extentOf, elementsIn, storeWords, written, wordsRead, checkWords}
+use Rattle.wgsl.specs.Place.{Shape, one, parts, field, whole, shapeOf, spanOf, wordPlaces, places, wordCount, extentOf, elementsIn, storeWords, written, wordsRead, checkWords}
 use Rattle.wgsl.specs.Path.{Target, walk, stepOf}
 use Rattle.wgsl.specs.Rank.{Entry, rankOf, commonOfAll}
 

@@ -3,7 +3,7 @@
 -- As types where 01 speaks of types and offsets; through the bytes of a file and the calls' definitions where it speaks of a refusal, of
 -- a read, of an offset along a path or of a rank. One test, `casesPass`, which the checker computes.
 -- Definitions only. Assumes nothing.
-use Prim.Native.Nat.{ℕ, _+_, _*_, _^_}
+use Prim.Native.Nat.{ℕ, _+_, _*_}
 use mathlib.Core.List.{List, [], _∷_, _++_}
 use mathlib.Core.Bool.{Bool, true, false, _&&_}
 use mathlib.Core.Option.{Option, none, some}

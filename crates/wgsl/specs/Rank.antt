@@ -2,7 +2,7 @@
 --
 -- In order: scalars; the outline of a type; ranks; the common type of two; of a list.
 -- Definitions only. Assumes nothing.
-use Prim.Native.Nat.{ℕ, zero, suc}
+use Prim.Native.Nat.{ℕ}
 use mathlib.Core.List.{List, [], _∷_}
 use mathlib.Core.Bool.{Bool, true, false, cond, _&&_}
 use mathlib.Core.Option.{Option, none, some}

@@ -4,7 +4,7 @@
 -- entries, or the refusal of the lowest bad one.
 -- Not here: the fields themselves (`File`), the limit (`Size`, refusal 7).
 -- Definitions only. Assumes nothing.
-use Prim.Native.Nat.{ℕ, zero, suc, _+_, _*_, _%_}
+use Prim.Native.Nat.{ℕ, zero, suc, _+_, _%_}
 use mathlib.Core.List.{List, [], _∷_, _++_}
 use mathlib.Core.Bool.{Bool, true, false, cond, not, _&&_, _||_}
 use mathlib.Core.Option.{Option, none, some}
@@ -13,8 +13,8 @@ use lib.Dec.{eqb, leb}
 use Rattle.wgsl.specs.Round.{isPower}
 use Rattle.wgsl.specs.Types.{Scalar, bool, i32, u32, f32, f16, abstractInt, abstractFloat, Ty, scalar, vector, matrix, array, runtime, atomic, struct, Members, no-more, member, isRuntime, isOpen}
 use Rattle.wgsl.specs.Size.{isPresent, sizeOf, alignOf, fitsLimit}
-use Rattle.wgsl.specs.Said.{Said, good, refused, _>>=_, _>>_, refuse, orRefuse}
-use Rattle.wgsl.specs.File.{Trailer, TypeEntry, MemberEntry, trailerOf, typeEntryAt, memberEntryAt, givenSize, givenAlign, restIsZero, between, checkTrailer}
+use Rattle.wgsl.specs.Said.{Said, good, _>>=_, _>>_, refuse, orRefuse}
+use Rattle.wgsl.specs.File.{TypeEntry, MemberEntry, trailerOf, typeEntryAt, memberEntryAt, givenSize, givenAlign, restIsZero, between, checkTrailer}
 
 -- nothing, unless the test holds
 unfoldable pub when : {A : Type 0} → Bool → Option A → Option A

@@ -3,9 +3,9 @@
 -- In order: scalars; types and the members of a struct; open types; what holds of every type within a type.
 -- Not here: which trees a file may hold (`Rule`), sizes (`Size`).
 -- Definitions only. Assumes nothing.
-use Prim.Native.Nat.{ℕ, zero, suc}
+use Prim.Native.Nat.{ℕ}
 use mathlib.Core.Bool.{Bool, true, false, _&&_}
-use mathlib.Core.Option.{Option, none, some}
+use mathlib.Core.Option.{Option}
 
 -- "kinds 0 to 6", in their order
 pub data Scalar : Type 0 where

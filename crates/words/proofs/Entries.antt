@@ -13,8 +13,8 @@ use Rattle.plan.specs.declared.Ground.{Ground}
 use Rattle.plan.specs.Plan.{Rows, plannedOf}
 use Rattle.plan.proofs.Grounds.{entry-found}
 use Rattle.words.specs.Entry.{Entry}
-use Rattle.words.proofs.Readies.{entry-ready}
-use Rattle.words.proofs.Tails.{entry-tailed}
+use Rattle.words.proofs.Readies.{ready-at}
+use Rattle.words.proofs.Tails.{tailed-at}
 
 pub entry-laid : (f : List ℕ) (e : ℕ) (rows : List ℕ) (g : Ground) → good g ≡ plannedOf f e → ((ts : List Ty) (t : Ty) → typesOf f ≡ good ts → getElem? ts e ≡ some t → Rows f ts rows (suc e)) → (t : Ty) × Entry f e g rows t
 entry-laid f e rows g p laid =
@@ -26,7 +26,7 @@ entry-laid f e rows g p laid =
         ground-is = x .ground-is;
         well-formed = accepted-well-formed f (x .types) (x .good-file) e (x .type) (x .there);
         bytes-inside = x .bytes-inside;
-        ready = λ h. entry-ready f (x .types) rows e (x .type) (x .good-file) given (x .few) (x .there) h;
-        tailed = λ h o. entry-tailed f (x .types) rows e (x .good-file) given (x .few) (x .type) (x .there) h o;
+        ready = λ h. ready-at f (x .types) rows e (x .type) (x .good-file) given (x .few) (x .there) h;
+        tailed = λ h o. tailed-at f (x .types) rows e (x .good-file) given (x .few) (x .type) (x .there) h o;
       },
     )

@@ -31,8 +31,8 @@ module _ (f : List ℕ) (ts : List Ty) (rows : List ℕ) (e : ℕ) (t : Ty) (goo
       let (count, at, extent) = whole-run-all f ts rows (suc e) good-file given few e t low there storable run refl (omega (arith, h)) n in
       record { width = run; count = count; places-are = at 0; extent-is = extent }
 
-  pub entry-ready : Ready (memberBytes f) rows e (valueOf t) t
-  entry-ready =
+  pub ready-at : Ready (memberBytes f) rows e (valueOf t) t
+  ready-at =
       record {
         layout-is = refl;
         well-formed = accepted-well-formed f ts good-file e t there;

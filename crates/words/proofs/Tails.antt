@@ -32,7 +32,7 @@ use Rattle.plan.proofs.Lasts.{last-member, last-everywhere}
 use Rattle.plan.proofs.Trees.{runtime-many}
 use Rattle.decide.specs.Decide.{runtimeOf, Findable}
 use Rattle.decide.specs.Whole.{Ready, Tailed}
-use Rattle.words.proofs.Readies.{entry-ready}
+use Rattle.words.proofs.Readies.{ready-at}
 
 -- The layout of an open struct holds its tail.
 layout-tail : {u : Ty} {tail : Tail} (k : ℕ) (ms : Members) → Opened (struct k ms) u tail → Opened (struct k ms) u (record { offset = valueOf (struct k ms) .offset; stride = valueOf (struct k ms) .stride })
@@ -99,7 +99,7 @@ module _ (f : List ℕ) (ts : List Ty) (rows : List ℕ) (e : ℕ) (good-file : 
   runtime-tailed u there h =
       let kind : rowAt rows e .kind ≡ 10 = kind-is (runtime u) there in
       let inside : 10 * e + 10 ≤ length rows = omega (arith, given .length-is) in
-      found-tailed (entry-ready f ts rows e (runtime u) good-file given few there h)
+      found-tailed (ready-at f ts rows e (runtime u) good-file given few there h)
       (record { inside = inside; some-members = λ q. absurd (q kind); member-inside = λ q. absurd (q kind) })
       (runtime-opened u)
       (record { is = rw (eq-eqb (rowAt rows e .kind) 10 kind); low = omega arith; there = there; storable = h })
@@ -126,7 +126,7 @@ module _ (f : List ℕ) (ts : List Ty) (rows : List ℕ) (e : ℕ) (good-file : 
       ap (λ (j : ℕ). memberAt (memberBytes f) j .type) index ∙ ap (λ (x : MemberEntry). x .type) (memberBytes-at f m (omega arith)) in
       let plain = both-hold (hasLayout t) (everywhere isPlain t) h .1 in
       let members-plain = both-hold (isPlain t) (everyMember isPlain ms) plain .1 in
-      found-tailed (entry-ready f ts rows e t good-file given few there h)
+      found-tailed (ready-at f ts rows e t good-file given few there h)
       (record {
         inside = omega (arith, given .length-is);
         some-members = λ q. omega arith;
@@ -144,9 +144,9 @@ module _ (f : List ℕ) (ts : List Ty) (rows : List ℕ) (e : ℕ) (good-file : 
 
   -- ---- every open entry
 
-  pub entry-tailed : (t : Ty) → getElem? ts e ≡ some t → isStorable t ≡ true → isOpen t ≡ true → Tailed (memberBytes f) rows e (valueOf t) t
+  pub tailed-at : (t : Ty) → getElem? ts e ≡ some t → isStorable t ≡ true → isOpen t ≡ true → Tailed (memberBytes f) rows e (valueOf t) t
   unfolding isOpen
-  entry-tailed t there = go (refers (record { good-file = good-file; type-is = there; fields-are = refl })) there
+  tailed-at t there = go (refers (record { good-file = good-file; type-is = there; fields-are = refl })) there
     where
       go : {t : Ty} → Refers f ts e (typeEntryAt f e) t → getElem? ts e ≡ some t → isStorable t ≡ true → isOpen t ≡ true → Tailed (memberBytes f) rows e (valueOf t) t
       go (to-none s) there h o = true-not-false o refl

@@ -5,15 +5,14 @@
 use Prim.Native.Nat.{ℕ, _<_, _≤_}
 use mathlib.Core.Bool.{Bool, true, false}
 use mathlib.Core.List.{List, [], _∷_, _++_}
-use mathlib.Core.Path.{_≡_, refl, ap, sym, _∙_}
-use native.Mathlib.Omega.{arith}
+use mathlib.Core.Path.{_≡_, refl, sym, _∙_}
 use borrow.Author.Tests.{eqb-true, eqb-false}
 use types.Run.{OneOf, miss}
 use denote.Enum.Declared.{tagOf}
 use lib.Dec.{eqb}
 use lib.ListN.{length, drop, replicate}
 use Rattle.wgsl.specs.Types.{Ty, isOpen}
-use Rattle.wgsl.specs.Said.{Said, good, refused}
+use Rattle.wgsl.specs.Said.{good, refused}
 use Rattle.wgsl.specs.Place.{extentOf, shapeOf, placesOf, wordCount, written}
 use Rattle.wgsl.specs.Call.{storedEntry, writeCall}
 use Rattle.wgsl.proofs.Said.{then-is, then-refused}

@@ -1,6 +1,5 @@
 -- Each answer is a law of `Counts`.
-use Prim.Native.Nat.{_+_, _*_, _≤_}
-use mathlib.Core.Path.{_≡_, sym}
+use mathlib.Core.Path.{sym}
 use native.Mathlib.Omega.{arith}
 use borrow.Author.Needs.{needs}
 use Rattle.decide.proofs.Counts.{extent-before, extent-past, extent-inside, extent-right}

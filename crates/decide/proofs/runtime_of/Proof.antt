@@ -1,13 +1,9 @@
-use Prim.Native.Nat.{ℕ, _+_, _-_, _*_, _≤_}
-use mathlib.Core.Bool.{cond}
-use mathlib.Core.Path.{_≡_, refl, sym, ap, _∙_}
+use Prim.Native.Nat.{_-_}
+use mathlib.Core.Path.{ap}
 use native.Mathlib.Omega.{arith}
 use borrow.Author.Needs.{needs}
 use borrow.Author.Tests.{eq-eqb, ne-eqb}
-use denote.Ref.{now}
 use Rattle.wgsl.specs.File.{MemberEntry}
-use Rattle.rows.specs.declared.Row.{Row}
-use Rattle.rows.specs.Row.{rowAt, memberAt}
 use Rattle.decide.specs.Decide.{runtimeOf}
 use Rattle.decide.proofs.runtime_of.Statement.{statement}
 use Rattle.decide.proofs.runtime_of.Tie as tie

@@ -3,7 +3,6 @@ use mathlib.Core.Bool.{true, false}
 use mathlib.Core.List.{[], _∷_}
 use mathlib.Core.Path.{_≡_, sym, _∙_}
 use native.Mathlib.Omega.{arith}
-use borrow.Author.Tests.{not-true, not-false}
 use Rattle.wgsl.specs.Types.{Ty, everywhere}
 use Rattle.wgsl.specs.Rule.{unused, isWellFormed}
 use Rattle.kinds.specs.Value.{valueOf}

@@ -3,7 +3,6 @@ use mathlib.Core.Bool.{true}
 use mathlib.Core.List.{[], _∷_}
 use mathlib.Core.Path.{_≡_, sym, _∙_}
 use native.Mathlib.Omega.{arith}
-use borrow.Author.Tests.{not-true, not-false}
 use Rattle.wgsl.specs.Rule.{unused}
 use Rattle.kinds.proofs.Zero.{unused-three, denied, granted}
 use Rattle.over.proofs.Presence.{opens-is, unaligned, element}

@@ -7,7 +7,8 @@ use lib.ListN.{getD}
 use Rattle.wgsl.proofs.Said.{good-not-refused}
 use Rattle.kinds.specs.Value.{blankLayout}
 use Rattle.file.specs.Fields.{entryIs}
-use Rattle.plan.proofs.Laying.{Taken, told, told-refused, Laying, laying-none, fields-are, laying-more, laid-answer, laid-rows, missing-answer, missing-none, refused-answer}
+use Rattle.table.proofs.Taken.{Taken, told, told-refused}
+use Rattle.plan.proofs.Laying.{Laying, laying-none, fields-are, laying-more, laid-answer, laid-rows, missing-answer, missing-none, refused-answer}
 use Rattle.plan.proofs.lay.Statement.{statement}
 use Rattle.plan.proofs.lay.Tie as tie
 

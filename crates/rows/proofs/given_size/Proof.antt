@@ -1,9 +1,7 @@
-use mathlib.Core.Path.{_≡_, refl, sym, _∙_}
-use mathlib.Core.Bool.{true, false}
+use mathlib.Core.Path.{sym}
 use borrow.Author.Needs.{needs}
 use Rattle.wgsl.specs.Size.{givenOr, present}
-use Rattle.wgsl.specs.File.{sizeIsGiven, givenSize}
-use Rattle.file.specs.Fields.{memberIs}
+use Rattle.wgsl.specs.File.{givenSize}
 use Rattle.rows.specs.Row.{orOwn}
 use Rattle.rows.proofs.given_size.Statement.{statement}
 use Rattle.rows.proofs.given_size.Tie as tie

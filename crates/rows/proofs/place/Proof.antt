@@ -1,13 +1,10 @@
 -- The laws of `Places`, over what the entry and the row are found to be.
-use Prim.Native.Nat.{_+_, _*_, _≤_}
 use mathlib.Core.Path.{ap}
-use lib.ListN.{length}
 use native.Mathlib.Omega.{arith}
 use borrow.Author.Needs.{needs}
 use denote.Ref.{now}
 use Rattle.wgsl.specs.File.{MemberEntry}
 use Rattle.file.specs.Fields.{memberIs}
-use Rattle.rows.specs.Row.{memberAt}
 use Rattle.rows.proofs.Places.{Found, given-align, given-size, own-align, own-size, placed-is, may-place}
 use Rattle.rows.proofs.place.Statement.{statement}
 use Rattle.rows.proofs.place.Tie as tie

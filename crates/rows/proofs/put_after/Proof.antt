@@ -1,8 +1,7 @@
-use Prim.Native.Nat.{_^_, _<_, _≤_, _+_}
-use mathlib.Core.Path.{_≡_, refl, sym, ap, _∙_}
+use mathlib.Core.Path.{sym}
 use native.Mathlib.Omega.{arith}
 use borrow.Author.Needs.{needs}
-use Rattle.wgsl.specs.Round.{IsPower, up, limit}
+use Rattle.wgsl.specs.Round.{limit}
 use Rattle.wgsl.proofs.Power.{power-positive, power-bounded}
 use Rattle.wgsl.proofs.Round.{up-not-below}
 use Rattle.rows.proofs.put_after.Statement.{statement}

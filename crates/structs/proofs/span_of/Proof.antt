@@ -1,5 +1,4 @@
 -- Each test is one law of `Structs`.
-use mathlib.Core.Path.{sym, _∙_}
 use native.Mathlib.Omega.{arith}
 use borrow.Author.Needs.{needs}
 use Rattle.kinds.proofs.Zero.{denied, granted}

@@ -1,7 +1,7 @@
 -- What `layout` answers, crossed: the answer, then the three numbers lent.
 use borrow.Author.Needs.{needs}
 use Prim.Native.Nat.{ℕ}
-use mathlib.Core.List.{List, [], _∷_}
+use mathlib.Core.List.{[], _∷_}
 use mathlib.Core.Path.{_≡_, ap, sym, _∙_}
 use Rattle.wgsl.specs.Said.{Said}
 use Rattle.wgsl.specs.Call.{Layout}

@@ -4,7 +4,8 @@ use native.Mathlib.Omega.{arith}
 use borrow.Author.Tests.{not-true, not-false}
 use Rattle.wgsl.specs.Said.{orRefuse}
 use Rattle.common.specs.Chosen.{chosenIs}
-use Rattle.convert.proofs.Questions.{Taken, told, common-refused, common-past, common-empty, list-there, common-is}
+use Rattle.table.proofs.Taken.{Taken, told}
+use Rattle.convert.proofs.Questions.{common-refused, common-past, common-empty, list-there, common-is}
 use borrow.Author.Needs.{needs}
 use Rattle.convert.proofs.ask.common.Statement.{statement}
 use Rattle.convert.proofs.ask.common.Tie as tie

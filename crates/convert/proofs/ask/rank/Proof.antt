@@ -3,7 +3,8 @@ use mathlib.Core.Path.{ap}
 use native.Mathlib.Omega.{arith}
 use Rattle.wgsl.specs.Said.{orRefuse}
 use Rattle.rank.specs.Ranked.{rankIs}
-use Rattle.convert.proofs.Questions.{Taken, told, rank-refused, rank-past, rank-past-second, pair-there, rank-is}
+use Rattle.table.proofs.Taken.{Taken, told}
+use Rattle.convert.proofs.Questions.{rank-refused, rank-past, rank-past-second, pair-there, rank-is}
 use borrow.Author.Needs.{needs}
 use Rattle.convert.proofs.ask.rank.Statement.{statement}
 use Rattle.convert.proofs.ask.rank.Tie as tie

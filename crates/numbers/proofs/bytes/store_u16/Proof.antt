@@ -1,5 +1,4 @@
 -- Two stores are `store 2`.
-use mathlib.Core.Path.{sym}
 use native.Mathlib.Omega.{arith}
 use lib.ListN.{length-set}
 use denote.Ref.{now}

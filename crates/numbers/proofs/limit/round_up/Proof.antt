@@ -1,6 +1,5 @@
 -- The sum fits 64 bits, and so does the multiple that it is cut to.
 use mathlib.Core.Path.{ap₂, ap, _∙_}
-use Prim.Native.Nat.{ℕ}
 use native.Mathlib.Omega.{arith}
 use Rattle.wgsl.specs.Round.{up}
 use Rattle.numbers.specs.Limit.{limited}

@@ -1,8 +1,7 @@
-use Prim.Native.Nat.{ℕ, _^_, _<_, _≤_, _+_, _-_, _*_, _/_}
+use Prim.Native.Nat.{ℕ, _^_, _<_, _+_, _-_, _*_, _/_}
 use native.Mathlib.Omega.{arith}
 use mathlib.Core.Path.{_≡_, sym, subst}
 use lib.Bits.{bitAnd}
-use lib.Pow.{pow-pos}
 use Rattle.wgsl.specs.Round.{up, limit}
 use Rattle.wgsl.proofs.Power.{power-positive, exponent-small}
 use Rattle.numbers.proofs.Masks.{cleared}

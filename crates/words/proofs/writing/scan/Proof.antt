@@ -1,9 +1,7 @@
 -- Words that the fixed part refuses are refused; else the tail decides (crates/decide, proofs/Wholes). Where the tail begins does not
 -- matter for the test.
-use mathlib.Core.Path.{ap, sym, _∙_}
+use mathlib.Core.Path.{_∙_}
 use native.Mathlib.Omega.{arith}
-use Rattle.wgsl.specs.Said.{good}
-use Rattle.runs.specs.Run.{saidScan}
 use Rattle.decide.proofs.Wholes.{fixed-words, whole-words, tested-bad, tested-good}
 use Rattle.folds.proofs.Folds.{tested-widths}
 use Rattle.scanner.proofs.Scans.{places-moved}

@@ -1,5 +1,5 @@
 -- The fixed part and the tail are stored one after the other, which is the whole (proofs/Writings).
-use mathlib.Core.Path.{sym, _∙_}
+use mathlib.Core.Path.{_∙_}
 use native.Mathlib.Omega.{arith}
 use Rattle.wgsl.specs.Place.{shapeOf}
 use Rattle.decide.proofs.Wholes.{fixed-room, rest-room}

@@ -1,9 +1,6 @@
 -- By the elements that the words fill (proofs/Writings).
-use Prim.Native.Nat.{ℕ, _<_}
 use mathlib.Core.Path.{_≡_, ap, sym, _∙_}
-use native.Mathlib.Omega.{arith}
 use denote.Ref.{now}
-use Rattle.rows.specs.declared.Row.{Row}
 use Rattle.wgsl.specs.Call.{answerOf, contentsOf}
 use Rattle.decide.specs.Decide.{runtimeRow}
 use Rattle.words.proofs.Writings.{no-elements, some-elements}

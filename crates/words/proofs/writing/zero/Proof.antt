@@ -1,12 +1,10 @@
 -- What is written so far: zeros below i, and the buffer as it was from i on.
-use Prim.Native.Nat.{ℕ, zero, suc, _+_, _-_, _<_, _≤_}
-use mathlib.Core.List.{List, [], _∷_, _++_}
-use mathlib.Core.Path.{_≡_, refl, ap, sym, _∙_}
+use Prim.Native.Nat.{_+_, _-_, _≤_}
+use mathlib.Core.List.{_++_}
+use mathlib.Core.Path.{_≡_, refl, ap, _∙_}
 use native.Mathlib.Omega.{arith}
-use native.Mathlib.Numerals.{add-one}
 use borrow.Author.Needs.{needs}
-use denote.Ref.{now}
-use lib.ListN.{length, drop, set, replicate}
+use lib.ListN.{length, drop, replicate}
 use Rattle.words.proofs.Zeros.{zeroed-next, zeroed-length}
 use Rattle.words.proofs.writing.zero.Statement.{statement}
 use Rattle.words.proofs.writing.zero.Tie as tie
