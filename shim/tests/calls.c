@@ -1,27 +1,7 @@
 /* Every call on a good file, and every refusal of document 01 that it can give. What is lent stands at the end of a page after which
  * nothing can be touched, and what is lent to be read cannot be written. */
-#define _GNU_SOURCE /* MAP_ANONYMOUS, under -std=c99 */
-#include <stdlib.h>
-#include <sys/mman.h>
-
+#include "pages.h"
 #include "test.h"
-
-enum { PAGE = 4096 };
-
-/* A page between two that cannot be touched. */
-static uint8_t *fresh_page(void) {
-    uint8_t *pages = mmap(NULL, 3 * PAGE, PROT_NONE, MAP_PRIVATE | MAP_ANONYMOUS, -1, 0);
-    if (pages == MAP_FAILED || mprotect(pages + PAGE, PAGE, PROT_READ | PROT_WRITE)) exit(2);
-    return pages + PAGE;
-}
-
-/* A copy of `length` bytes that ends with a page, and can be read and not written. */
-static const uint8_t *lent(const void *bytes, size_t length) {
-    uint8_t *page = fresh_page();
-    if (length) memcpy(page + PAGE - length, bytes, length);
-    if (mprotect(page, PAGE, PROT_READ)) exit(2);
-    return page + PAGE - length;
-}
 
 static const uint8_t good[] = {
     BOOL,                  /* 0 */
@@ -107,7 +87,7 @@ static void questions(const uint8_t *file, size_t length) {
 }
 
 static void layouts(const uint8_t *file, size_t length) {
-    lepugaso_layout *out = (lepugaso_layout *)(void *)(fresh_page() + PAGE - sizeof *out);
+    lepugaso_layout *out = (void *)fresh(sizeof *out);
     EXPECT(lepugaso_layout_of(file, length, 8, out), 0, 0, 0);
     HOLDS(out->size == 32 && out->align == 16 && out->min_size == 32);
     EXPECT(lepugaso_layout_of(file, length, 7, out), 0, 0, 0);
@@ -195,7 +175,7 @@ static void writes(int line, uint32_t entry, size_t length, uint32_t refusal, ui
                    const uint8_t *bytes, size_t filled) {
     const uint8_t *file = lent(stored, sizeof stored);
     const void *given = lent(words, count * sizeof *words);
-    uint8_t expected[256], *buf = fresh_page() + PAGE - length;
+    uint8_t expected[256], *buf = fresh(length);
     memset(buf, OLD_BYTE, length);
     memset(expected, OLD_BYTE, sizeof expected);
     if (filled) memcpy(expected, bytes, filled);
@@ -209,7 +189,7 @@ static void writes(int line, uint32_t entry, size_t length, uint32_t refusal, ui
 static void reads(int line, uint32_t entry, size_t room, uint32_t refusal, const uint8_t *bytes, size_t length, const uint32_t *words,
                   size_t filled) {
     const uint8_t *file = lent(stored, sizeof stored), *buf = lent(bytes, length);
-    uint32_t expected[64], *read = (uint32_t *)(void *)(fresh_page() + PAGE) - room;
+    uint32_t expected[64], *read = (void *)fresh(room * sizeof *read);
     memset(read, OLD_BYTE, room * sizeof *read);
     memset(expected, OLD_BYTE, sizeof expected);
     if (filled) memcpy(expected, words, filled * sizeof *words);
@@ -359,7 +339,7 @@ static void sets(int line, uint32_t entry, size_t length, uint32_t word, uint32_
                  const uint8_t *bytes, size_t width, const uint32_t *path, size_t steps) {
     const uint8_t *file = lent(stored, sizeof stored);
     const void *given = lent(path, steps * sizeof *path);
-    uint8_t expected[64], *buf = fresh_page() + PAGE - length;
+    uint8_t expected[64], *buf = fresh(length);
     memset(buf, OLD_BYTE, length);
     memset(expected, OLD_BYTE, sizeof expected);
     if (width) memcpy(expected + offset, bytes, width);

@@ -16,6 +16,7 @@ static void expect(const char *source, int line, const char *call, lepugaso_answ
     if (a.refusal == refusal && a.place == place && a.value == value) return;
     printf("%s:%d: %s is %" PRIu32 " at %" PRIu32 ", %" PRIu64 ", and must be %" PRIu32 " at %" PRIu32 ", %" PRIu64 "\n", source, line,
            call, a.refusal, a.place, a.value, refusal, place, value);
+    fflush(stdout); /* so that a crash later on does not hide it */
     failures++;
 }
 
@@ -23,6 +24,7 @@ static void expect(const char *source, int line, const char *call, lepugaso_answ
 static void hold(const char *source, int line, const char *fact, int so) {
     if (so) return;
     printf("%s:%d: not so: %s\n", source, line, fact);
+    fflush(stdout);
     failures++;
 }
 

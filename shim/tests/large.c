@@ -1,0 +1,265 @@
+/* Large numbers in every argument of every call: were one cut, to fewer bits or to some limit, an answer here would be another
+ * (tools/wrong-shims). One file has as many types and members as there can be, and its last type more than 65,536 words. */
+#include "pages.h"
+#include "test.h"
+
+#define M LEPUGASO_MEMBER
+
+/* 0 is f32 and 1 is mat2x2<f32>. Each from 2 to 254 is struct {f32, f32, f32, the one before}: 16 bytes more than that, and 3 words more.
+ * 255 is a struct of all members: those of all structs before it, then 11 f32, the first of them with align 16, and 254. So 254 steps lead
+ * from 255 to the matrix, the last scalar of all is two more away, and no path to anything has more steps than these 256. */
+enum { TYPES = 256, MEMBERS = 1024, LENGTH = 12 * (TYPES + MEMBERS) + 10, LAST = TYPES - 1 };
+enum { ROWS = 254 * 255 / 2 - 1 + 3 + 254, SIZE = 16 * ROWS, WORDS = 98179, STEPS = 256 };
+
+/* `length` bytes, all 0, of which only those of the first and the last pages can be touched. */
+static uint8_t *far(size_t length) {
+    size_t room = (length / PAGE + 1) * PAGE, outer = room < 8 * PAGE ? room : 8 * PAGE;
+    uint8_t *pages = mmap(NULL, room + PAGE, PROT_NONE, MAP_PRIVATE | MAP_ANONYMOUS | MAP_NORESERVE, -1, 0);
+    if (pages == MAP_FAILED) exit(2);
+    if (mprotect(pages, outer, PROT_READ | PROT_WRITE) || mprotect(pages + room - outer, outer, PROT_READ | PROT_WRITE)) exit(2);
+    return pages + room - length;
+}
+
+/* The file with `start` bytes before its types. */
+static const uint8_t *large_file(uint32_t start) {
+    uint8_t *types = far((size_t)start + LENGTH) + start, *to = types;
+#define PUT(...)                               \
+    do {                                       \
+        const uint8_t bytes[] = {__VA_ARGS__}; \
+        memcpy(to, bytes, sizeof bytes);       \
+        to += sizeof bytes;                    \
+    } while (0)
+    PUT(F32);
+    PUT(MATRIX(2, 2, 0));
+    for (uint32_t k = 2; k < LAST; k++) PUT(STRUCT(4 * (k - 2), 4));
+    PUT(STRUCT(0, MEMBERS));
+    for (uint32_t k = 2; k < LAST; k++) {
+        for (int scalar = 0; scalar < 3; scalar++) PUT(MEMBER(0));
+        PUT(MEMBER(k - 1));
+    }
+    PUT(MEMBER_ALIGN(0, 16));
+    for (int scalar = 1; scalar < 11; scalar++) PUT(MEMBER(0));
+    PUT(MEMBER(LAST - 1));
+    PUT(LE16(TYPES), LE16(MEMBERS), LE32(start), LE16(1));
+#undef PUT
+    return sealed(types, LENGTH) - start;
+}
+
+/* The words of 255, and what they are written as: rows of 16 bytes, each of three words and a gap, or of four words where a matrix lies. */
+static uint32_t words[WORDS], rows[4 * ROWS];
+static size_t next_word, next_row;
+
+static void put_words(size_t count) {
+    memcpy(rows + 4 * next_row, words + next_word, count * sizeof *words);
+    next_word += count;
+    next_row += (count + 3) / 4;
+}
+
+static void put_entry(size_t entry) {
+    for (; entry > 1; entry--) put_words(3);
+    put_words(4);
+}
+
+static void fill_rows(void) {
+    for (size_t k = 0; k < WORDS; k++) words[k] = (uint32_t)k * 2654435761u + 1;
+    for (size_t k = 2; k < LAST; k++) put_entry(k);
+    put_words(11);
+    put_entry(LAST - 1);
+    HOLDS(next_word == WORDS && next_row == ROWS);
+}
+
+/* The longest path, and a step more. */
+static uint32_t path[STEPS + 1];
+
+static void fill_path(void) {
+    path[0] = M(MEMBERS - 1);
+    for (size_t k = 1; k < STEPS - 2; k++) path[k] = M(3);
+    path[STEPS - 2] = path[STEPS - 1] = 1;
+    path[STEPS] = 0;
+}
+
+/* What is asked of the last type, the answer no other type's. */
+static void questions(const uint8_t *file, size_t length) {
+    lepugaso_layout *out = (void *)fresh(sizeof *out);
+    EXPECT(lepugaso_check(file, length), 0, 0, TYPES);
+    EXPECT(lepugaso_size(file, length, LAST), 0, 0, SIZE);
+    EXPECT(lepugaso_align(file, length, LAST), 0, 0, 16);
+    EXPECT(lepugaso_min_size(file, length, LAST), 0, 0, SIZE);
+    EXPECT(lepugaso_layout_of(file, length, LAST, out), 0, 0, 0);
+    HOLDS(out->size == SIZE && out->align == 16 && out->min_size == SIZE);
+    EXPECT(lepugaso_rank(file, length, LAST, LAST), 0, 0, 0);
+    EXPECT(lepugaso_common(file, length, (const uint32_t[]){LAST}, 1), 0, 0, LAST);
+}
+
+static void many_words(const uint8_t *file, size_t length) {
+    const void *given = lent(words, sizeof words);
+    uint8_t *buf = fresh(SIZE);
+    memset(buf, 0xA5, SIZE);
+    EXPECT(lepugaso_write(file, length, LAST, given, WORDS - 1, buf, SIZE), LEPUGASO_REFUSED_WORDS, 0, 0);
+    EXPECT(lepugaso_write(file, length, LAST, given, WORDS, buf, SIZE - 1), LEPUGASO_REFUSED_SHORT_BUFFER, 0, 0);
+    HOLDS(buf[0] == 0xA5 && memcmp(buf, buf + 1, SIZE - 1) == 0);
+    EXPECT(lepugaso_write(file, length, LAST, given, WORDS, buf, SIZE), 0, 0, SIZE);
+    HOLDS(memcmp(buf, rows, SIZE) == 0);
+
+    uint32_t *read = (void *)fresh(WORDS * sizeof *read);
+    EXPECT(lepugaso_read(file, length, LAST, buf, SIZE, read, WORDS - 1), LEPUGASO_REFUSED_WORDS, 0, 0);
+    EXPECT(lepugaso_read(file, length, LAST, buf, SIZE - 1, read, WORDS), LEPUGASO_REFUSED_SHORT_BUFFER, 0, 0);
+    HOLDS(read[0] == 0 && memcmp(read, read + 1, (WORDS - 1) * sizeof *read) == 0);
+    EXPECT(lepugaso_read(file, length, LAST, buf, SIZE, read, WORDS), 0, 0, WORDS);
+    HOLDS(memcmp(read, words, sizeof words) == 0);
+}
+
+static void many_steps(const uint8_t *file, size_t length) {
+    const void *steps = lent(path, STEPS * sizeof *path), *too_many = lent(path, sizeof path);
+    uint8_t *buf = fresh(SIZE);
+    const uint8_t *part;
+    size_t part_len;
+    memcpy(buf, rows, SIZE);
+    EXPECT(lepugaso_view(file, length, LAST, NULL, 0, buf, SIZE, &part, &part_len), 0, 0, 0);
+    HOLDS(part == buf && part_len == SIZE);
+    EXPECT(lepugaso_view(file, length, LAST, steps, STEPS, buf, SIZE, &part, &part_len), 0, 0, SIZE - 4);
+    HOLDS(part == buf + SIZE - 4 && part_len == 4);
+    EXPECT(lepugaso_view(file, length, LAST, too_many, STEPS + 1, buf, SIZE, &part, &part_len), LEPUGASO_REFUSED_INDEX_STEP, STEPS, 0);
+    HOLDS(part == buf && part_len == 0);
+    EXPECT(lepugaso_set(file, length, LAST, too_many, STEPS + 1, 7, buf, SIZE), LEPUGASO_REFUSED_INDEX_STEP, STEPS, 0);
+    HOLDS(memcmp(buf, rows, SIZE) == 0);
+    EXPECT(lepugaso_set(file, length, LAST, steps, STEPS, 0x89ABCDEF, buf, SIZE), 0, 0, SIZE - 4);
+    HOLDS(memcmp(buf, rows, SIZE - 4) == 0 && memcmp(buf + SIZE - 4, (const uint8_t[]){0xEF, 0xCD, 0xAB, 0x89}, 4) == 0);
+}
+
+/* Numbers that are those of no entry, and of one only in their low bits. */
+static void no_entries(const uint8_t *file, size_t length) {
+    lepugaso_layout *out = (void *)fresh(sizeof *out);
+    uint32_t *word = (void *)fresh(sizeof *word);
+    uint8_t *buf = fresh(4);
+    *out = (lepugaso_layout){1, 2, 3};
+    *word = 5;
+    memcpy(buf, "abcd", 4);
+    for (uint32_t bit = 8; bit < 32; bit++) {
+        for (uint32_t low = 0; low <= LAST; low += LAST) {
+            uint32_t entry = low + (UINT32_C(1) << bit);
+            const void *list = lent((const uint32_t[]){low, low, entry}, 3 * sizeof entry);
+            const uint8_t *part = NULL;
+            size_t part_len = 5;
+#define NO_ENTRY(call) EXPECT(call, LEPUGASO_REFUSED_ENTRY, 0, 0)
+            NO_ENTRY(lepugaso_size(file, length, entry));
+            NO_ENTRY(lepugaso_align(file, length, entry));
+            NO_ENTRY(lepugaso_min_size(file, length, entry));
+            NO_ENTRY(lepugaso_layout_of(file, length, entry, out));
+            NO_ENTRY(lepugaso_rank(file, length, entry, low));
+            NO_ENTRY(lepugaso_rank(file, length, low, entry));
+            NO_ENTRY(lepugaso_common(file, length, list, 3));
+            NO_ENTRY(lepugaso_write(file, length, entry, word, 1, buf, 4));
+            NO_ENTRY(lepugaso_read(file, length, entry, buf, 4, word, 1));
+            NO_ENTRY(lepugaso_view(file, length, entry, NULL, 0, buf, 4, &part, &part_len));
+            NO_ENTRY(lepugaso_set(file, length, entry, NULL, 0, 7, buf, 4));
+#undef NO_ENTRY
+            HOLDS(part == buf && part_len == 0);
+        }
+    }
+    HOLDS(out->size == 1 && out->align == 2 && out->min_size == 3);
+    HOLDS(*word == 5 && memcmp(buf, "abcd", 4) == 0);
+}
+
+static const uint8_t few[] = {
+    ABSTRACT_INT,    /* 0 */
+    F32,             /* 1 */
+    ARRAY(1, 70000), /* 2 */
+    TRAILER(3, 0),
+};
+
+/* Lists whose last number decides. */
+static void long_lists(const uint8_t *file) {
+    static const size_t counts[] = {300, 65536 + 2};
+    for (size_t k = 0; k < 2; k++) {
+        size_t count = counts[k];
+        uint32_t *list = (void *)fresh(count * sizeof *list);
+        EXPECT(lepugaso_common(file, sizeof few, list, count), 0, 0, 0);
+        list[count - 1] = 1;
+        EXPECT(lepugaso_common(file, sizeof few, list, count), 0, 0, 1);
+        list[count - 1] = 2;
+        EXPECT(lepugaso_common(file, sizeof few, list, count), LEPUGASO_REFUSED_NO_RANK, 0, 0);
+        list[count - 1] = 3;
+        EXPECT(lepugaso_common(file, sizeof few, list, count), LEPUGASO_REFUSED_ENTRY, 0, 0);
+    }
+}
+
+/* Steps whose numbers are good only in their low bits, and one whose number has more than 16. */
+static void large_steps(const uint8_t *file, const uint8_t *large) {
+    uint32_t *step = (void *)fresh(sizeof *step);
+    uint8_t *buf = fresh(SIZE);
+    const uint8_t *part;
+    size_t part_len;
+    for (uint32_t bit = 17; bit < 31; bit++) {
+        *step = 3 + (UINT32_C(1) << bit);
+        EXPECT(lepugaso_view(file, sizeof few, 2, step, 1, buf, SIZE, &part, &part_len), LEPUGASO_REFUSED_INDEX, 0, 0);
+        EXPECT(lepugaso_set(file, sizeof few, 2, step, 1, 7, buf, SIZE), LEPUGASO_REFUSED_INDEX, 0, 0);
+    }
+    for (uint32_t bit = 10; bit < 31; bit++) {
+        *step = M(3 + (UINT32_C(1) << bit));
+        EXPECT(lepugaso_view(large, LENGTH, LAST, step, 1, buf, SIZE, &part, &part_len), LEPUGASO_REFUSED_MEMBER_STEP, 0, 0);
+        EXPECT(lepugaso_set(large, LENGTH, LAST, step, 1, 7, buf, SIZE), LEPUGASO_REFUSED_MEMBER_STEP, 0, 0);
+    }
+    *step = 65536 + 3;
+    EXPECT(lepugaso_view(file, sizeof few, 2, step, 1, buf, SIZE, &part, &part_len), 0, 0, 4 * (65536 + 3));
+    HOLDS(part == buf + 4 * (65536 + 3) && part_len == 4);
+    EXPECT(lepugaso_set(file, sizeof few, 2, step, 1, 7, buf, SIZE), 0, 0, 4 * (65536 + 3));
+    HOLDS(buf[4 * 3] == 0 && buf[4 * (65536 + 3)] == 7);
+}
+
+/* Lengths of which the low bits alone, up to the 32nd, would give another answer. */
+static void long_lengths(const uint8_t *file, const uint8_t *large) {
+    const size_t most = ((size_t)1 << 32) + STEPS;
+    uint32_t word = 7, *many = (void *)far(most * sizeof *many);
+    uint8_t *buf = fresh(SIZE), *bytes = (uint8_t *)many;
+    const uint8_t *part;
+    size_t part_len;
+    for (uint32_t bit = 2; bit < 32; bit++) {
+        size_t length = (size_t)1 << bit;
+        EXPECT(lepugaso_write(file, sizeof few, 1, &word, 1, bytes, length), 0, 0, 4);
+        EXPECT(lepugaso_read(file, sizeof few, 1, bytes, length, &word, 1), 0, 0, 1);
+        EXPECT(lepugaso_view(file, sizeof few, 1, NULL, 0, bytes, length, &part, &part_len), 0, 0, 0);
+        HOLDS(part == bytes && part_len == 4);
+        EXPECT(lepugaso_set(file, sizeof few, 1, NULL, 0, 7, bytes, length), 0, 0, 0);
+    }
+    size_t length = ((size_t)1 << 32) + 4;
+    EXPECT(lepugaso_write(file, sizeof few, 1, &word, 1, bytes, length), LEPUGASO_REFUSED_LONG_BUFFER, 0, 0);
+    EXPECT(lepugaso_read(file, sizeof few, 1, bytes, length, &word, 1), LEPUGASO_REFUSED_LONG_BUFFER, 0, 0);
+    EXPECT(lepugaso_view(file, sizeof few, 1, NULL, 0, bytes, length, &part, &part_len), LEPUGASO_REFUSED_LONG_BUFFER, 0, 0);
+    EXPECT(lepugaso_set(file, sizeof few, 1, NULL, 0, 7, bytes, length), LEPUGASO_REFUSED_LONG_BUFFER, 0, 0);
+
+    memcpy(buf, "abcd", 4);
+    for (uint32_t bit = 0; bit <= 32; bit++) {
+        size_t count = (size_t)1 << bit;
+        EXPECT(lepugaso_write(file, sizeof few, 1, many, 1 + count, buf, 4), LEPUGASO_REFUSED_WORDS, 0, 0);
+        EXPECT(lepugaso_read(file, sizeof few, 1, buf, 4, many, count), 0, 0, 1);
+        HOLDS(memcmp(many, "abcd", 4) == 0); /* as a number no entry's */
+        EXPECT(lepugaso_common(file, sizeof few, many, count), LEPUGASO_REFUSED_ENTRY, 0, 0);
+    }
+    memcpy(many, path, sizeof path);
+    for (uint32_t bit = 0; bit <= 32; bit++) {
+        size_t count = STEPS + ((size_t)1 << bit);
+        EXPECT(lepugaso_view(large, LENGTH, LAST, many, count, buf, SIZE, &part, &part_len), LEPUGASO_REFUSED_INDEX_STEP, STEPS, 0);
+        EXPECT(lepugaso_set(large, LENGTH, LAST, many, count, 7, buf, SIZE), LEPUGASO_REFUSED_INDEX_STEP, STEPS, 0);
+    }
+}
+
+int main(void) {
+    /* What lies before the types is not looked at, so a file's length may have more than 16 bits, and more than 32. */
+    static const uint32_t starts[] = {0, 65536, UINT32_MAX};
+    const uint8_t *file = lent(few, sizeof few), *large = large_file(0);
+    fill_rows();
+    fill_path();
+    for (size_t k = 0; k < 3; k++) {
+        const uint8_t *at = large_file(starts[k]);
+        size_t length = starts[k] + (size_t)LENGTH;
+        questions(at, length);
+        many_words(at, length);
+        many_steps(at, length);
+        no_entries(at, length);
+    }
+    long_lists(file);
+    large_steps(file, large);
+    long_lengths(file, large);
+    return failures != 0;
+}
