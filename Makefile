@@ -3,7 +3,8 @@
 
 # The C interface for x86-64: target/shim/liblepugaso.a and .so, under shim/include/lepugaso.h.
 shim: target/shim/liblepugaso.so
-target/shim/liblepugaso.so: crates.txt tools/shim $(shell find crates shim/src -name '*.rt' -o -name '*.antt' -o -name '*.rs')
+target/shim/liblepugaso.so: crates.txt tools/shim tools/shim-object \
+    $(shell find crates shim/src -name '*.rt' -o -name '*.antt' -o -name '*.rs')
 	@tools/shim
 
 # The main job of a host program: lay out the limits block of a receiver board, in C.
