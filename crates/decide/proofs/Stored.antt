@@ -4,7 +4,6 @@ use Prim.Native.Nat.{ℕ, _≤_}
 use mathlib.Core.Bool.{Bool, true, false, not}
 use mathlib.Core.List.{List}
 use mathlib.Core.Path.{_≡_, refl, ap, sym, _∙_}
-use borrow.Author.Tests.{leb-true}
 use lib.ListN.{length}
 use Rattle.wgsl.specs.Round.{limit, withinLimit}
 use Rattle.wgsl.specs.Types.{Ty}
@@ -37,4 +36,4 @@ module _ (f : List ℕ) (e : ℕ) (b : List ℕ) (t : Ty) where
   stored-allowed h a =
       let is : storedEntry f e b ≡ good t = stored-steps h ∙ next-is (good t) (sym a) in
       let s = stored-good is in
-      (is, s .storable, leb-true (length b) 4294967295 (s .within))
+      (is, s .storable, s .within)

@@ -21,8 +21,8 @@ use Rattle.wgsl.specs.File.{checkTrailer}
 use Rattle.wgsl.specs.Rule.{isWellFormed, typesOf}
 use Rattle.wgsl.specs.Call.{checkOf}
 use Rattle.wgsl.specs.Listing.{orDash, entryLine, entryLines, refusedLine, listed, inputLimit, listingOf}
-use Rattle.wgsl.proofs.Said.{good-not-refused, then-good, then-cases, refuse-cases}
-use Rattle.wgsl.proofs.Accepted.{accepted, accepted-well-formed, below-lowest}
+use Rattle.wgsl.proofs.Said.{then-good, then-cases, good-not-refused}
+use Rattle.wgsl.proofs.Accepted.{accepted, accepted-well-formed, refused-place}
 use Rattle.wgsl.proofs.Entry.{size-positive, align-positive}
 use Rattle.file.specs.Refusal.{numberOf, placeOf}
 use Rattle.file.specs.declared.refusal.Refusal.{Refusal}
@@ -32,7 +32,6 @@ use Rattle.kinds.specs.declared.value.Layout.{Layout}
 use Rattle.table.specs.Table.{layoutsOf, acceptedTrailer, saidChecked}
 use Rattle.table.specs.declared.Checked.{Checked}
 use Rattle.table.specs.declared.Checked.the-variants.{Types, Refused}
-use Rattle.table.proofs.Judging.{trailed}
 use Rattle.layout.proofs.Asks.{check-types, check-refused}
 use Rattle.text.specs.Put.{Put, marked, line, heading}
 use Rattle.text.proofs.Lines.{marked-absent, marked-number}
@@ -124,22 +123,6 @@ listing-is : (f : List ℕ) {s : Said (List Ty)} → length f ≤ 65_536 → typ
 unfolding listingOf inputLimit
 listing-is f h e = rw (le-ltb 65_536 (length f) h, e)
 
--- A refusal of the trailer has no place.
-trailer-place : {number place : ℕ} (f : List ℕ) → checkTrailer f ≡ refused number place → place ≡ 0
-unfolding checkTrailer
-trailer-place f e =
-    refuse-cases 1 0 _ _ e (λ q. cc) (λ h₁.
-    refuse-cases 2 0 _ _ h₁ (λ q. cc) (λ h₂.
-    refuse-cases 3 0 _ _ h₂ (λ q. cc) (λ h₃.
-    refuse-cases 4 0 _ _ h₃ (λ q. cc) (λ h₄. good-not-refused refl h₄))))
-
--- The place of a refusal is an entry, and there are at most 256.
-refused-place : {number place : ℕ} (f : List ℕ) → typesOf f ≡ refused number place → place < 256
-unfolding typesOf
-refused-place f e =
-    then-cases _ _ e (λ h. omega (arith, trailer-place f h)) (λ h.
-    omega (arith, trailed f (h .value) (h .first) .high, below-lowest f (h .value .types) (h .after) .low))
-
 module _ (f : List ℕ) (a : Checked) (says : saidChecked a ≡ acceptedTrailer f) (short : length f ≤ 65_536) where
   pub listing-types : (t : Trailer) → a ≡ Types t → {ls : List Layout} → ls ≡ layoutsOf (typesOf f) → (ts : List Ty) × Entries ls (t .types) ts × (listingOf f ≡ listed (good ts))
   unfolding checkOf
@@ -151,7 +134,7 @@ module _ (f : List ℕ) (a : Checked) (says : saidChecked a ≡ acceptedTrailer 
         record {
           layouts = same ∙ ap layoutsOf (x .first);
           count = count;
-          few = omega (arith, y .count, y .types-high);
+          few = omega (arith, y .count, y .trailer-good .high);
           well-formed = accepted-well-formed f (x .value) (x .first);
         },
         listing-is f short (x .first),

@@ -11,7 +11,7 @@ use mathlib.Core.Path.{_≡_, refl, sym, ap, _∙_}
 use native.Mathlib.Omega.{arith}
 use Rattle.wgsl.specs.Round.{up, limit}
 use Rattle.wgsl.specs.Types.{Ty, scalar, vector, matrix, array, runtime, atomic, struct, Members, no-more, member, isRuntime, endsInRuntime, isOpen, everywhere, everyMember}
-use Rattle.wgsl.specs.Size.{both, isPresent, present, vectorSize, startAfter, endAfter, sizeOf, alignOf, membersEnd, numbersOf, hasLayout, isStorable}
+use Rattle.wgsl.specs.Size.{both, isPresent, present, vectorSize, startAfter, endAfter, sizeOf, alignOf, membersEnd, numbersOf, hasLayout, isStorable, memberEnd}
 use Rattle.wgsl.specs.Rule.{isLast, isAllowed, isWellFormed, membersAllowed, membersGivenFit}
 use Rattle.wgsl.specs.Place.{wordCount}
 use Rattle.wgsl.proofs.Absent.{true-not-false, some-present, present-is, given-present}
@@ -36,7 +36,7 @@ end-there lo align size a z p q = rw (p, q)
 
 -- Members that end in no runtime array end somewhere.
 members-sized : (lo : ℕ) (b : Bool) (ms : Members) → everyMember isWellFormed ms ≡ true → membersAllowed ms ≡ true → membersGivenFit ms ≡ true → endsInRuntime b ms ≡ false → (z : ℕ) × (membersEnd (some lo) ms ≡ some z)
-unfolding membersEnd endsInRuntime
+unfolding membersEnd endsInRuntime memberEnd
 members-sized lo b no-more w ok g e = (lo, refl)
 members-sized lo b (member t size align ms) w ok g e =
     let m = first-member t size align ms w ok g in

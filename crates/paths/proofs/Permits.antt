@@ -15,8 +15,9 @@ use Rattle.wgsl.specs.Size.{isPresent, hasLayout}
 use Rattle.wgsl.specs.Said.{Said, good, refused, _>>=_, _>>_, refuse}
 use Rattle.wgsl.specs.Rule.{isWellFormed}
 use Rattle.wgsl.specs.Call.{entryOf, laidEntry, storedEntry}
+use Rattle.wgsl.specs.Claim.{LaidOut}
 use Rattle.wgsl.proofs.Said.{refuse-good, next-is, good-not-refused}
-use Rattle.wgsl.proofs.Call.{LaidOut, laid-good, stored-good}
+use Rattle.wgsl.proofs.Call.{laid-good, stored-good}
 use Rattle.kinds.specs.declared.value.Layout.{Layout}
 use Rattle.kinds.specs.Value.{valueOf}
 use Rattle.over.proofs.Presence.{unaligned}

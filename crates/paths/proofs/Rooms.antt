@@ -8,7 +8,6 @@ use mathlib.Core.List.{List, [], map}
 use mathlib.Core.Path.{_≡_, refl, ap, sym}
 use native.Mathlib.Omega.{arith}
 use native.Mathlib.Nat.{add-sub-cancel-left}
-use borrow.Author.Tests.{leb-true}
 use lib.ListN.{length, take, drop}
 use Rattle.wgsl.specs.Round.{limit, withinLimit}
 use Rattle.wgsl.specs.Said.{Said, good, refused}
@@ -53,7 +52,7 @@ module _ (stored : Bool) (f : List ℕ) (e : ℕ) (path b : List ℕ) where
         is = is;
         sound = i .0;
         inside = omega (arith, i .2, x .1, short-no t b (short .0));
-        within = leb-true (length b) limit (laid .within);
+        within = laid .within;
       }
 
   -- the target that the code has

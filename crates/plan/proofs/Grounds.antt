@@ -33,7 +33,7 @@ members-part f t e =
 -- It lies inside the file.
 members-inside : (f : List ℕ) (ts : List Ty) (t : Ty) → typesOf f ≡ good ts → (groundOf f t .start ≤ groundOf f t .end) × (groundOf f t .end ≤ length f)
 unfolding groundOf membersStart lengthBy trailerLength typeEntryLength memberEntryLength
-members-inside f ts t e = (omega arith, omega (arith, accepted f ts e .length-is))
+members-inside f ts t e = (omega arith, omega (arith, accepted f ts e .trailer-good .long))
 
 -- ---- an entry that is there
 
@@ -62,7 +62,7 @@ entry-found f e g p =
       there = there;
       entry-is = x .first;
       ground-is = ground;
-      few = omega (arith, getElem-low (y .value) e there, a .count, a .types-high);
+      few = omega (arith, getElem-low (y .value) e there, a .count, a .trailer-good .high);
       bytes-inside = rw ground (members-inside f (y .value) (x .value) (y .first));
     }
 

@@ -31,7 +31,7 @@ unfolding memberBytes membersStart lengthBy trailerLength typeEntryLength member
 length-memberBytes f ts e =
     let a = accepted f ts e in
     length-take-le (12 * trailerOf f .members) (drop (trailerOf f .start + 12 * trailerOf f .types) f)
-    (rw length-drop (omega (arith, a .length-is)))
+    (rw length-drop (omega (arith, a .trailer-good .long)))
 
 entry-same-parts : (a b : MemberEntry) → a .type ≡ b .type → a .flags ≡ b .flags → a .size ≡ b .size → a .align ≡ b .align → a ≡ b
 entry-same-parts a b p q r s = rw (p, q, r, s)

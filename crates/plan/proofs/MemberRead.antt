@@ -14,7 +14,7 @@ use lib.Dec.{leb}
 use lib.ListN.{length, take, getElem?}
 use Rattle.wgsl.specs.Round.{up, limit, withinLimit}
 use Rattle.wgsl.specs.Types.{Ty, struct, Members, no-more, member, everywhere, everyMember}
-use Rattle.wgsl.specs.Size.{both, isPresent, present, givenOr, startAfter, endAfter, sizeOf, alignOf, minSizeOf, offsetsOf, innerNumbersOf, numbersOf, withinLimits, fitsLimit}
+use Rattle.wgsl.specs.Size.{both, isPresent, present, givenOr, startAfter, endAfter, sizeOf, alignOf, minSizeOf, offsetsOf, innerNumbersOf, numbersOf, withinLimits, fitsLimit, memberStart, memberEnd}
 use Rattle.wgsl.specs.Said.{good}
 use Rattle.wgsl.specs.File.{trailerOf, MemberEntry, memberEntryAt, givenSize, givenAlign, typeEntryAt}
 use Rattle.wgsl.specs.Rule.{isLast, lower, membersFrom, membersAllowed, isWellFormed, membersGivenFit, typesOf}
@@ -66,18 +66,18 @@ module _ {end : Option ℕ} {t : Ty} {size align : Option ℕ} {ms : Members} (x
   first-ruled = first-member t size align ms (x .well) (x .allowed) (x .given)
 
   -- and of those after the first.
-  pub rest-ruled : Ruled (endAfter end (givenOr align (alignOf t)) (givenOr size (sizeOf t))) ms
+  pub rest-ruled : Ruled (memberEnd end align (alignOf t) size (sizeOf t)) ms
   unfolding offsetsOf
   rest-ruled =
       record {
         well = first-ruled .rest-well;
         allowed = first-ruled .rest-allowed;
         given = first-ruled .rest-fits;
-        within = limits-rest (startAfter end (givenOr align (alignOf t))) _ (x .within);
+        within = limits-rest (memberStart end align (alignOf t)) _ (x .within);
       }
 
 start-within : {lo a : ℕ} {t : Ty} {size align : Option ℕ} {ms : Members} → Ruled (some lo) (member t size align ms) → givenOr align (alignOf t) ≡ some a → up a lo ≤ limit
-unfolding offsetsOf
+unfolding offsetsOf memberStart
 start-within {lo} {a} {t} {align = align} x e =
     limits-first (up a lo) _ (rw (start-is lo a (givenOr align (alignOf t)) e) at (x .within))
 
@@ -154,16 +154,16 @@ module _ {f : List ℕ} {ts : List Ty} {rows : List ℕ} {e m : ℕ} {t : Ty} (r
         record { inside = r .inside; row-inside = r .row-inside; power = rw al (p .is-power); low = rw al (start-within x is) }
 
     -- It starts where the rules say,
-    pub first-start : placedAt (memberBytes f) rows m lo .start ≡ present (startAfter (some lo) (givenOr (givenAlign (memberEntryAt f m)) (alignOf t)))
-    unfolding placedAt
+    pub first-start : placedAt (memberBytes f) rows m lo .start ≡ present (memberStart (some lo) (givenAlign (memberEntryAt f m)) (alignOf t))
+    unfolding placedAt memberStart
     first-start =
         let (a, is, al) = aligned in
         let start = start-is lo a (givenOr (givenAlign (memberEntryAt f m)) (alignOf t)) is in
         ap (λ (n : ℕ). up n lo) al ∙ sym (ap present start ∙ present-is (up a lo))
 
     -- and ends there, if it has a size.
-    pub first-end : isPresent (sizeOf t) ≡ true → endAfter (some lo) (givenOr (givenAlign (memberEntryAt f m)) (alignOf t)) (givenOr (givenSize (memberEntryAt f m)) (sizeOf t)) ≡ some (placedAt (memberBytes f) rows m lo .end)
-    unfolding placedAt endAfter startAfter both
+    pub first-end : isPresent (sizeOf t) ≡ true → memberEnd (some lo) (givenAlign (memberEntryAt f m)) (alignOf t) (givenSize (memberEntryAt f m)) (sizeOf t) ≡ some (placedAt (memberBytes f) rows m lo .end)
+    unfolding placedAt memberEnd endAfter startAfter both
     first-end q =
         let (a, is, al) = aligned in
         let own = present-some (sizeOf t) q in

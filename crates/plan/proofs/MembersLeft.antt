@@ -11,7 +11,7 @@ use mathlib.Core.Path.{_≡_}
 use native.Mathlib.Omega.{arith}
 use lib.ListN.{take, getElem?}
 use Rattle.wgsl.specs.Types.{Ty, Members, no-more, member, isRuntime, everywhere, everyMember}
-use Rattle.wgsl.specs.Size.{isPresent, present, givenOr, startAfter, endAfter, sizeOf, alignOf, isPlain}
+use Rattle.wgsl.specs.Size.{isPresent, present, sizeOf, alignOf, isPlain, memberStart, memberEnd}
 use Rattle.wgsl.specs.Said.{good}
 use Rattle.wgsl.specs.File.{trailerOf, memberEntryAt, givenSize, givenAlign}
 use Rattle.wgsl.specs.Rule.{isLast, membersFrom, typesOf}
@@ -42,7 +42,7 @@ module _ {end : Option ℕ} {z : ℕ} {t : Ty} {size align : Option ℕ} {ms : M
         plain = both-hold (everywhere isPlain t) (everyMember isPlain ms) (x .plain) .0;
       }
 
-  rest-fine : Fine (endAfter end (givenOr align (alignOf t)) (givenOr size (sizeOf t))) z ms
+  rest-fine : Fine (memberEnd end align (alignOf t) size (sizeOf t)) z ms
   unfolding everyMember fieldsOf Sound
   rest-fine =
       record {
@@ -52,11 +52,11 @@ module _ {end : Option ℕ} {z : ℕ} {t : Ty} {size align : Option ℕ} {ms : M
       }
 
   -- It ends where those after it end, or before.
-  rest-within : present (startAfter end (givenOr align (alignOf t))) + spanOf (shapeOf 0 t) ≤ spanOf (fieldsOf 0 z (endAfter end (givenOr align (alignOf t)) (givenOr size (sizeOf t))) ms)
+  rest-within : present (memberStart end align (alignOf t)) + spanOf (shapeOf 0 t) ≤ spanOf (fieldsOf 0 z (memberEnd end align (alignOf t) size (sizeOf t)) ms)
   unfolding fieldsOf Sound
   rest-within =
-      let rest = fieldsOf 0 z (endAfter end (givenOr align (alignOf t)) (givenOr size (sizeOf t))) ms in
-      let lo = present (startAfter end (givenOr align (alignOf t))) + spanOf (shapeOf 0 t) in
+      let rest = fieldsOf 0 z (memberEnd end align (alignOf t) size (sizeOf t)) ms in
+      let lo = present (memberStart end align (alignOf t)) + spanOf (shapeOf 0 t) in
       let o = rest-ordered rest 0 lo (x .sound .1) (x .sound .2) in
       omega (arith, ordered-span (placesOf rest 0) (0 + lo) (0 + spanOf rest) o)
 
@@ -68,7 +68,7 @@ module _ (f : List ℕ) (ts : List Ty) (rows : List ℕ) (k : ℕ) (good-file : 
       let size = givenSize (memberEntryAt f m) in
       let align = givenAlign (memberEntryAt f m) in
       let start = first-start r (x .ruled) in
-      let rest : Shape = fieldsOf 0 z (endAfter (some lo) (givenOr align (alignOf t)) (givenOr size (sizeOf t))) ms in
+      let rest : Shape = fieldsOf 0 z (memberEnd (some lo) align (alignOf t) size (sizeOf t)) ms in
       let here : Member (memberBytes f) rows e m lo (shapeOf 0 t) rest =
       record {
         placeable = first-placeable r (x .ruled);

@@ -11,7 +11,7 @@ use mathlib.Core.Path.{_≡_, refl, sym, ap}
 use native.Mathlib.Omega.{arith}
 use Rattle.wgsl.specs.Round.{withinLimit}
 use Rattle.wgsl.specs.Types.{Ty, Members, no-more, member, isRuntime, endsInRuntime, everywhere, everyMember}
-use Rattle.wgsl.specs.Size.{both, givenOr, startAfter, endAfter, sizeOf, alignOf, membersAlign, membersEnd, offsetsOf, withinLimits}
+use Rattle.wgsl.specs.Size.{both, givenOr, sizeOf, alignOf, membersAlign, membersEnd, offsetsOf, withinLimits, memberStart, memberEnd}
 use Rattle.wgsl.specs.Rule.{countOf, memberAllowed, givenSizeFits, givenAlignFits, membersGivenFit}
 use Rattle.wgsl.specs.Place.{Tail, tailAt, membersTail}
 use Rattle.kinds.specs.Value.{fixedWords}
@@ -36,17 +36,17 @@ max-assoc none b c = refl
 module _ (t : Ty) (size align : Option ℕ) where
   -- ---- where they end and start
 
-  pub after-end : (end : Option ℕ) (ms : Members) → membersEnd end (after ms t size align) ≡ endAfter (membersEnd end ms) (givenOr align (alignOf t)) (givenOr size (sizeOf t))
+  pub after-end : (end : Option ℕ) (ms : Members) → membersEnd end (after ms t size align) ≡ memberEnd (membersEnd end ms) align (alignOf t) size (sizeOf t)
   unfolding after membersEnd
   after-end end no-more = refl
-  after-end end (member u z a ms) = after-end (endAfter end (givenOr a (alignOf u)) (givenOr z (sizeOf u))) ms
+  after-end end (member u z a ms) = after-end (memberEnd end a (alignOf u) z (sizeOf u)) ms
 
-  pub after-offsets : (end : Option ℕ) (ms : Members) → offsetsOf end (after ms t size align) ≡ offsetsOf end ms ++ (startAfter (membersEnd end ms) (givenOr align (alignOf t)) ∷ [])
+  pub after-offsets : (end : Option ℕ) (ms : Members) → offsetsOf end (after ms t size align) ≡ offsetsOf end ms ++ (memberStart (membersEnd end ms) align (alignOf t) ∷ [])
   unfolding after offsetsOf membersEnd
   after-offsets end no-more = refl
   after-offsets end (member u z a ms) =
-      ap (λ (os : List (Option ℕ)). startAfter end (givenOr a (alignOf u)) ∷ os)
-      (after-offsets (endAfter end (givenOr a (alignOf u)) (givenOr z (sizeOf u))) ms)
+      ap (λ (os : List (Option ℕ)). memberStart end a (alignOf u) ∷ os)
+      (after-offsets (memberEnd end a (alignOf u) z (sizeOf u)) ms)
 
   -- ---- their alignment
 
@@ -58,12 +58,12 @@ module _ (t : Ty) (size align : Option ℕ) where
 
   -- ---- their tail
 
-  pub after-tail : (before : Option Tail) (end : Option ℕ) (ms : Members) → membersTail before end (after ms t size align) ≡ tailAt (startAfter (membersEnd end ms) (givenOr align (alignOf t))) t
+  pub after-tail : (before : Option Tail) (end : Option ℕ) (ms : Members) → membersTail before end (after ms t size align) ≡ tailAt (memberStart (membersEnd end ms) align (alignOf t)) t
   unfolding after membersTail membersEnd
   after-tail before end no-more = refl
   after-tail before end (member u z a ms) =
-      after-tail (tailAt (startAfter end (givenOr a (alignOf u))) u)
-      (endAfter end (givenOr a (alignOf u)) (givenOr z (sizeOf u))) ms
+      after-tail (tailAt (memberStart end a (alignOf u)) u)
+      (memberEnd end a (alignOf u) z (sizeOf u)) ms
 
   pub after-runtime : (before : Bool) (ms : Members) → endsInRuntime before (after ms t size align) ≡ isRuntime t
   unfolding after endsInRuntime

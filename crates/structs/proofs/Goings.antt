@@ -9,7 +9,7 @@ use mathlib.Core.Path.{_≡_, refl, sym, ap, _∙_}
 use native.Mathlib.Omega.{arith}
 use Rattle.wgsl.specs.Round.{up}
 use Rattle.wgsl.specs.Types.{Ty, struct, Members, no-more, member, isRuntime, endsInRuntime, isOpen, everywhere, everyMember}
-use Rattle.wgsl.specs.Size.{both, givenOr, isPresent, startAfter, endAfter, sizeOf, alignOf, membersAlign, membersEnd, hasLayout}
+use Rattle.wgsl.specs.Size.{both, givenOr, isPresent, startAfter, endAfter, sizeOf, alignOf, membersAlign, membersEnd, hasLayout, memberEnd}
 use Rattle.wgsl.specs.Rule.{memberAllowed, givenSizeFits, givenAlignFits, membersGivenFit, isWellFormed}
 use Rattle.wgsl.specs.Place.{membersTail, tailOf, wordCount}
 use Rattle.wgsl.proofs.Absent.{both-hold, some-not-none, present-some, given-present, some-present}
@@ -79,7 +79,7 @@ unfolding endAfter startAfter both
 next-end e f g = rw (e, f, g)
 
 pub going-end : (lo : ℕ) (ms : Members) → allSized ms ≡ true → (z : ℕ) × (membersEnd (some lo) ms ≡ some z)
-unfolding membersEnd
+unfolding membersEnd memberEnd
 going-end lo no-more e = (lo, refl)
 going-end lo (member t size align ms) e =
     let f = first-sized t size align ms e in

@@ -12,7 +12,7 @@ use native.Mathlib.Omega.{arith}
 use borrow.Author.Tests.{leb-true}
 use Rattle.wgsl.specs.Round.{up, limit, withinLimit}
 use Rattle.wgsl.specs.Types.{Ty, scalar, vector, matrix, array, runtime, atomic, struct, Members, isRuntime, endsInRuntime, isOpen, everyMember}
-use Rattle.wgsl.specs.Size.{both, givenOr, isPresent, present, startAfter, endAfter, sizeOf, alignOf, membersAlign, membersEnd, isPlain, hasLayout, isStorable}
+use Rattle.wgsl.specs.Size.{both, givenOr, isPresent, present, endAfter, sizeOf, alignOf, membersAlign, membersEnd, isPlain, hasLayout, isStorable, memberStart, memberEnd}
 use Rattle.wgsl.specs.File.{MemberEntry, sizeIsGiven, alignIsGiven, givenSize, givenAlign}
 use Rattle.wgsl.specs.Rule.{memberAllowed}
 use Rattle.wgsl.specs.Place.{tailAt, membersTail, wordCount}
@@ -160,15 +160,15 @@ module _ (p : Ends) (l : Layout) (m : MemberEntry) (ms : Members) (t : Ty) (j : 
         ap present (after-align t (givenSize m) (givenAlign m) ms) ∙ rw (most-known, align-known al al-is)
 
     open-ends : l .opens ≡ true → endsOf (followed ms t m) ≡ record { end = 0; align = max (p .align) al; stride = l .stride; offset = up al (p .end); words = p .words; opens = true; storable = p .storable && l .storable }
-    unfolding endsOf present tailStride tailOffset valueOf endAfter
+    unfolding endsOf present tailStride tailOffset valueOf memberStart memberEnd endAfter
     open-ends o =
-        let start : startAfter (membersEnd (some 0) ms) (givenOr (givenAlign m) (alignOf t)) ≡ some (up al (p .end)) = next-start end-known (align-known al al-is) in
+        let start : memberStart (membersEnd (some 0) ms) (givenAlign m) (alignOf t) ≡ some (up al (p .end)) = next-start end-known (align-known al al-is) in
         let tail : membersTail none (some 0) (followed ms t m) ≡ some (record { offset = up al (p .end); stride = present (elementStride t) }) =
         after-tail t (givenSize m) (givenAlign m) none (some 0) ms
         ∙ rw start (runtime-tail-at (some (up al (p .end))) t (open-runtime o)) in
         let end : membersEnd (some 0) (followed ms t m) ≡ none =
         after-end t (givenSize m) (givenAlign m) (some 0) ms
-        ∙ rw (open-unsized o) (both-none _+_ (startAfter (membersEnd (some 0) ms) (givenOr (givenAlign m) (alignOf t)))) in
+        ∙ rw (open-unsized o) (both-none _+_ (memberStart (membersEnd (some 0) ms) (givenAlign m) (alignOf t))) in
         let runs : endsInRuntime false (followed ms t m) ≡ true = after-runtime t (givenSize m) (givenAlign m) false ms ∙ open-runtime o in
         let without : l .words ≡ 0 = ap (λ (x : Layout). x .words) (j .layout) ∙ runtime-words t (open-runtime o) in
         let words : wordsOfMembers (followed ms t m) ≡ p .words = omega (arith, new-words) in
@@ -176,7 +176,7 @@ module _ (p : Ends) (l : Layout) (m : MemberEntry) (ms : Members) (t : Ty) (j : 
         rw (tail, end, new-align, runs, words, new-storable, stride)
 
     closed-ends : l .opens ≡ false → (z : ℕ) → z ≡ cond (sizeIsGiven m) (m .size) (l .size) → endsOf (followed ms t m) ≡ record { end = up al (p .end) + z; align = max (p .align) al; stride = 0; offset = 0; words = p .words + l .words; opens = false; storable = p .storable && l .storable }
-    unfolding endsOf present tailStride tailOffset
+    unfolding endsOf present tailStride tailOffset memberEnd
     closed-ends o z z-is =
         let end : membersEnd (some 0) (followed ms t m) ≡ some (up al (p .end) + z) =
         after-end t (givenSize m) (givenAlign m) (some 0) ms

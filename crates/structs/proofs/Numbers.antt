@@ -15,7 +15,7 @@ use lib.Dec.{eqb, leb}
 use lib.Pow.{pow-pos}
 use Rattle.wgsl.specs.Round.{up, powerBelow, isPower, limit, withinLimit}
 use Rattle.wgsl.specs.Types.{Ty, struct, Members, no-more, member, isRuntime, endsInRuntime, everywhere, everyMember}
-use Rattle.wgsl.specs.Size.{both, givenOr, isPresent, startAfter, endAfter, sizeOf, alignOf, membersAlign, membersEnd, offsetsOf, numbersOf, withinLimits, fitsLimit, minSizeOf, innerNumbersOf}
+use Rattle.wgsl.specs.Size.{both, givenOr, isPresent, startAfter, endAfter, sizeOf, alignOf, membersAlign, membersEnd, offsetsOf, numbersOf, withinLimits, fitsLimit, minSizeOf, innerNumbersOf, memberStart, memberEnd}
 use Rattle.wgsl.specs.Rule.{isLast, givenSizeFits, givenAlignFits, isMultiple, membersAllowed, membersGivenFit, isWellFormed}
 use Rattle.wgsl.proofs.Absent.{both-hold, either-holds, true-not-false, some-present, both-none, given-present}
 use Rattle.wgsl.proofs.Entry.{number-limit}
@@ -71,13 +71,13 @@ aligned-positive ms a w g e = power-positive (members-power ms a w g e)
 
 -- The end of members that end in a runtime array is absent.
 pub open-end : (end : Option ℕ) (b : Bool) (ms : Members) → membersGivenFit ms ≡ true → (b ≡ true → end ≡ none) → endsInRuntime b ms ≡ true → membersEnd end ms ≡ none
-unfolding membersEnd endsInRuntime membersGivenFit endAfter givenOr
+unfolding membersEnd endsInRuntime membersGivenFit memberStart memberEnd endAfter givenOr
 open-end end b no-more g h e = h e
 open-end end b (member t size align ms) g h e =
     let fits = both-hold (givenSizeFits t size && givenAlignFits t align) (membersGivenFit ms) g in
     let fit = both-hold (givenSizeFits t size) (givenAlignFits t align) (fits .0) in
-    open-end (endAfter end (givenOr align (alignOf t)) (givenOr size (sizeOf t))) (isRuntime t) ms (fits .1)
-    (λ q. rw (runtime-size t size q (fit .0), runtime-unsized t q) (both-none _+_ (startAfter end (givenOr align (alignOf t))))) e
+    open-end (memberEnd end align (alignOf t) size (sizeOf t)) (isRuntime t) ms (fits .1)
+    (λ q. rw (runtime-size t size q (fit .0), runtime-unsized t q) (both-none _+_ (memberStart end align (alignOf t)))) e
 
 -- past a runtime array, the last, comes nothing
 last-runtime : {A : Type 0} (ms : Members) (b : Bool) → isLast ms ≡ true → b ≡ true → endsInRuntime b ms ≡ false → A
@@ -92,7 +92,7 @@ end-at lo a s align size e h = rw (e, h)
 
 -- The end of other members is there.
 pub closed-end : (lo : ℕ) (b : Bool) (ms : Members) → everyMember isWellFormed ms ≡ true → membersAllowed ms ≡ true → membersGivenFit ms ≡ true → endsInRuntime b ms ≡ false → (z : ℕ) × (membersEnd (some lo) ms ≡ some z)
-unfolding membersEnd endsInRuntime
+unfolding membersEnd endsInRuntime memberEnd
 closed-end lo b no-more w ok g e = (lo, refl)
 closed-end lo b (member t size align ms) w ok g e =
     let m = first-member t size align ms w ok g in

@@ -12,7 +12,7 @@ use native.Mathlib.Omega.{arith}
 use borrow.Author.Tests.{leb-false, lt-leb}
 use Rattle.wgsl.specs.Round.{up, limit, withinLimit}
 use Rattle.wgsl.specs.Types.{Ty, Members}
-use Rattle.wgsl.specs.Size.{givenOr, endAfter, sizeOf, alignOf, membersEnd, offsetsOf, withinLimits}
+use Rattle.wgsl.specs.Size.{givenOr, endAfter, sizeOf, alignOf, membersEnd, offsetsOf, withinLimits, memberStart, memberEnd}
 use Rattle.wgsl.specs.Rule.{givenSizeFits, givenAlignFits, membersGivenFit}
 use Rattle.wgsl.proofs.Absent.{both-hold, both-none}
 use Rattle.wgsl.proofs.Round.{up-not-below}
@@ -115,7 +115,7 @@ module _ (ms : Members) (t : Ty) (size align : Option ℕ) where
   fit-given g s a = rw (after-given t size align ms, g, s, a)
 
   pub fit-after : (end aligned : ℕ) → membersEnd (some 0) ms ≡ some end → givenOr align (alignOf t) ≡ some aligned → membersFit (after ms t size align) ≡ (withinLimits (endAfter (some end) (some aligned) (givenOr size (sizeOf t)) ∷ []) && (withinLimits (offsetsOf (some 0) ms) && withinLimit (up aligned end)))
-  unfolding membersFit
+  unfolding membersFit memberStart memberEnd
   fit-after end aligned e f =
       limits-cons (membersEnd (some 0) (after ms t size align)) (offsetsOf (some 0) (after ms t size align))
       ∙ rw (

@@ -3,7 +3,7 @@
 -- In order: what a file's verdict says of the table; a table that is filled up to entry k, and its lower entries; one entry more; the
 -- whole table.
 -- Assumes nothing.
-use Prim.Native.Nat.{ℕ, zero, suc, _+_, _-_, _<_, _≤_}
+use Prim.Native.Nat.{ℕ, zero, suc, _+_, _-_, _<_, _≤_, _*_}
 use mathlib.Core.Bool.{Bool, true, false, true≢false}
 use mathlib.Core.List.{List, [], _∷_, _++_, map, map-append}
 use mathlib.Core.Option.{none, some}
@@ -16,10 +16,10 @@ use lib.ListN.{length, take, drop, set, getD, getElem?, replicate, length-set, l
 use lib.Seq.{take-suc-set, drop-set-lt, drop-drop, getD-take}
 use Rattle.wgsl.specs.Types.{Ty, everywhere}
 use Rattle.wgsl.specs.Said.{good, refused}
-use Rattle.wgsl.specs.File.{Trailer, checkTrailer}
+use Rattle.wgsl.specs.File.{Trailer, trailerLength, typeEntryLength, memberEntryLength, lengthBy, checkTrailer}
 use Rattle.wgsl.specs.Rule.{lower, isWellFormed, typeOfEntry, typesBelow, typesOf}
 use Rattle.wgsl.proofs.Said.{then-is, then-refused}
-use Rattle.wgsl.proofs.Accepted.{below-length, below-well-formed}
+use Rattle.wgsl.proofs.Accepted.{below-length, below-well-formed, Trailed, trailed}
 use Rattle.kinds.specs.Value.{valueOf, madeOf, blankLayout}
 use Rattle.kinds.specs.declared.value.Layout.{Layout}
 use Rattle.kinds.specs.declared.value.Made.{Made}
@@ -30,7 +30,7 @@ use Rattle.table.specs.declared.Checked.{Checked}
 use Rattle.table.specs.declared.Checked.the-variants.{Refused}
 use Rattle.table.specs.Table.{layoutsOf, acceptedTrailer, saidChecked, Referred}
 use Rattle.structs.specs.Run.{Lower}
-use Rattle.table.proofs.Judging.{Trailed, trailed, types-of, says, entry-laid, entry-refused}
+use Rattle.table.proofs.Judging.{types-of, says, entry-laid, entry-refused}
 
 -- ---- what a file's verdict says of the table
 
@@ -48,6 +48,7 @@ refuses f a b e = (rw a (sym (then-refused _ e)), b ∙ rw e)
 pub record Filled (f : List ℕ) (r : Trailer) (k : ℕ) (ls : List Layout) : Type 0 where
   pub checked : checkTrailer f ≡ good r
   pub trailer : Trailed f r
+  pub long : length f ≡ r .start + (12 * r .types + 12 * r .members) + 10
   pub turn : k ≤ r .types
   pub types : List Ty
   pub below : typesBelow f k ≡ good types
@@ -56,11 +57,12 @@ pub record Filled (f : List ℕ) (r : Trailer) (k : ℕ) (ls : List Layout) : Ty
   pub whole : length ls ≡ 256
 
 pub filled-none : {f : List ℕ} {r : Trailer} {b : Layout} → checkTrailer f ≡ good r → b ≡ blankLayout → Filled f r 0 (replicate 256 b)
-unfolding typesBelow
+unfolding typesBelow lengthBy typeEntryLength memberEntryLength trailerLength
 filled-none {f} {r} {b} e h =
     record {
       checked = e;
       trailer = trailed f r e;
+      long = trailed f r e .long;
       turn = omega arith;
       types = [];
       below = refl;
@@ -144,6 +146,7 @@ module _ {f : List ℕ} {r : Trailer} {k : ℕ} {ls : List Layout} (t : Filled f
       record {
         checked = t .checked;
         trailer = t .trailer;
+        long = t .long;
         turn = omega arith;
         types = t .types ++ (m .0 ∷ []);
         below = rw (add-one k) (m .1);

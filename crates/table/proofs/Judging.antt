@@ -17,8 +17,8 @@ use Rattle.wgsl.specs.Size.{fitsLimit}
 use Rattle.wgsl.specs.Said.{Said, good, refused, _>>=_, _>>_, refuse, orRefuse}
 use Rattle.wgsl.specs.File.{Trailer, trailerOf, trailerLength, lengthBy, typeEntryLength, memberEntryLength, TypeEntry, typeEntryAt, typeEntryFrom, between, checkTrailer}
 use Rattle.wgsl.specs.Rule.{when, unused, lower, scalarMade, overMade, vectorMade, matrixMade, arrayMade, runtimeMade, atomicMade, andThen, structMade, typeMade, typeOfEntry, isAllowed, givenFits, judged, typesBelow, typesOf}
-use Rattle.wgsl.proofs.Absent.{both-hold, between-true}
-use Rattle.wgsl.proofs.Said.{good-not-refused, then-is, then-refused, refuse-good}
+use Rattle.wgsl.proofs.Said.{good-not-refused, then-is, then-refused}
+use Rattle.wgsl.proofs.Accepted.{Trailed}
 use Rattle.kinds.specs.Value.{valueOf, verdictOn, madeOf}
 use Rattle.kinds.specs.declared.value.Layout.{Layout}
 use Rattle.kinds.specs.declared.value.Made.{Made}
@@ -27,34 +27,6 @@ use Rattle.table.specs.Table.{plainMade, valued}
 use Rattle.structs.specs.Run.{memberPlace}
 
 -- ---- a good trailer
-
-pub record Trailed (f : List ℕ) (r : Trailer) : Type 0 where
-  pub is : r ≡ trailerOf f
-  pub low : 1 ≤ r .types
-  pub high : r .types ≤ 256
-  pub few : r .members ≤ 1024
-  pub long : length f ≡ r .start + (12 * r .types + 12 * r .members) + 10
-
-pub trailed : (f : List ℕ) (r : Trailer) → checkTrailer f ≡ good r → Trailed f r
-unfolding checkTrailer trailerLength lengthBy typeEntryLength memberEntryLength
-trailed f r e =
-    let s = trailerOf f in
-    let one = refuse-good 1 0 _ _ e in
-    let two = refuse-good 2 0 _ _ (one .1) in
-    let three = refuse-good 3 0 _ _ (two .1) in
-    let four = refuse-good 4 0 _ _ (three .1) in
-    let is : r ≡ s = cc (four .1) in
-    let types = between 1 256 (s .types) in
-    let members = between 0 1024 (s .members) in
-    let ranges = both-hold types members (not-false (types && members) (three .0)) in
-    let range = between-true 1 256 (s .types) (ranges .0) in
-    record {
-      is = is;
-      low = rw is (range .0);
-      high = rw is (range .1);
-      few = rw is (between-true 0 1024 (s .members) (ranges .1) .1);
-      long = rw is (eqb-true (length f) (lengthBy s) (not-false (eqb (length f) (lengthBy s)) (four .0)));
-    }
 
 -- The types of a file whose trailer is good.
 pub types-of : (f : List ℕ) (r : Trailer) → checkTrailer f ≡ good r → typesOf f ≡ typesBelow f (r .types)

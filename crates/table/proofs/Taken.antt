@@ -46,8 +46,8 @@ module _ (f : List ℕ) (answer : Checked) (says : saidChecked answer ≡ accept
         trailer-is = same;
         start-is = start;
         count = a .count ∙ sym types;
-        few = omega (arith, a .types-high);
-        inside = omega (arith, a .length-is);
+        few = omega (arith, a .trailer-good .high);
+        inside = omega (arith, a .trailer-good .long);
       }
 
   -- A file that the table refuses has no types.

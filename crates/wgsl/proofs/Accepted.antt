@@ -1,7 +1,7 @@
 -- Files that are accepted, and the types of their entries (specs/Rule).
 --
--- In order: lists read by number; one entry that is judged; the types of the lowest entries; the lowest bad entry; what an entry makes
--- out of lower ones; what holds of every type within; an accepted file.
+-- In order: lists read by number; one entry that is judged, bad or good; the types of the lowest entries; the lowest bad entry; what an
+-- entry makes out of lower ones; what holds of every type within; the trailer; an accepted file.
 -- Assumes nothing.
 use Prim.Native.Nat.{ℕ, zero, suc, _<_, _≤_}
 use mathlib.Core.Bool.{Bool, true, false, cond, _&&_}
@@ -11,15 +11,16 @@ use mathlib.Core.Logic.{_⊎_, inl, inr, ⊎-elim}
 use mathlib.Core.Path.{_≡_, refl, ap, sym, _∙_}
 use native.Mathlib.Omega.{arith}
 use native.Mathlib.Nat.{eq-or-lt-of-le}
-use borrow.Author.Tests.{ltb-false, eqb-true, not-false}
+use borrow.Author.Tests.{ltb-false, eqb-true, not-true, not-false}
 use lib.Dec.{eqb, leb}
 use lib.ListN.{length, take, getElem?, length-append}
 use lib.Seq.{take-all, take-append-le}
 use Rattle.wgsl.specs.Types.{Scalar, Ty, scalar, vector, matrix, array, runtime, atomic, struct, Members, no-more, everywhere, everyMember}
 use Rattle.wgsl.specs.Size.{fitsLimit}
-use Rattle.wgsl.specs.Said.{good, refused}
-use Rattle.wgsl.specs.File.{trailerLength, trailerOf, lengthBy, TypeEntry, typeEntryAt, between, checkTrailer}
+use Rattle.wgsl.specs.Said.{Said, good, refused}
+use Rattle.wgsl.specs.File.{Trailer, trailerLength, trailerOf, lengthBy, TypeEntry, typeEntryAt, between, checkTrailer}
 use Rattle.wgsl.specs.Rule.{when, andThen, lower, membersFrom, scalarMade, vectorMade, matrixMade, arrayMade, runtimeMade, atomicMade, structMade, overMade, typeMade, typeOfEntry, isAllowed, givenFits, isWellFormed, judged, typesBelow, typesOf}
+use Rattle.wgsl.specs.Claim.{Broken, no-type, not-allowed, not-given, too-large, Lowest}
 use Rattle.wgsl.proofs.Absent.{both-hold, hold-both, between-true, some-not-none}
 use Rattle.wgsl.proofs.Said.{good-not-refused, then-good, then-cases, refuse-good, refuse-cases, orRefuse-good, orRefuse-refused, when-some, andThen-some}
 
@@ -43,6 +44,27 @@ module _ {A : Type 0} where
   getElem-cases (c ∷ l) a zero b e = inl e
   getElem-cases (c ∷ l) a (suc n) b e = getElem-cases l a n b e
 
+-- a refusal at entry k, as another's number and place
+refused-as : {f : List ℕ} {ts : List Ty} {number place n k : ℕ} → _≡_ {A = Said Ty} (refused number place) (refused n k) → Broken f ts k n → (place ≡ k) × Broken f ts k number
+refused-as {number = number} {n = n} e b = let same : number ≡ n = cc in (cc, rw same b)
+
+-- An entry that is judged bad is refused at its own place, by 5, 6 or 7 in this order: what comes before its number is not broken.
+pub judged-broken : {number place : ℕ} (f : List ℕ) (ts : List Ty) (k : ℕ) → judged f ts k ≡ refused number place → (place ≡ k) × Broken f ts k number
+unfolding judged
+judged-broken f ts k e =
+    then-cases _ _ e (λ h. let r = orRefuse-refused _ _ _ h in (r .2, rw (r .1) (no-type (r .0)))) (λ h.
+    let t = h .value in
+    let made = orRefuse-good _ _ _ (h .first) in
+    refuse-cases _ _ _ _ (h .after)
+    (λ bad q. refused-as q (not-allowed t made (not-true (isAllowed t) bad))) (λ five h₅.
+    let allowed = not-false (isAllowed t) five in
+    refuse-cases _ _ _ _ h₅
+    (λ bad q. refused-as q (not-given t made allowed (not-true (givenFits t) bad))) (λ six h₆.
+    let given = not-false (givenFits t) six in
+    refuse-cases _ _ _ _ h₆
+    (λ bad q. refused-as q (too-large t made allowed given (not-true (fitsLimit t) bad))) (λ seven h₇.
+    good-not-refused refl h₇))))
+
 -- Entry k makes the type t, which neither 5 nor 6 nor 7 refuses.
 pub record Judged (f : List ℕ) (ts : List Ty) (k : ℕ) (t : Ty) : Type 0 where
   pub made : typeOfEntry f ts k ≡ some t
@@ -55,12 +77,12 @@ pub judged-good : {f : List ℕ} {ts : List Ty} {k : ℕ} {t : Ty} → judged f 
 unfolding judged
 judged-good {f} {ts} {k} {t} e =
     let h = then-good _ _ e in
-    let five = refuse-good 5 k _ _ (h .after) in
-    let six = refuse-good 6 k _ _ (five .1) in
-    let seven = refuse-good 7 k _ _ (six .1) in
+    let five = refuse-good _ _ _ _ (h .after) in
+    let six = refuse-good _ _ _ _ (five .1) in
+    let seven = refuse-good _ _ _ _ (six .1) in
     let same : h .value ≡ t = cc (seven .1) in
     record {
-      made = cc (orRefuse-good 5 k _ (h .first));
+      made = cc (orRefuse-good _ _ _ (h .first));
       allowed = cc (not-false (isAllowed (h .value)) (five .0));
       given-fits = cc (not-false (givenFits (h .value)) (six .0));
       fits = cc (not-false (fitsLimit (h .value)) (seven .0));
@@ -74,14 +96,14 @@ judged-well-formed {t = t} j =
     (hold-both (isAllowed t) (givenFits t) (j .allowed) (j .given-fits)) (j .fits)
 
 -- the types of n + 1 entries: those of n entries, and one that is judged over them
-record Split (f : List ℕ) (n : ℕ) (ts : List Ty) : Type 0 where
-  before : List Ty
-  last : Ty
-  below : typesBelow f n ≡ good before
-  good-last : judged f before n ≡ good last
-  whole : ts ≡ before ++ (last ∷ [])
+pub record Split (f : List ℕ) (n : ℕ) (ts : List Ty) : Type 0 where
+  pub before : List Ty
+  pub last : Ty
+  pub below : typesBelow f n ≡ good before
+  pub good-last : judged f before n ≡ good last
+  pub whole : ts ≡ before ++ (last ∷ [])
 
-split : (f : List ℕ) (n : ℕ) (ts : List Ty) → typesBelow f (suc n) ≡ good ts → Split f n ts
+pub split : (f : List ℕ) (n : ℕ) (ts : List Ty) → typesBelow f (suc n) ≡ good ts → Split f n ts
 unfolding typesBelow
 split f n ts e =
     let h = then-good _ _ e in
@@ -123,24 +145,8 @@ below-entry f n ts e k l =
     let end = getElem-last (s .before) (s .last) k (below-length f k (s .before) (s .below)) in
     (s .last, first ∙ ap (λ (l : List Ty). getElem? l k) (s .whole) ∙ end, rw (← same) (s .good-last))
 
--- An entry that is judged bad is refused by 5, 6 or 7, at its own place.
-pub judged-refused : {number place : ℕ} (f : List ℕ) (ts : List Ty) (k : ℕ) → judged f ts k ≡ refused number place → (place ≡ k) × ((number ≡ 5) ⊎ ((number ≡ 6) ⊎ (number ≡ 7)))
-unfolding judged
-judged-refused f ts k e =
-    then-cases _ _ e (λ h. let r = orRefuse-refused 5 k _ h in (r .1, inl (r .0))) (λ h.
-    refuse-cases 5 k _ _ (h .after) (λ q. (cc, inl cc)) (λ h₅.
-    refuse-cases 6 k _ _ h₅ (λ q. (cc, inr (inl cc))) (λ h₆.
-    refuse-cases 7 k _ _ h₆ (λ q. (cc, inr (inr cc))) (λ h₇. good-not-refused refl h₇))))
-
--- The entry at `place` is the lowest bad one below n.
-pub record Lowest (f : List ℕ) (n number place : ℕ) : Type 0 where
-  pub low : place < n
-  pub types : List Ty
-  pub good-below : typesBelow f place ≡ good types
-  pub bad : judged f types place ≡ refused number place
-
 lowest-more : {f : List ℕ} {n number place : ℕ} → Lowest f n number place → Lowest f (suc n) number place
-lowest-more h = record { low = omega arith; types = h .types; good-below = h .good-below; bad = h .bad }
+lowest-more h = record { low = omega arith; types = h .types; good-below = h .good-below; broken = h .broken }
 
 -- The refusal of a file names its lowest bad entry.
 pub below-lowest : {number place : ℕ} (f : List ℕ) (n : ℕ) → typesBelow f n ≡ refused number place → Lowest f n number place
@@ -150,8 +156,8 @@ below-lowest {number} {place} f (suc n) e =
     then-cases _ _ e (λ h. lowest-more (below-lowest f n h)) (λ h.
     then-cases _ _ (h .after)
     (λ b.
-    let at : place ≡ n = judged-refused f (h .value) n b .0 in
-    record { low = omega arith; types = h .value; good-below = rw at (h .first); bad = cc })
+    let (at, broken) = judged-broken f (h .value) n b in
+    record { low = omega arith; types = h .value; good-below = rw at (h .first); broken = rw at broken })
     (λ g. good-not-refused refl (g .after)))
 
 -- What entry k can make over the types of the lower entries: the types within are of these, and a struct carries the number k.
@@ -242,43 +248,69 @@ below-well-formed f (suc n) ts e k t h =
     rw (← same) (made-everywhere isWellFormed f (s .before) n (s .last) (j .made) all (judged-well-formed j)))
     (getElem-cases (s .before) (s .last) k t (rw (s .whole) at h))
 
+-- A trailer that 1 to 4 do not refuse.
+pub record Trailed (f : List ℕ) (r : Trailer) : Type 0 where
+  pub is : r ≡ trailerOf f
+  pub bytes : trailerLength ≤ length f
+  pub form-is : r .form ≡ 1
+  pub low : 1 ≤ r .types
+  pub high : r .types ≤ 256
+  pub few : r .members ≤ 1024
+  pub long : length f ≡ lengthBy r
+
+pub trailed : (f : List ℕ) (r : Trailer) → checkTrailer f ≡ good r → Trailed f r
+unfolding checkTrailer
+trailed f r e =
+    let s = trailerOf f in
+    let one = refuse-good 1 0 _ _ e in
+    let two = refuse-good 2 0 _ _ (one .1) in
+    let three = refuse-good 3 0 _ _ (two .1) in
+    let four = refuse-good 4 0 _ _ (three .1) in
+    let is : r ≡ s = cc (four .1) in
+    let types = between 1 256 (s .types) in
+    let members = between 0 1024 (s .members) in
+    let ranges = both-hold types members (not-false (types && members) (three .0)) in
+    let range = between-true 1 256 (s .types) (ranges .0) in
+    rw is (record {
+      is = refl;
+      bytes = ltb-false (length f) trailerLength (one .0);
+      form-is = eqb-true (s .form) 1 (not-false (eqb (s .form) 1) (two .0));
+      low = range .0;
+      high = range .1;
+      few = between-true 0 1024 (s .members) (ranges .1) .1;
+      long = eqb-true (length f) (lengthBy s) (not-false (eqb (length f) (lengthBy s)) (four .0));
+    })
+
+-- A refusal of the trailer has no place.
+trailer-place : {number place : ℕ} (f : List ℕ) → checkTrailer f ≡ refused number place → place ≡ 0
+unfolding checkTrailer
+trailer-place f e =
+    refuse-cases _ _ _ _ e (λ bad q. cc) (λ ok h₁.
+    refuse-cases _ _ _ _ h₁ (λ bad q. cc) (λ ok h₂.
+    refuse-cases _ _ _ _ h₂ (λ bad q. cc) (λ ok h₃.
+    refuse-cases _ _ _ _ h₃ (λ bad q. cc) (λ ok h₄. good-not-refused refl h₄))))
+
+-- The place of a file's refusal is an entry, and there are at most 256.
+pub refused-place : {number place : ℕ} (f : List ℕ) → typesOf f ≡ refused number place → place < 256
+unfolding typesOf
+refused-place f e =
+    then-cases _ _ e (λ h. omega (arith, trailer-place f h)) (λ h.
+    omega (arith, trailed f (h .value) (h .first) .high, below-lowest f (h .value .types) (h .after) .low))
+
 -- The file f is accepted, and ts are the types of its entries.
 pub record Accepted (f : List ℕ) (ts : List Ty) : Type 0 where
   pub types-below : typesBelow f (trailerOf f .types) ≡ good ts
   pub count : length ts ≡ trailerOf f .types
-  pub long : trailerLength ≤ length f
-  pub form : trailerOf f .form ≡ 1
-  pub types-low : 1 ≤ trailerOf f .types
-  pub types-high : trailerOf f .types ≤ 256
-  pub members-high : trailerOf f .members ≤ 1024
-  pub length-is : length f ≡ lengthBy (trailerOf f)
+  pub trailer-good : Trailed f (trailerOf f)
 
 -- Where the verdict on a file is its types, the trailer is as it should be and every entry is good.
 pub accepted : (f : List ℕ) (ts : List Ty) → typesOf f ≡ good ts → Accepted f ts
-unfolding typesOf checkTrailer
+unfolding typesOf
 accepted f ts e =
     let h = then-good _ _ e in
-    let r = trailerOf f in
-    let one = refuse-good 1 0 _ _ (h .first) in
-    let two = refuse-good 2 0 _ _ (one .1) in
-    let three = refuse-good 3 0 _ _ (two .1) in
-    let four = refuse-good 4 0 _ _ (three .1) in
-    let same : r ≡ h .value = cc (four .1) in
-    let below : typesBelow f (r .types) ≡ good ts = rw same (h .after) in
-    let types = between 1 256 (r .types) in
-    let members = between 0 1024 (r .members) in
-    let ranges = both-hold types members (not-false (types && members) (three .0)) in
-    let range = between-true 1 256 (r .types) (ranges .0) in
-    record {
-      types-below = below;
-      count = below-length f (r .types) ts below;
-      long = ltb-false (length f) trailerLength (one .0);
-      form = eqb-true (r .form) 1 (not-false (eqb (r .form) 1) (two .0));
-      types-low = range .0;
-      types-high = range .1;
-      members-high = between-true 0 1024 (r .members) (ranges .1) .1;
-      length-is = eqb-true (length f) (lengthBy r) (not-false (eqb (length f) (lengthBy r)) (four .0));
-    }
+    let t = trailed f (h .value) (h .first) in
+    let below : typesBelow f (trailerOf f .types) ≡ good ts = rw (t .is) at (h .after) in
+    record { types-below = below; count = below-length f (trailerOf f .types) ts below; trailer-good = rw (t .is) at t }
 
 -- The types of an accepted file are well formed, and so is every type within them.
 pub accepted-well-formed : (f : List ℕ) (ts : List Ty) → typesOf f ≡ good ts → (k : ℕ) (t : Ty) → getElem? ts k ≡ some t → everywhere isWellFormed t ≡ true

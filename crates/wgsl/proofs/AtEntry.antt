@@ -53,7 +53,7 @@ module _ (f : List ℕ) (ts : List Ty) (good-file : typesOf f ≡ good ts) where
   unfolding lengthBy trailerLength typeEntryLength memberEntryLength
   entry-inside start k s h =
       let a = accepted f ts good-file in
-      omega (arith, a .length-is, a .count)
+      omega (arith, a .trailer-good .long, a .count)
 
   -- An entry makes its type over the types of the lower entries.
   pub entry-made : (k : ℕ) (t : Ty) → getElem? ts k ≡ some t → typeOfEntry f (take k ts) k ≡ some t

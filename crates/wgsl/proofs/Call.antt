@@ -21,11 +21,12 @@ use Rattle.wgsl.specs.Said.{good, refused, _>>_, refuse}
 use Rattle.wgsl.specs.Rule.{isWellFormed}
 use Rattle.wgsl.specs.Place.{Tail, tailOf, extentBy, extentOf, elementsBy, elementsIn, Shape, one, shapeOf, spanOf, Place, placesOf, places, wordCount, written, wordsRead}
 use Rattle.wgsl.specs.Call.{Done, entryOf, laidEntry, storedEntry, isShort, elementsFor, isWrongCount, readCall, writeCall}
+use Rattle.wgsl.specs.Claim.{Ordered, LaidOut, Stored, Wrote, Read}
 use Rattle.wgsl.proofs.Absent.{both-hold, true-not-false, present-some}
 use Rattle.wgsl.proofs.Said.{next-good, then-good, then-is, refuse-good, refuse-no, orRefuse-good}
 use Rattle.wgsl.proofs.Accepted.{accepted-well-formed}
-use Rattle.wgsl.proofs.Shape.{Divides, divides-multiple, Sound, Ordered, places-ordered}
-use Rattle.wgsl.proofs.Word.{Uncovered, checkWords-fit, length-wordsRead, wordsRead-same, length-written, written-zero, written-later, read-written}
+use Rattle.wgsl.proofs.Shape.{Divides, divides-multiple, Sound, places-ordered}
+use Rattle.wgsl.proofs.Word.{checkWords-fit, length-wordsRead, wordsRead-same, length-written, written-zero, written-later, read-written}
 use Rattle.wgsl.proofs.Tail.{closed-extent}
 use Rattle.wgsl.proofs.Laid.{laid}
 use Rattle.wgsl.proofs.Closed.{closed-shape}
@@ -33,38 +34,27 @@ use Rattle.wgsl.proofs.Elements.{elements-back}
 
 -- ---- the entry that a call is about
 
--- Entry e of an accepted file has the type t, and the buffer's length and t pass 17 and 9.
-pub record LaidOut (f : List ℕ) (e : ℕ) (b : List ℕ) (t : Ty) : Type 0 where
-  pub entry : entryOf f e ≡ good t
-  pub within : withinLimit (length b) ≡ true
-  pub layout : hasLayout t ≡ true
-
--- the same, and t passes 10
-pub record Stored (f : List ℕ) (e : ℕ) (b : List ℕ) (t : Ty) : Type 0 where
-  pub entry : entryOf f e ≡ good t
-  pub within : withinLimit (length b) ≡ true
-  pub layout : hasLayout t ≡ true
-  pub storable : isStorable t ≡ true
-
 -- A view that gets past 9 is about an entry that is laid out.
 pub laid-good : {f : List ℕ} {e : ℕ} {b : List ℕ} {t : Ty} → laidEntry f e b ≡ good t → LaidOut f e b t
-unfolding laidEntry
+unfolding laidEntry withinLimit
 laid-good {b = b} {t = t} h =
     let s = then-good _ _ h in
-    let limit = refuse-good 17 0 _ _ (s .after) in
-    let layout = refuse-good 9 0 _ _ (limit .1) in
+    let past = refuse-good 17 0 _ _ (s .after) in
+    let layout = refuse-good 9 0 _ _ (past .1) in
     let same : s .value ≡ t = cc (layout .1) in
     record {
       entry = cc (s .first);
-      within = not-false (withinLimit (length b)) (limit .0);
+      within = leb-true (length b) limit (not-false (withinLimit (length b)) (past .0));
       layout = cc (not-false (hasLayout (s .value)) (layout .0));
     }
 
 -- An entry that is laid out gets past 9.
 pub laid-is : {f : List ℕ} {e : ℕ} {b : List ℕ} {t : Ty} → LaidOut f e b t → laidEntry f e b ≡ good t
-unfolding laidEntry
-laid-is s =
-    then-is _ (s .entry) ∙ refuse-no 17 0 (ap not (s .within)) ∙ refuse-no 9 0 (ap not (s .layout))
+unfolding laidEntry withinLimit
+laid-is {b = b} s =
+    then-is _ (s .entry)
+    ∙ refuse-no 17 0 (ap not (le-leb (length b) limit (s .within)))
+    ∙ refuse-no 9 0 (ap not (s .layout))
 
 -- A read, write or set that gets past 10 is about an entry that is stored.
 pub stored-good : {f : List ℕ} {e : ℕ} {b : List ℕ} {t : Ty} → storedEntry f e b ≡ good t → Stored f e b t
@@ -149,22 +139,8 @@ module _ (t : Ty) (b : List ℕ) where
 abbrev pub done : ℕ → List ℕ → Done
 done value contents = record { value = value; contents = contents }
 
--- What a write that is not refused has done. An open type's array then has so many elements.
-pub record Wrote (f : List ℕ) (e : ℕ) (ws b : List ℕ) (d : Done) : Type 0 where
-  pub type : Ty
-  pub elements : ℕ
-  pub stored : Stored f e b type
-  pub some-elements : isOpen type ≡ true → 1 ≤ elements
-  pub count : length ws ≡ wordCount elements type
-  pub value-is : d .value ≡ extentOf elements type
-  pub fits : extentOf elements type ≤ length b
-  pub length-same : length (d .contents) ≡ length b
-  pub words-there : wordsRead (places elements type) (d .contents) ≡ ws
-  pub zero-elsewhere : (i : ℕ) → i < d .value → Uncovered (places elements type) i → getD (d .contents) i 0 ≡ 0
-  pub later-stay : (i : ℕ) → d .value ≤ i → getD (d .contents) i 0 ≡ getD b i 0
-
 -- a count that 14 does not refuse
-right-count : (t : Ty) (ws : List ℕ) → isWrongCount t ws ≡ false → (length ws ≡ wordCount (elementsFor (length ws) t) t) × (isOpen t ≡ true → 1 ≤ elementsFor (length ws) t)
+pub right-count : (t : Ty) (ws : List ℕ) → isWrongCount t ws ≡ false → (length ws ≡ wordCount (elementsFor (length ws) t) t) × (isOpen t ≡ true → 1 ≤ elementsFor (length ws) t)
 unfolding isWrongCount
 right-count t ws h =
     let n = elementsFor (length ws) t in
@@ -206,18 +182,6 @@ write-wrote f e ws b d h =
     })
 
 -- ---- reading
-
--- What a read that is not refused has done. An open type's array has so many elements in the buffer.
-pub record Read (f : List ℕ) (e : ℕ) (b ws : List ℕ) (d : Done) : Type 0 where
-  pub type : Ty
-  pub elements : ℕ
-  pub stored : Stored f e b type
-  pub elements-are : elements ≡ elementsIn (length b) type
-  pub fits : extentOf elements type ≤ length b
-  pub value-is : d .value ≡ wordCount elements type
-  pub words-are : take (d .value) (d .contents) ≡ wordsRead (places elements type) b
-  pub later-stay : drop (d .value) (d .contents) ≡ drop (d .value) ws
-  pub length-same : length (d .contents) ≡ length ws
 
 -- Reading gives a word for each place, and the later words stay.
 pub read-read : (f : List ℕ) (e : ℕ) (b ws : List ℕ) (d : Done) → readCall f e b ws ≡ good d → Read f e b ws d
@@ -291,7 +255,7 @@ read-of-write f e ws b d h vs room =
     let m = elementsIn (length c) t in
     let stored : Stored f e c t = record {
       entry = s .entry;
-      within = le-leb (length c) limit (omega (arith, leb-true (length b) limit (s .within), w .length-same));
+      within = omega (arith, s .within, w .length-same);
       layout = s .layout;
       storable = s .storable;
     } in

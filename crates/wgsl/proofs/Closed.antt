@@ -8,7 +8,7 @@ use mathlib.Core.Logic.{⊎-elim}
 use mathlib.Core.Option.{Option, some}
 use mathlib.Core.Path.{_≡_, refl, ap, _∙_}
 use Rattle.wgsl.specs.Types.{Ty, scalar, vector, matrix, array, runtime, atomic, struct, Members, no-more, member, isRuntime, endsInRuntime, isOpen, everywhere, everyMember}
-use Rattle.wgsl.specs.Size.{givenOr, isPresent, present, endAfter, sizeOf, alignOf, strideOf}
+use Rattle.wgsl.specs.Size.{isPresent, present, sizeOf, alignOf, strideOf, memberEnd}
 use Rattle.wgsl.specs.Rule.{isLast, membersAllowed, isWellFormed, membersGivenFit}
 use Rattle.wgsl.specs.Place.{parts, shapeOf, fieldsOf}
 use Rattle.wgsl.proofs.Absent.{true-not-false, present-some}
@@ -57,5 +57,5 @@ mutual
   closed-fields (member t size align ms) b w ok g e m n z end =
       let x = first-member t size align ms w ok g in
       let here = closed-shape t (x .well) (contrary (isOpen t) (member-open t size align ms x) e) m n in
-      let end′ : Option ℕ = endAfter end (givenOr align (alignOf t)) (givenOr size (sizeOf t)) in
+      let end′ : Option ℕ = memberEnd end align (alignOf t) size (sizeOf t) in
       rw (here, closed-fields ms (isRuntime t) (x .rest-well) (x .rest-allowed) (x .rest-fits) e m n z end′)

@@ -11,7 +11,7 @@ use native.Mathlib.Omega.{arith}
 use native.Mathlib.Nat.{zero-mul, suc-mul, mul-one, mul-left-comm, mul-le-mul-left, mul-pos}
 use lib.ListN.{length, length-append}
 use Rattle.wgsl.specs.Types.{Scalar, bool, i32, u32, f32, f16, abstractInt, abstractFloat, Ty, scalar, vector, matrix, array, runtime, atomic, struct, Members, no-more, member, endsInRuntime, isOpen, everywhere, everyMember}
-use Rattle.wgsl.specs.Size.{givenOr, present, widthOf, endAfter, sizeOf, alignOf}
+use Rattle.wgsl.specs.Size.{present, widthOf, sizeOf, alignOf, memberEnd}
 use Rattle.wgsl.specs.Rule.{countOf, membersAllowed, isAllowed, isWellFormed, membersGivenFit}
 use Rattle.wgsl.specs.Place.{extentOf, Shape, one, parts, field, whole, column, shapeOf, fieldsOf, spanOf, wordPlaces, repeated, placesOf, places, wordCount}
 use Rattle.wgsl.proofs.Absent.{between-true, true-not-false}
@@ -91,7 +91,7 @@ fields-words : (n z : ℕ) (end : Option ℕ) (ms : Members) → words (fieldsOf
 unfolding fieldsOf words membersWords
 fields-words n z end no-more = refl
 fields-words n z end (member t size align ms) =
-    rw (count-words n t, fields-words n z (endAfter end (givenOr align (alignOf t)) (givenOr size (sizeOf t))) ms)
+    rw (count-words n t, fields-words n z (memberEnd end align (alignOf t) size (sizeOf t)) ms)
 
 -- A struct has the words of its members.
 pub wordCount-struct : (n k : ℕ) (ms : Members) → wordCount n (struct k ms) ≡ membersWords n ms

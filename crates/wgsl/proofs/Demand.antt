@@ -21,37 +21,19 @@ use Rattle.wgsl.specs.Said.{good, orRefuse}
 use Rattle.wgsl.specs.Place.{elementsBy, elementsIn, one, shapeOf, spanOf, Place, wordPlaces, places, wordCount, storeWords, wordsRead}
 use Rattle.wgsl.specs.Path.{walk, stepOf}
 use Rattle.wgsl.specs.Call.{entryOf, isShort, readCall, targetIn, viewCall, scalarAt, setCall}
+use Rattle.wgsl.specs.Claim.{Apart, Ordered, Uncovered, Fit, Stored}
+use Rattle.wgsl.specs.Demand.{Given, Leading, Words, SetThenRead, DemandThree}
 use Rattle.wgsl.proofs.Absent.{both-hold, present-is}
 use Rattle.wgsl.proofs.Said.{next-is, then-good, then-is, refuse-good, refuse-no}
-use Rattle.wgsl.proofs.Number.{Outside}
-use Rattle.wgsl.proofs.Shape.{Divides, Sound, Ordered}
-use Rattle.wgsl.proofs.Path.{target, target-inside, target-multiple, Apart, paths-apart}
+use Rattle.wgsl.proofs.Shape.{Divides, Sound}
+use Rattle.wgsl.proofs.Path.{target, target-inside, target-multiple, paths-apart}
 use Rattle.wgsl.proofs.PathPlace.{path-place}
 use Rattle.wgsl.proofs.Step.{stepOf-injective}
-use Rattle.wgsl.proofs.Word.{length-storeWords, Uncovered, Fit, storeWords-uncovered, fit-checkWords, length-wordsRead, wordsRead-append, wordsRead-middle}
+use Rattle.wgsl.proofs.Word.{length-storeWords, storeWords-uncovered, fit-checkWords, length-wordsRead, wordsRead-append, wordsRead-middle}
 use Rattle.wgsl.proofs.Tail.{closed-tail, closed-extent, sized-closed}
-use Rattle.wgsl.proofs.Call.{Stored, laid-good, stored-is, entry-well-formed, entry-sound, entry-places, done, read-is}
+use Rattle.wgsl.proofs.Call.{laid-good, stored-is, entry-well-formed, entry-sound, entry-places, done, read-is}
 
 -- ---- what the demand assumes
-
--- An accepted table, a storable entry of fixed size, and a buffer of at least that size and within the limit.
-pub record Given (f : List ℕ) (e : ℕ) (b : List ℕ) : Type 0 where
-  pub type : Ty
-  pub size : ℕ
-  pub entry : entryOf f e ≡ good type
-  pub storable : isStorable type ≡ true
-  pub sized : sizeOf type ≡ some size
-  pub room : size ≤ length b
-  pub within : length b ≤ limit
-
--- The path leads to one scalar, s, at the offset a.
-pub record Leading (f : List ℕ) (e : ℕ) (b path : List ℕ) (a : ℕ) (s : Scalar) : Type 0 where
-  pub leads : viewCall f e path b ≡ good (record { offset = a; shape = one s })
-
--- every number of the list has 32 bits
-unfoldable pub Words : List ℕ → Type 0
-Words [] = Unit {0}
-Words (w ∷ ws) = (w < 2 ^ 32) × Words ws
 
 -- numbers of 32 bits that say the same steps are the same
 steps-injective : (p q : List ℕ) → Words p → Words q → map stepOf p ≡ map stepOf q → p ≡ q
@@ -90,7 +72,7 @@ fixed {f} {e} {b} c g q =
       stored =
           record {
             entry = g .entry;
-            within = le-leb (length c) limit (omega (arith, g .within));
+            within = omega (arith, g .within);
             layout = layout;
             storable = g .storable;
           };
@@ -142,21 +124,6 @@ module _ {f : List ℕ} {e : ℕ} {b : List ℕ} (g : Given f e b) where
       (paths-apart 0 0 x (map stepOf p) (map stepOf q) a c s u (fixed b g refl .sound) (walks l) (walks m))
 
 -- ---- set, then read
-
--- The word w is set at a path to the scalar s at the offset a: the bytes outside that scalar stay, and a read into ws gives what it gave
--- before, but w at the scalar's position.
-pub record SetThenRead {f : List ℕ} {e : ℕ} {b : List ℕ} (g : Given f e b) (path : List ℕ) (a : ℕ) (s : Scalar) (w : ℕ) (ws : List ℕ) : Type 0 where
-  pub b′ : List ℕ
-  pub set-is : setCall f e path w b ≡ good (record { value = a; contents = b′ })
-  pub length-same : length b′ ≡ length b
-  pub others-stay : (i : ℕ) → Outside a (present (widthOf s)) i → getD b′ i 0 ≡ getD b i 0
-  pub count : ℕ
-  pub old : List ℕ
-  pub read-before : readCall f e b ws ≡ good (record { value = count; contents = old })
-  pub position : ℕ
-  pub position-inside : position < count
-  pub position-is : getElem? (places 0 (g .type)) position ≡ some (record { at = a; width = present (widthOf s) })
-  pub read-after : readCall f e b′ ws ≡ good (record { value = count; contents = set old position w })
 
 element-seam : {A : Type 0} (front : List A) (x : A) (back : List A) → getElem? (front ++ (x ∷ back)) (length front) ≡ some x
 element-seam [] x back = refl
@@ -228,15 +195,6 @@ set-then-read {f} {e} {b} {path} {a} {s} g l w small ws room =
     }
 
 -- ---- the demand
-
--- What the demand asks of an entry and a buffer, in its order.
-pub record DemandThree {f : List ℕ} {e : ℕ} {b : List ℕ} (g : Given f e b) : Type 0 where
-  -- a valid path to a scalar lies inside, at a multiple of the scalar's size
-  pub inside : (path : List ℕ) (a : ℕ) (s : Scalar) → Leading f e b path a s → (a + present (widthOf s) ≤ g .size) × (a % present (widthOf s) ≡ 0)
-  -- different paths to scalars share no byte
-  pub apart : (p q : List ℕ) (a c : ℕ) (s u : Scalar) → Leading f e b p a s → Leading f e b q c u → Words p → Words q → (p ≡ q) ⊎ Apart a (present (widthOf s)) c (present (widthOf u))
-  -- what is set is read back, alone
-  pub set-read : (path : List ℕ) (a : ℕ) (s : Scalar) → Leading f e b path a s → (w : ℕ) → w < 256 ^ present (widthOf s) → (ws : List ℕ) → wordCount 0 (g .type) ≤ length ws → SetThenRead g path a s w ws
 
 -- Demand 3 is met: of every storable entry of fixed size in an accepted table, and every buffer that is long enough.
 pub demand-three : {f : List ℕ} {e : ℕ} {b : List ℕ} (g : Given f e b) → DemandThree g

@@ -8,7 +8,7 @@ use native.Mathlib.Omega.{arith}
 use native.Mathlib.Nat.{add-sub-cancel-left, mul-div-cancel}
 use Rattle.wgsl.specs.Round.{up}
 use Rattle.wgsl.specs.Types.{Ty, scalar, vector, matrix, array, runtime, atomic, struct, Members, no-more, member, isRuntime, endsInRuntime, isOpen, everywhere, everyMember}
-use Rattle.wgsl.specs.Size.{both, givenOr, present, startAfter, endAfter, sizeOf, alignOf, strideOf}
+use Rattle.wgsl.specs.Size.{both, givenOr, present, startAfter, endAfter, sizeOf, alignOf, strideOf, memberStart, memberEnd}
 use Rattle.wgsl.specs.Rule.{isWellFormed}
 use Rattle.wgsl.specs.Place.{Tail, tailAt, membersTail, tailOf, extentBy, extentOf, elementsBy, elementsIn}
 use Rattle.wgsl.proofs.Absent.{both-hold, true-not-false}
@@ -34,7 +34,7 @@ tail-there offset (atomic s) w e = true-not-false e refl
 tail-there offset (struct k ms) w e = true-not-false e refl
 
 members-tail-there : (b : Bool) (before : Option Tail) (end : Option ℕ) (ms : Members) → everyMember isWellFormed ms ≡ true → (b ≡ true → HasTail before) → endsInRuntime b ms ≡ true → HasTail (membersTail before end ms)
-unfolding everyMember endsInRuntime membersTail
+unfolding everyMember endsInRuntime membersTail memberStart memberEnd
 members-tail-there b before end no-more w h e = h e
 members-tail-there b before end (member t size align ms) w h e =
     let ws = both-hold (everywhere isWellFormed t) (everyMember isWellFormed ms) w in

@@ -10,7 +10,7 @@ use native.Mathlib.Omega.{arith}
 use native.Mathlib.Nat.{mul-le-mul-left}
 use Rattle.wgsl.specs.Round.{up, limit}
 use Rattle.wgsl.specs.Types.{Ty, scalar, vector, matrix, array, runtime, atomic, struct, Members, no-more, member, isRuntime, endsInRuntime, isOpen, everywhere, everyMember}
-use Rattle.wgsl.specs.Size.{both, givenOr, isPresent, endAfter, sizeOf, alignOf, strideOf}
+use Rattle.wgsl.specs.Size.{both, isPresent, sizeOf, alignOf, strideOf, memberEnd}
 use Rattle.wgsl.specs.Rule.{countOf, membersAllowed, isAllowed, isWellFormed, membersGivenFit}
 use Rattle.wgsl.specs.Place.{extentOf, column, shapeOf, fieldsOf}
 use Rattle.wgsl.proofs.Absent.{between-true, true-not-false, present-some, both-some}
@@ -26,7 +26,7 @@ pub members-count : (n z : ℕ) (end : Option ℕ) (ms : Members) → members-le
 unfolding members-left fieldsOf countOf
 members-count n z end no-more = refl
 members-count n z end (member t size align ms) =
-    ap suc (members-count n z (endAfter end (givenOr align (alignOf t)) (givenOr size (sizeOf t))) ms)
+    ap suc (members-count n z (memberEnd end align (alignOf t) size (sizeOf t)) ms)
 
 -- an array of fixed size, its count and its element
 record Counted (k : ℕ) (t : Ty) : Type 0 where
@@ -72,7 +72,7 @@ mutual
   fields-small n z end no-more b w ok g c h = tt
   fields-small n z end (member t size align ms) b w ok g c h =
       let m = first-member t size align ms w ok g in
-      let end′ : Option ℕ = endAfter end (givenOr align (alignOf t)) (givenOr size (sizeOf t)) in (
+      let end′ : Option ℕ = memberEnd end align (alignOf t) size (sizeOf t) in (
         omega (arith, members-count n z end′ ms),
         entry-small n t (m .well) (member-has t size align ms m) (λ q. h (member-open t size align ms m q)),
         fields-small n z end′ ms (isRuntime t) (m .rest-well) (m .rest-allowed) (m .rest-fits) (omega arith) h,

@@ -11,7 +11,7 @@ use native.Mathlib.Omega.{arith}
 use native.Mathlib.Nat.{mod-self, zero-add}
 use Rattle.wgsl.specs.Round.{IsPower, up}
 use Rattle.wgsl.specs.Types.{Scalar, Ty, scalar, vector, matrix, array, runtime, atomic, struct, Members, no-more, member, isRuntime, isOpen, everywhere, everyMember}
-use Rattle.wgsl.specs.Size.{both, givenOr, isPresent, present, widthOf, vectorSize, vectorAlign, startAfter, endAfter, sizeOf, alignOf, membersAlign, strideOf}
+use Rattle.wgsl.specs.Size.{both, givenOr, isPresent, present, widthOf, vectorSize, vectorAlign, startAfter, endAfter, sizeOf, alignOf, membersAlign, strideOf, memberEnd, memberStart}
 use Rattle.wgsl.specs.Rule.{isLast, membersAllowed, isAllowed, isWellFormed, membersGivenFit}
 use Rattle.wgsl.specs.Place.{tailAt, tailOf, extentBy, extentOf, parts, column, shapeOf, fieldsOf, spanOf}
 use Rattle.wgsl.proofs.Round.{up-multiple, up-not-below}
@@ -71,8 +71,8 @@ record FieldsLaid (n z lo : ℕ) (end : Option ℕ) (ms : Members) (all : ℕ) :
   divides : Divides (fieldsOf n z end ms) all
 
 -- one member, in front of those after it
-field-laid : (n z lo a all : ℕ) (t : Ty) (size align : Option ℕ) (ms : Members) (m : Member t size align ms) → givenOr align (alignOf t) ≡ some a → IsPower all → a ≤ all → Laid n t (m .own) → FieldsLaid n z (up a lo + memberExtent n t size) (endAfter (some lo) (givenOr align (alignOf t)) (givenOr size (sizeOf t))) ms all → FieldsLaid n z lo (some lo) (member t size align ms) all
-unfolding fieldsOf Sound From spanOf Divides
+field-laid : (n z lo a all : ℕ) (t : Ty) (size align : Option ℕ) (ms : Members) (m : Member t size align ms) → givenOr align (alignOf t) ≡ some a → IsPower all → a ≤ all → Laid n t (m .own) → FieldsLaid n z (up a lo + memberExtent n t size) (memberEnd (some lo) align (alignOf t) size (sizeOf t)) ms all → FieldsLaid n z lo (some lo) (member t size align ms) all
+unfolding fieldsOf Sound From spanOf Divides memberStart memberEnd
 field-laid n z lo a all t size align ms m e p le here rest =
     let al : Option ℕ = givenOr align (alignOf t) in
     let aligned = member-aligned t align a (λ own h. align-power t own (m .well) h) (m .align-fits) e in
@@ -132,7 +132,7 @@ unfolding shapeOf Sound spanOf Divides extentOf extentBy tailOf sizeOf present
 atomic-laid n s a e h = record { sound = rw e (omega arith); span = rw e; divides = rw (e, h) }
 
 mutual
-  unfolding isAllowed isOpen sizeOf shapeOf endOf isLast
+  unfolding isAllowed isOpen sizeOf shapeOf endOf isLast memberEnd
 
   -- A well-formed type with a layout has a sound shape, which takes its extent and suits its alignment.
   pub laid : (n : ℕ) (t : Ty) (a : ℕ) → everywhere isWellFormed t ≡ true → alignOf t ≡ some a → (isOpen t || isPresent (sizeOf t)) ≡ true → Laid n t a
@@ -174,10 +174,10 @@ mutual
       (⊎-elim
       (λ (s : isPresent (sizeOf t) ≡ true).
       let z′ = given-present size (sizeOf t) s in
-      let q : endAfter (some lo) al (givenOr size (sizeOf t)) ≡ some lo′ =
+      let q : memberEnd (some lo) align (alignOf t) size (sizeOf t) ≡ some lo′ =
       end-after n lo (mx .left) t size al (z′ .0) (m .well) (mx .left-is) (z′ .1)
       ∙ ap (λ (i : ℕ). some (up i lo + memberExtent n t size)) a in
       rw q (fields-laid n z lo′ all ms (mx .right) (m .rest-well) (m .rest-allowed) (m .rest-fits) (mx .right-is) p
       (omega (arith, mx .is)) end′))
       (λ (s : (isLast ms ≡ true) × (isRuntime t ≡ true)).
-      last-laid n z lo′ all (endAfter (some lo) al (givenOr size (sizeOf t))) ms (s .0) end′) (m .sized-or-last))
+      last-laid n z lo′ all (memberEnd (some lo) align (alignOf t) size (sizeOf t)) ms (s .0) end′) (m .sized-or-last))

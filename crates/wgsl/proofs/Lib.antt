@@ -24,8 +24,12 @@ pub mod Opened
 pub mod Index
 pub mod Elements
 pub mod Call
+pub mod Good
+pub mod MemberPath
+pub mod PlaceFit
 pub mod Demand
 pub mod OnePath
 pub mod Rank
 pub mod Case
 pub mod Claims
+pub mod Witness

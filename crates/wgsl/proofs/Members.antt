@@ -12,7 +12,7 @@ use native.Mathlib.Omega.{arith}
 use borrow.Author.Tests.{leb-true}
 use Rattle.wgsl.specs.Round.{up}
 use Rattle.wgsl.specs.Types.{Ty, struct, Members, no-more, member, isRuntime, endsInRuntime, isOpen, everywhere, everyMember}
-use Rattle.wgsl.specs.Size.{both, givenOr, isPresent, present, startAfter, endAfter, sizeOf, alignOf, membersAlign, membersEnd}
+use Rattle.wgsl.specs.Size.{both, givenOr, isPresent, present, startAfter, endAfter, sizeOf, alignOf, membersAlign, membersEnd, memberStart, memberEnd}
 use Rattle.wgsl.specs.Rule.{isLast, memberAllowed, membersAllowed, isWellFormed, atLeast, givenSizeFits, givenAlignFits, membersGivenFit}
 use Rattle.wgsl.specs.Place.{Tail, tailAt, membersTail, tailOf, extentBy, extentOf}
 use Rattle.wgsl.proofs.Round.{up-not-below}
@@ -125,7 +125,7 @@ pub record Next (lo : ℕ) (t : Ty) (size align : Option ℕ) (ms : Members) (z 
   pub rest : membersEnd (some (up aligned lo + taken)) ms ≡ some z
 
 pub next-member : (lo : ℕ) (t : Ty) (size align : Option ℕ) (ms : Members) (z : ℕ) → membersEnd (some lo) (member t size align ms) ≡ some z → Next lo t size align ms z
-unfolding membersEnd endAfter startAfter both
+unfolding membersEnd memberEnd endAfter startAfter both
 next-member lo t size align ms z e = go (givenOr align (alignOf t)) (givenOr size (sizeOf t)) refl refl e
   where
     go : (al sz : Option ℕ) → givenOr align (alignOf t) ≡ al → givenOr size (sizeOf t) ≡ sz → membersEnd (both _+_ (both up al (some lo)) sz) ms ≡ some z → Next lo t size align ms z
@@ -145,7 +145,7 @@ end-is n lo (member t size align ms) z w e =
 
 -- The runtime array that ends a struct ends at `endOf`.
 pub tail-end : (n lo : ℕ) (ms : Members) (b : Bool) (before : Option Tail) (end : Option ℕ) → everyMember isWellFormed ms ≡ true → membersAllowed ms ≡ true → membersGivenFit ms ≡ true → (b ≡ true → TailEnds n before lo) → (isLast ms ≡ true) ⊎ (end ≡ some lo) → endsInRuntime b ms ≡ true → TailEnds n (membersTail before end ms) (endOf n lo ms)
-unfolding membersTail endOf endsInRuntime isLast
+unfolding membersTail endOf endsInRuntime isLast memberStart memberEnd
 tail-end n lo no-more b before end w ok g h from e = h e
 tail-end n lo (member t size align ms) b before end w ok g h from e =
     let m = first-member t size align ms w ok g in

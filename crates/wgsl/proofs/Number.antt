@@ -13,6 +13,7 @@ use native.Mathlib.Numerals.{add-one}
 use lib.ListN.{length, getD, set, length-set}
 use lib.Seq.{sets, length-sets, getD-set-same, getD-set-other}
 use Rattle.wgsl.specs.Number.{load, bytesOf, store}
+use Rattle.wgsl.specs.Claim.{Outside}
 
 -- A number takes as many bytes as it is wide.
 pub length-bytesOf : (k n : ℕ) → length (bytesOf k n) ≡ k
@@ -39,10 +40,6 @@ pub load-bounded : (k : ℕ) (b : List ℕ) (at : ℕ) → ((i : ℕ) → getD b
 unfolding load
 load-bounded zero b at h = omega arith
 load-bounded (suc k) b at h = rw (pow-step 256 k) (omega (arith, h at, load-bounded k b (at + 1) h))
-
--- The byte i lies outside the k bytes from `at`.
-abbrev pub Outside : ℕ → ℕ → ℕ → Type 0
-Outside at k i = (i < at) ⊎ (at + k ≤ i)
 
 -- What is set from p on stays below p,
 pub sets-below : (vs b : List ℕ) (p i : ℕ) → i < p → getD (sets b p vs) i 0 ≡ getD b i 0

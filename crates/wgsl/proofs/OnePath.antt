@@ -13,15 +13,17 @@ use Rattle.wgsl.specs.Said.{good}
 use Rattle.wgsl.specs.Place.{Shape, one, shapeOf, Place, wordPlaces, places}
 use Rattle.wgsl.specs.Path.{Step, index, member, stepOf, walk}
 use Rattle.wgsl.specs.Call.{targetIn, viewCall}
+use Rattle.wgsl.specs.Claim.{Apart}
+use Rattle.wgsl.specs.Demand.{Given, Leading, Words, OnePath}
 use Rattle.wgsl.proofs.Said.{then-is, refuse-no}
 use Rattle.wgsl.proofs.Shape.{Sound}
-use Rattle.wgsl.proofs.Path.{target, target-inside, Apart, paths-apart}
+use Rattle.wgsl.proofs.Path.{target, target-inside, paths-apart}
 use Rattle.wgsl.proofs.PathPlace.{path-place, PlacePath, place-path}
 use Rattle.wgsl.proofs.Step.{number-of, step-code, stepOf-code, Below, steps-below}
 use Rattle.wgsl.proofs.Tail.{sized-has}
 use Rattle.wgsl.proofs.Index.{entry-small}
 use Rattle.wgsl.proofs.Call.{laid-is, entry-well-formed}
-use Rattle.wgsl.proofs.Demand.{Given, Leading, Words, fixed, walks, scalar-sized, scalars-apart}
+use Rattle.wgsl.proofs.Demand.{fixed, walks, scalar-sized, scalars-apart}
 
 -- ---- the one path to a place of a shape
 
@@ -62,15 +64,6 @@ codes-read [] h = refl
 codes-read (s ∷ steps) h = cc (stepOf-code s (h .0), codes-read steps (h .1))
 
 -- ---- the one path to a place of an entry
-
--- A path, as numbers of 32 bits, that leads to the place p, and the only one that does.
-pub record OnePath {f : List ℕ} {e : ℕ} {b : List ℕ} (g : Given f e b) (p : Place) : Type 0 where
-  pub path : List ℕ
-  pub scalar-is : Scalar
-  pub numbers : Words path
-  pub leads : Leading f e b path (p .at) scalar-is
-  pub width-is : p .width ≡ present (widthOf scalar-is)
-  pub only : (q : List ℕ) (u : Scalar) → Words q → Leading f e b q (p .at) u → q ≡ path
 
 -- a view whose walk finds a scalar leads there
 walk-leading : {f : List ℕ} {e : ℕ} {b path : List ℕ} {a : ℕ} {s : Scalar} (g : Given f e b) → walk 0 0 (shapeOf 0 (g .type)) (map stepOf path) ≡ good (target a (one s)) → Leading f e b path a s

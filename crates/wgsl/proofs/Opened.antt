@@ -11,7 +11,7 @@ use mathlib.Core.Path.{_≡_, refl, ap, sym, _∙_}
 use native.Mathlib.Nat.{zero-add}
 use lib.ListN.{length, length-append}
 use Rattle.wgsl.specs.Types.{Ty, scalar, vector, matrix, array, runtime, atomic, struct, Members, no-more, member, isRuntime, endsInRuntime, isOpen, everywhere, everyMember}
-use Rattle.wgsl.specs.Size.{givenOr, isPresent, present, startAfter, endAfter, sizeOf, alignOf, strideOf}
+use Rattle.wgsl.specs.Size.{isPresent, present, sizeOf, alignOf, strideOf, memberStart, memberEnd}
 use Rattle.wgsl.specs.Rule.{isLast, membersAllowed, isWellFormed, membersGivenFit}
 use Rattle.wgsl.specs.Place.{Tail, tailAt, membersTail, tailOf, extentBy, extentOf, repeated, shapeOf, fieldsOf, placesOf, places, wordCount}
 use Rattle.wgsl.proofs.Absent.{true-not-false, present-some}
@@ -60,7 +60,7 @@ last-opened before t size align end tail e =
     let (u, is) = is-runtime t e in
     rw is (record {
       element = u;
-      array = record { offset = present (startAfter end (givenOr align (alignOf (runtime u)))); stride = present (strideOf u) };
+      array = record { offset = present (memberStart end align (alignOf (runtime u))); stride = present (strideOf u) };
       last-is = refl;
       tail-is = refl;
       stride-is = refl;
@@ -68,7 +68,7 @@ last-opened before t size align end tail e =
     })
 
 -- a member with a size, before others
-more-opened : (before t : Ty) (size align end : Option ℕ) (tail : Option Tail) (ms : Members) → everywhere isWellFormed t ≡ true → isOpen t ≡ false → MembersOpened t (endAfter end (givenOr align (alignOf t)) (givenOr size (sizeOf t))) (tailAt (startAfter end (givenOr align (alignOf t))) t) ms → MembersOpened before end tail (member t size align ms)
+more-opened : (before t : Ty) (size align end : Option ℕ) (tail : Option Tail) (ms : Members) → everywhere isWellFormed t ≡ true → isOpen t ≡ false → MembersOpened t (memberEnd end align (alignOf t) size (sizeOf t)) (tailAt (memberStart end align (alignOf t)) t) ms → MembersOpened before end tail (member t size align ms)
 unfolding lastOf membersTail fieldsOf placesOf
 more-opened before t size align end tail ms w o rest =
     record {
@@ -78,10 +78,10 @@ more-opened before t size align end tail ms w o rest =
       tail-is = rest .tail-is;
       stride-is = rest .stride-is;
       places-are = λ n z z′ at.
-          let start = present (startAfter end (givenOr align (alignOf t))) in
+          let start = present (memberStart end align (alignOf t)) in
           rw (closed-shape t w o n 0, rest .places-are n z z′ at)
           (sym (append-assoc (placesOf (shapeOf 0 t) (at + start))
-          (placesOf (fieldsOf 0 z′ (endAfter end (givenOr align (alignOf t)) (givenOr size (sizeOf t))) ms) at)
+          (placesOf (fieldsOf 0 z′ (memberEnd end align (alignOf t) size (sizeOf t)) ms) at)
           (placesOf (shapeOf n (runtime (rest .element))) (at + rest .array .offset))));
     }
 

@@ -17,19 +17,13 @@ use Rattle.wgsl.specs.Size.{present, widthOf}
 use Rattle.wgsl.specs.Said.{good, refused, _>>=_}
 use Rattle.wgsl.specs.Place.{Shape, one, parts, field, whole, spanOf}
 use Rattle.wgsl.specs.Path.{Step, index, member, Target, enter, walk}
+use Rattle.wgsl.specs.Claim.{Apart, Leads, here, part, first, later}
 use Rattle.wgsl.proofs.Said.{good-not-refused}
 use Rattle.wgsl.proofs.Shape.{Divides, From, Sound}
 
 -- this shape at this offset
 abbrev pub target : ℕ → Shape → Target
 target a y = record { offset = a; shape = y }
-
--- the steps lead from a shape at an offset to a shape at an offset
-pub data Leads : ℕ → Shape → List Step → ℕ → Shape → Type 0 where
-  here : {off : ℕ} {x : Shape} → Leads off x [] off x
-  part : {off n stride i a : ℕ} {x y : Shape} {steps : List Step} → i < n → Leads (off + i * stride) x steps a y → Leads off (parts n stride x) (index i ∷ steps) a y
-  first : {off offset a : ℕ} {x rest y : Shape} {steps : List Step} → Leads (off + offset) x steps a y → Leads off (field offset x rest) (member zero ∷ steps) a y
-  later : {off offset i a : ℕ} {x rest y : Shape} {steps : List Step} → Leads off rest (member i ∷ steps) a y → Leads off (field offset x rest) (member (suc i) ∷ steps) a y
 
 -- one step, where the rest of the walk leads on
 step-leads : (k off : ℕ) (x : Shape) (s : Step) (steps : List Step) (t : Target) → ((at : ℕ) (y : Shape) → walk (suc k) at y steps ≡ good t → Leads at y steps (t .offset) (t .shape)) → walk k off x (s ∷ steps) ≡ good t → Leads off x (s ∷ steps) (t .offset) (t .shape)
@@ -123,10 +117,6 @@ unfolding Sound From
 member-after lo (first l) sound from = omega (arith, inside l (sound .0) .1)
 member-after lo (later {offset = offset} {x = x} l) sound from =
     omega (arith, member-after (offset + spanOf x) l (sound .1) (sound .2))
-
--- the m bytes from a and the n bytes from b share none
-abbrev pub Apart : ℕ → ℕ → ℕ → ℕ → Type 0
-Apart a m b n = (a + m ≤ b) ⊎ (b + n ≤ a)
 
 compare : (i j : ℕ) → (i ≡ j) ⊎ ((i < j) ⊎ (j < i))
 compare zero zero = inl refl

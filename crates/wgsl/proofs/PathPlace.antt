@@ -13,8 +13,9 @@ use Rattle.wgsl.specs.Size.{present, widthOf}
 use Rattle.wgsl.specs.Said.{good}
 use Rattle.wgsl.specs.Place.{Shape, one, parts, field, whole, spanOf, Place, wordPlaces, repeated, placesOf}
 use Rattle.wgsl.specs.Path.{Step, index, member, walk}
+use Rattle.wgsl.specs.Claim.{Leads, here, part, first, later}
 use Rattle.wgsl.proofs.Shape.{From, Sound}
-use Rattle.wgsl.proofs.Path.{target, Leads, here, part, first, later, walk-leads, leads-walk}
+use Rattle.wgsl.proofs.Path.{target, walk-leads, leads-walk}
 
 -- the place of a scalar s at a is in the list of a shape at off
 pub record PathPlace (x : Shape) (off a : ℕ) (s : Scalar) : Type 0 where

@@ -70,11 +70,11 @@ unfolding _>>_ refuse
 refuse-good number place true rest e = good-not-refused e refl
 refuse-good number place false rest e = (refl, e)
 
--- What a test and the rest say, the test says, with its number and place, or the rest does.
-pub refuse-cases : {B C : Type 0} {s : Said B} (number place : ℕ) (test : Bool) (rest : Said B) → _>>_ (refuse number place test) rest ≡ s → (s ≡ refused number place → C) → (rest ≡ s → C) → C
+-- What a test and the rest say, the test says, with its number and place, where it holds, and else the rest.
+pub refuse-cases : {B C : Type 0} {s : Said B} (number place : ℕ) (test : Bool) (rest : Said B) → _>>_ (refuse number place test) rest ≡ s → (test ≡ true → s ≡ refused number place → C) → (test ≡ false → rest ≡ s → C) → C
 unfolding _>>_ refuse
-refuse-cases number place true rest e first after = first (sym e)
-refuse-cases number place false rest e first after = after e
+refuse-cases number place true rest e first after = first refl (sym e)
+refuse-cases number place false rest e first after = after refl e
 
 -- A value that is not refused is there.
 pub orRefuse-good : {A : Type 0} {a : A} (number place : ℕ) (o : Option A) → orRefuse number place o ≡ good a → o ≡ some a
@@ -82,11 +82,11 @@ unfolding orRefuse
 orRefuse-good number place (some x) e = cc
 orRefuse-good number place none e = good-not-refused e refl
 
--- A value that is not there is refused, with that number and place.
-pub orRefuse-refused : {A : Type 0} {n p : ℕ} (number place : ℕ) (o : Option A) → orRefuse number place o ≡ refused n p → (n ≡ number) × (p ≡ place)
+-- A value that is refused is not there, and number and place are those of the step.
+pub orRefuse-refused : {A : Type 0} {n p : ℕ} (number place : ℕ) (o : Option A) → orRefuse number place o ≡ refused n p → (o ≡ none) × (n ≡ number) × (p ≡ place)
 unfolding orRefuse
 orRefuse-refused number place (some a) e = good-not-refused refl e
-orRefuse-refused number place none e = (cc, cc)
+orRefuse-refused number place none e = (refl, cc, cc)
 
 -- What stands under a test is there only where the test holds.
 pub when-some : {A : Type 0} {a : A} (test : Bool) (o : Option A) → when test o ≡ some a → (test ≡ true) × (o ≡ some a)

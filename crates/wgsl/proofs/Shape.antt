@@ -9,6 +9,7 @@ use native.Mathlib.Omega.{arith}
 use native.Mathlib.Nat.{suc-mul, mul-assoc, mul-mod-left, div-add-mod'}
 use Rattle.wgsl.specs.Size.{present, widthOf}
 use Rattle.wgsl.specs.Place.{Shape, one, parts, field, whole, spanOf, Place, wordPlaces, repeated, placesOf}
+use Rattle.wgsl.specs.Claim.{Ordered}
 
 -- every scalar of the shape has a size that divides m
 unfoldable pub Divides : Shape → ℕ → Type 0
@@ -54,11 +55,6 @@ from-low (one s) lo′ lo h f = f
 from-low (parts n stride x) lo′ lo h f = f
 from-low (field offset x rest) lo′ lo h f = omega arith
 from-low (whole z) lo′ lo h f = omega arith
-
--- the places lie between lo and hi, each past the end of the one before
-unfoldable pub Ordered : List Place → ℕ → ℕ → Type 0
-Ordered [] lo hi = lo ≤ hi
-Ordered (p ∷ ps) lo hi = (lo ≤ p .at) × Ordered ps (p .at + p .width) hi
 
 pub ordered-low : (ps : List Place) (lo′ lo hi : ℕ) → lo′ ≤ lo → Ordered ps lo hi → Ordered ps lo′ hi
 unfolding Ordered

@@ -12,7 +12,8 @@ use lib.Dec.{eqb}
 use Rattle.wgsl.specs.Said.{good}
 use Rattle.wgsl.specs.Place.{Shape, one, parts, field, whole}
 use Rattle.wgsl.specs.Path.{Step, index, member, stepOf, Target, walk}
-use Rattle.wgsl.proofs.Path.{Leads, here, part, first, later, walk-leads}
+use Rattle.wgsl.specs.Claim.{Leads, here, part, first, later}
+use Rattle.wgsl.proofs.Path.{walk-leads}
 
 -- the number of a part or of a member
 unfoldable pub number-of : Step → ℕ

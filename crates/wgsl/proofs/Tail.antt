@@ -11,7 +11,7 @@ use native.Mathlib.Nat.{zero-add}
 use borrow.Author.Tests.{not-true}
 use Rattle.wgsl.specs.Round.{up}
 use Rattle.wgsl.specs.Types.{Ty, scalar, vector, matrix, array, runtime, atomic, struct, Members, no-more, member, isRuntime, endsInRuntime, isOpen, everywhere}
-use Rattle.wgsl.specs.Size.{both, givenOr, isPresent, present, startAfter, endAfter, sizeOf, alignOf, membersAlign, membersEnd, strideOf}
+use Rattle.wgsl.specs.Size.{both, givenOr, isPresent, present, startAfter, endAfter, sizeOf, alignOf, membersAlign, membersEnd, strideOf, memberStart, memberEnd}
 use Rattle.wgsl.specs.Rule.{isWellFormed, atLeast, givenSizeFits, givenAlignFits, membersGivenFit}
 use Rattle.wgsl.specs.Place.{Tail, tailAt, membersTail, tailOf, extentBy, extentOf}
 use Rattle.wgsl.proofs.Absent.{both-hold, true-not-false, some-not-none, some-present, present-is, both-some, both-none}
@@ -42,9 +42,9 @@ members-tail-none : (before : Option Tail) (end : Option ℕ) (b : Bool) (ms : M
 unfolding membersTail endsInRuntime
 members-tail-none before end b no-more h e = h e
 members-tail-none before end b (member t size align ms) h e =
-    members-tail-none (tailAt (startAfter end (givenOr align (alignOf t))) t)
-    (endAfter end (givenOr align (alignOf t)) (givenOr size (sizeOf t))) (isRuntime t) ms
-    (λ c. tail-at-none (startAfter end (givenOr align (alignOf t))) t c) e
+    members-tail-none (tailAt (memberStart end align (alignOf t)) t)
+    (memberEnd end align (alignOf t) size (sizeOf t)) (isRuntime t) ms
+    (λ c. tail-at-none (memberStart end align (alignOf t)) t c) e
 
 -- A type that is not open has no tail.
 pub closed-tail : (t : Ty) → isOpen t ≡ false → tailOf t ≡ none
@@ -83,7 +83,7 @@ absent-after align size = ap (λ (start : Option ℕ). both _+_ start size) (bot
 
 -- Past an absent end everything is absent.
 pub absent-end : (ms : Members) → membersEnd none ms ≡ none
-unfolding membersEnd
+unfolding membersEnd memberEnd
 absent-end no-more = refl
 absent-end (member t size align ms) =
     ap (λ (end : Option ℕ). membersEnd end ms) (absent-after (givenOr align (alignOf t)) (givenOr size (sizeOf t)))
@@ -109,13 +109,13 @@ runtime-unsized (struct k ms) e = true-not-false e refl
 
 -- the end of a struct that ends in a runtime array is absent
 open-end : (end : Option ℕ) (b : Bool) (ms : Members) → membersGivenFit ms ≡ true → (b ≡ true → end ≡ none) → endsInRuntime b ms ≡ true → membersEnd end ms ≡ none
-unfolding membersEnd endsInRuntime membersGivenFit endAfter givenOr
+unfolding membersEnd endsInRuntime membersGivenFit memberStart memberEnd endAfter givenOr
 open-end end b no-more g h e = h e
 open-end end b (member t size align ms) g h e =
     let fits = both-hold (givenSizeFits t size && givenAlignFits t align) (membersGivenFit ms) g in
     let fit = both-hold (givenSizeFits t size) (givenAlignFits t align) (fits .0) in
-    open-end (endAfter end (givenOr align (alignOf t)) (givenOr size (sizeOf t))) (isRuntime t) ms (fits .1)
-    (λ q. rw (runtime-size t size q (fit .0), runtime-unsized t q) (both-none _+_ (startAfter end (givenOr align (alignOf t))))) e
+    open-end (memberEnd end align (alignOf t) size (sizeOf t)) (isRuntime t) ms (fits .1)
+    (λ q. rw (runtime-size t size q (fit .0), runtime-unsized t q) (both-none _+_ (memberStart end align (alignOf t)))) e
 
 -- A well-formed type that has a size is not open.
 pub sized-closed : (t : Ty) (z : ℕ) → everywhere isWellFormed t ≡ true → sizeOf t ≡ some z → isOpen t ≡ false

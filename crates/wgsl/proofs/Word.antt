@@ -16,9 +16,10 @@ use Rattle.wgsl.specs.Number.{load, store}
 use Rattle.wgsl.specs.Types.{Ty}
 use Rattle.wgsl.specs.Said.{good, _>>_, refuse}
 use Rattle.wgsl.specs.Place.{Place, extentOf, places, storeWords, written, wordsRead, canHold, checkWords}
+use Rattle.wgsl.specs.Claim.{Ordered, Uncovered, Fit}
 use Rattle.wgsl.proofs.Said.{refuse-good}
-use Rattle.wgsl.proofs.Number.{Outside, length-store, store-other, load-same, load-store}
-use Rattle.wgsl.proofs.Shape.{Ordered, ordered-span}
+use Rattle.wgsl.proofs.Number.{length-store, store-other, load-same, load-store}
+use Rattle.wgsl.proofs.Shape.{ordered-span}
 
 -- ---- lengths
 
@@ -37,11 +38,6 @@ length-wordsRead [] b = refl
 length-wordsRead (p ∷ ps) b = ap suc (length-wordsRead ps b)
 
 -- ---- bytes that no place covers
-
--- byte i lies in none of the places
-unfoldable pub Uncovered : List Place → ℕ → Type 0
-Uncovered [] i = Unit {0}
-Uncovered (p ∷ ps) i = Outside (p .at) (p .width) i × Uncovered ps i
 
 -- A byte that no place covers stays.
 pub storeWords-uncovered : (ps : List Place) (ws b : List ℕ) (i : ℕ) → Uncovered ps i → getD (storeWords ps ws b) i 0 ≡ getD b i 0
@@ -65,12 +61,6 @@ uncovered-past (p ∷ ps) lo hi i o h =
     (inr (omega (arith, ordered-span ps (p .at + p .width) hi (o .1))), uncovered-past ps (p .at + p .width) hi i (o .1) h)
 
 -- ---- words that fit
-
--- each word is one that its place can hold
-unfoldable pub Fit : List Place → List ℕ → Type 0
-Fit [] ws = Unit {0}
-Fit (p ∷ ps) [] = Unit {0}
-Fit (p ∷ ps) (w ∷ ws) = (w < 256 ^ p .width) × Fit ps ws
 
 -- Words that are not refused fit.
 pub checkWords-fit : (k : ℕ) (ps : List Place) (ws : List ℕ) → checkWords k ps ws ≡ good tt → Fit ps ws

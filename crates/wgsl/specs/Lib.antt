@@ -11,4 +11,6 @@ pub mod Path
 pub mod Rank
 pub mod Call
 pub mod Listing
+pub mod Claim
+pub mod Demand
 pub mod Case

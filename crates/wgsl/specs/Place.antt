@@ -12,7 +12,7 @@ use lib.ListN.{length, drop, replicate}
 use lib.Dec.{ltb}
 use Rattle.wgsl.specs.Number.{load, store}
 use Rattle.wgsl.specs.Types.{Scalar, Ty, scalar, vector, matrix, array, runtime, atomic, struct, Members, no-more, member}
-use Rattle.wgsl.specs.Size.{givenOr, present, widthOf, vectorAlign, startAfter, endAfter, sizeOf, alignOf, strideOf}
+use Rattle.wgsl.specs.Size.{present, widthOf, vectorAlign, memberStart, memberEnd, sizeOf, alignOf, strideOf}
 use Rattle.wgsl.specs.Said.{Said, good, _>>_, refuse}
 
 -- the runtime array that a type is or ends in: its "array offset", and its stride
@@ -34,8 +34,7 @@ tailAt offset (struct k ms) = none
 unfoldable pub membersTail : Option Tail → Option ℕ → Members → Option Tail
 membersTail before end no-more = before
 membersTail before end (member t size align ms) =
-    membersTail (tailAt (startAfter end (givenOr align (alignOf t))) t)
-    (endAfter end (givenOr align (alignOf t)) (givenOr size (sizeOf t))) ms
+    membersTail (tailAt (memberStart end align (alignOf t)) t) (memberEnd end align (alignOf t) size (sizeOf t)) ms
 
 unfoldable pub tailOf : Ty → Option Tail
 tailOf (scalar s) = none
@@ -91,8 +90,8 @@ unfoldable mutual
   pub fieldsOf : ℕ → ℕ → Option ℕ → Members → Shape
   fieldsOf n z end no-more = whole z
   fieldsOf n z end (member t size align ms) =
-      field (present (startAfter end (givenOr align (alignOf t)))) (shapeOf n t)
-      (fieldsOf n z (endAfter end (givenOr align (alignOf t)) (givenOr size (sizeOf t))) ms)
+      field (present (memberStart end align (alignOf t))) (shapeOf n t)
+      (fieldsOf n z (memberEnd end align (alignOf t) size (sizeOf t)) ms)
 
 -- the bytes that a shape takes: "A target has its type's size, whatever size a member gives"
 unfoldable pub spanOf : Shape → ℕ

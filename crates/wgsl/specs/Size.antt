@@ -61,12 +61,20 @@ vectorSize n s = both _*_ (some n) (widthOf s)
 unfoldable pub vectorAlign : ℕ → Scalar → Option ℕ
 vectorAlign n s = cond (eqb n 3) (vec3Align s) (vectorSize n s)
 
--- "a member starts at up(its align, end of the one before), and ends its given size or type's size later"
+-- "a member starts at up(its align, end of the one before), and ends its .. size later"
 unfoldable pub startAfter : Option ℕ → Option ℕ → Option ℕ
 startAfter end align = both up align end
 
 unfoldable pub endAfter : Option ℕ → Option ℕ → Option ℕ → Option ℕ
 endAfter end align size = both _+_ (startAfter end align) size
+
+-- Where a member starts and where it ends: its align and its size are those that the file gives, else those of its type. All that asks
+-- where members lie asks these two: the size of a struct, the offsets, the shape that is written, read and walked, and its tail.
+unfoldable pub memberStart : Option ℕ → Option ℕ → Option ℕ → Option ℕ
+memberStart end align typeAlign = startAfter end (givenOr align typeAlign)
+
+unfoldable pub memberEnd : Option ℕ → Option ℕ → Option ℕ → Option ℕ → Option ℕ → Option ℕ
+memberEnd end align typeAlign size typeSize = endAfter end (givenOr align typeAlign) (givenOr size typeSize)
 
 unfoldable mutual
   pub sizeOf : Ty → Option ℕ
@@ -101,8 +109,7 @@ unfoldable mutual
   -- the end of the last member, where the one before the first ended at `end`
   pub membersEnd : Option ℕ → Members → Option ℕ
   membersEnd end no-more = end
-  membersEnd end (member t size align ms) =
-      membersEnd (endAfter end (givenOr align (alignOf t)) (givenOr size (sizeOf t))) ms
+  membersEnd end (member t size align ms) = membersEnd (memberEnd end align (alignOf t) size (sizeOf t)) ms
 
 -- "Stride of an array: up(element alignment, element size)", of an array of elements of this type
 unfoldable pub strideOf : Ty → Option ℕ
@@ -122,8 +129,7 @@ minSizeOf (struct k ms) = sizeOf (struct k ms)
 unfoldable pub offsetsOf : Option ℕ → Members → List (Option ℕ)
 offsetsOf end no-more = []
 offsetsOf end (member t size align ms) =
-    startAfter end (givenOr align (alignOf t))
-    ∷ offsetsOf (endAfter end (givenOr align (alignOf t)) (givenOr size (sizeOf t))) ms
+    memberStart end align (alignOf t) ∷ offsetsOf (memberEnd end align (alignOf t) size (sizeOf t)) ms
 
 -- the numbers of a type beyond its size, alignment and minimum size: "offset and stride included"
 unfoldable pub innerNumbersOf : Ty → List (Option ℕ)

@@ -1,0 +1,167 @@
+-- Each law of Claims that has hypotheses, at a file or at numbers that meet them: antt computes that they do. A law that nothing meets
+-- would have no line here.
+--
+-- The files are those of specs/Case: a matrix (P11), a struct with a given size (P7), an open struct (P10), an array too large (P9); and
+-- two entries that break 5 and 6, and 6 and 7.
+-- Assumes nothing.
+use Prim.Native.Nat.{ℕ, _+_, _^_, _<_, _≤_}
+use mathlib.Core.Bool.{true}
+use mathlib.Core.List.{List, [], _∷_, _++_, List·Memᴰ, List·Memᴰ·head}
+use mathlib.Core.Logic.{inr}
+use mathlib.Core.Option.{none, some}
+use mathlib.Core.Path.{_≡_, refl}
+use native.Mathlib.Omega.{arith}
+use lib.ListN.{length, getD, take, drop, getElem?, replicate}
+use Rattle.wgsl.specs.Number.{load, bytesOf, store}
+use Rattle.wgsl.specs.Round.{IsUp, up, IsPower, powerBelow, isPower, limit, withinLimit}
+use Rattle.wgsl.specs.Types.{u32, f32, Ty, scalar, vector, matrix, runtime, struct, no-more, member, isRuntime, endsInRuntime, isOpen, everywhere, everyMember}
+use Rattle.wgsl.specs.Size.{both, givenOr, isPresent, present, widthOf, vec3Align, vectorSize, vectorAlign, startAfter, endAfter, memberStart, memberEnd, sizeOf, alignOf, membersAlign, membersEnd, strideOf, minSizeOf, offsetsOf, innerNumbersOf, numbersOf, withinLimits, fitsLimit, hasLayout, isStored, isPlain, isStorable}
+use Rattle.wgsl.specs.Said.{good, refused, _>>=_, _>>_, refuse, orRefuse}
+use Rattle.wgsl.specs.File.{trailerLength, typeEntryLength, memberEntryLength, trailerOf, lengthBy, typeEntryFrom, typeEntryAt, memberEntryFrom, memberEntryAt, sizeIsGiven, alignIsGiven, givenSize, givenAlign, restIsZero, between, checkTrailer}
+use Rattle.wgsl.specs.Rule.{when, andThen, unused, scalarOfKind, scalarIn, lower, membersFrom, scalarMade, vectorMade, matrixMade, arrayMade, runtimeMade, atomicMade, structMade, overMade, typeMade, typeOfEntry, isMatrixScalar, isAtomicScalar, isLast, countOf, memberAllowed, membersAllowed, isAllowed, atLeast, givenSizeFits, isMultiple, givenAlignFits, membersGivenFit, givenFits, isWellFormed, judged, typesBelow, typesOf}
+use Rattle.wgsl.specs.Place.{tailAt, membersTail, tailOf, extentBy, extentOf, elementsBy, elementsIn, one, column, shapeOf, fieldsOf, spanOf, Place, wordPlaces, repeated, placesOf, places, wordCount, storeWords, written, wordsRead, canHold, checkWords}
+use Rattle.wgsl.specs.Path.{stepOf, enter, walk}
+use Rattle.wgsl.specs.Call.{Done, checkOf, entryOf, laidEntry, storedEntry, isShort, readCall, elementsFor, isWrongCount, writeCall, targetIn, viewCall, scalarAt, setCall}
+use Rattle.wgsl.specs.Claim.{Lowest, Ordered, typesIn, memberStep, CanRead, CanWrite, CanView, CanSet, Wrote, Read}
+use Rattle.wgsl.specs.Demand.{Given, Leading, SetThenRead, OnePath}
+use Rattle.wgsl.specs.Case.{typeEntry, memberGiven, memberEntry, trailer, arrayOfU32, openStruct, matrixOfF32, structWithSize}
+use Rattle.wgsl.proofs.Absent.{true-not-false}
+use Rattle.wgsl.proofs.Claims as claims
+
+-- ---- what is asked
+
+-- u32, abstract int, and a struct of both, the first with a given size of 3: 5 for the second member, and 6 for the first
+unfoldable pub fiveAndSix : List ℕ
+fiveAndSix =
+    typeEntry 2 0 0 0 0
+    ++ typeEntry 5 0 0 0 0
+    ++ typeEntry 12 0 0 0 2
+    ++ memberGiven 0 1 3 0
+    ++ memberEntry 1
+    ++ trailer 3 2
+
+-- u32, and a struct of two of it with given sizes of 3 and 4,294,967,295: 6 for the first, 7 for both
+unfoldable pub sixAndSeven : List ℕ
+sixAndSeven =
+    typeEntry 2 0 0 0 0 ++ typeEntry 12 0 0 0 2 ++ memberGiven 0 1 3 0 ++ memberGiven 0 1 4_294_967_295 0 ++ trailer 2 2
+
+unfoldable pub matrixTypes : List Ty
+matrixTypes = scalar f32 ∷ matrix 3 3 f32 ∷ []
+
+-- the words of `openStruct` with two elements, and a buffer for them
+unfoldable pub nine : List ℕ
+nine = 1 ∷ 2 ∷ 3 ∷ 4 ∷ 5 ∷ 6 ∷ 7 ∷ 8 ∷ 9 ∷ []
+
+unfoldable pub rubbish : List ℕ
+rubbish = replicate 50 7
+
+-- the matrix's scalar of P11, and the second member of P7
+unfoldable pub inMatrix : List ℕ
+inMatrix = 2 ∷ 1 ∷ []
+
+unfoldable pub inStruct : List ℕ
+inStruct = memberStep 1 ∷ []
+
+-- ---- the laws
+
+pub record Witnesses : Type 0 where
+  pub stored-is-read : load 2 (store 2 (replicate 4 0) 1 258) 1 ≡ 258
+  pub store-stays-inside : getD (store 2 (replicate 4 7) 1 258) 3 0 ≡ 7
+  pub rounding : IsUp 16 12 (up 16 12)
+  pub rounding-unique : up 16 12 ≡ 16
+  pub power-test-sound : IsPower 16
+  pub power-test-complete : isPower 16 ≡ true
+  pub refers-downwards : (t : Ty) × (getElem? matrixTypes 1 ≡ some t) × (judged matrixOfF32 (take 1 matrixTypes) 1 ≡ good t)
+  pub well-formed : everywhere isWellFormed (matrix 3 3 f32) ≡ true
+  pub lowest-bad-entry : Lowest (arrayOfU32 1_073_741_824) 2 7 1
+  pub five-before-six : Lowest fiveAndSix 3 5 2
+  pub six-before-seven : Lowest sixAndSeven 2 6 1
+  pub alignments : IsPower 16 × (16 ≤ 2 ^ 31)
+  pub numbers-within-limit : 48 ≤ limit
+  pub places-in-order : Ordered (places 0 (matrix 3 3 f32)) 0 (extentOf 0 (matrix 3 3 f32))
+  pub some-words : 1 ≤ wordCount 0 (matrix 3 3 f32)
+  pub members-lie : viewCall structWithSize 1 inStruct (replicate 24 0) ≡ good (record { offset = 20; shape = one u32 })
+  pub can-read : CanRead openStruct 4 rubbish nine
+  pub can-write : CanWrite openStruct 4 nine rubbish
+  pub can-view : CanView matrixOfF32 1 inMatrix rubbish
+  pub can-set : CanSet matrixOfF32 1 inMatrix 5 rubbish
+  pub wrote : Done
+  pub write-good : writeCall openStruct 4 nine rubbish ≡ good wrote
+  pub writing : Wrote openStruct 4 nine rubbish wrote
+  pub read : Done
+  pub read-good : readCall openStruct 4 rubbish nine ≡ good read
+  pub reading : Read openStruct 4 rubbish nine read
+  pub reading-what-was-written : readCall openStruct 4 (take (wrote .value) (wrote .contents)) rubbish ≡ good (record { value = 9; contents = nine ++ drop 9 rubbish })
+  pub refused-places-fit : 1 < 2 ^ 32
+  pub matrix-given : Given matrixOfF32 1 rubbish
+  pub matrix-leading : Leading matrixOfF32 1 rubbish inMatrix 36 f32
+  pub matrix-demand : SetThenRead matrix-given inMatrix 36 f32 5 nine
+  pub matrix-path : OnePath matrix-given (record { at = 36; width = 4 })
+  pub struct-given : Given structWithSize 1 rubbish
+  pub struct-leading : Leading structWithSize 1 rubbish inStruct 20 u32
+  pub struct-demand : SetThenRead struct-given inStruct 20 u32 5 nine
+
+pub witnesses : Witnesses
+unfolding load bytesOf up powerBelow isPower limit withinLimit isRuntime endsInRuntime isOpen everywhere everyMember both givenOr isPresent present widthOf vec3Align vectorSize vectorAlign startAfter endAfter sizeOf alignOf membersAlign membersEnd strideOf minSizeOf offsetsOf innerNumbersOf numbersOf withinLimits fitsLimit hasLayout isStored isPlain isStorable _>>=_ _>>_ refuse orRefuse trailerLength typeEntryLength memberEntryLength trailerOf lengthBy typeEntryFrom typeEntryAt memberEntryFrom memberEntryAt sizeIsGiven alignIsGiven givenSize givenAlign restIsZero between checkTrailer when andThen unused scalarOfKind scalarIn lower membersFrom scalarMade vectorMade matrixMade arrayMade runtimeMade atomicMade structMade overMade typeMade typeOfEntry isMatrixScalar isAtomicScalar isLast countOf memberAllowed membersAllowed isAllowed atLeast givenSizeFits isMultiple givenAlignFits membersGivenFit givenFits judged typesBelow typesOf tailAt membersTail tailOf extentBy extentOf elementsBy elementsIn column shapeOf fieldsOf spanOf wordPlaces repeated placesOf places wordCount wordsRead stepOf enter walk entryOf laidEntry storedEntry isShort readCall targetIn viewCall typeEntry memberGiven memberEntry trailer arrayOfU32 openStruct matrixOfF32 structWithSize memberStart memberEnd memberStep store storeWords written canHold checkWords elementsFor isWrongCount writeCall scalarAt setCall typesIn isWellFormed checkOf fiveAndSix sixAndSeven matrixTypes nine rubbish inMatrix inStruct
+witnesses =
+    let types : typesBelow matrixOfF32 2 ≡ good matrixTypes = refl in
+    let entry : entryOf matrixOfF32 1 ≡ good (matrix 3 3 f32) = refl in
+    let given : Given matrixOfF32 1 rubbish = record {
+      type = matrix 3 3 f32;
+      size = 48;
+      entry = refl;
+      storable = refl;
+      sized = refl;
+      room = omega arith;
+      within = omega arith;
+    } in
+    let leading : Leading matrixOfF32 1 rubbish inMatrix 36 f32 = record { leads = refl } in
+    let sized : Given structWithSize 1 rubbish = record {
+      type = struct 1 (member (scalar u32) (some 20) none (member (scalar u32) none none no-more));
+      size = 24;
+      entry = refl;
+      storable = refl;
+      sized = refl;
+      room = omega arith;
+      within = omega arith;
+    } in
+    let second : Leading structWithSize 1 rubbish inStruct 20 u32 = record { leads = refl } in
+    record {
+      stored-is-read = claims.stored-is-read 2 (replicate 4 0) 1 258 (omega arith) (omega arith);
+      store-stays-inside = claims.store-stays-inside 2 (replicate 4 7) 1 258 3 (inr (omega arith));
+      rounding = claims.rounding 16 12 (omega arith);
+      rounding-unique = claims.rounding-unique (claims.rounding 16 12 (omega arith)) (claims.rounding 16 12 (omega arith));
+      power-test-sound = claims.power-test-sound 16 refl;
+      power-test-complete = claims.power-test-complete 16 (omega arith) (record { exponent = 4; is = refl });
+      refers-downwards = claims.refers-downwards matrixOfF32 2 matrixTypes types 1 (omega arith);
+      well-formed = claims.well-formed matrixOfF32 matrixTypes refl 1 (matrix 3 3 f32) refl;
+      lowest-bad-entry = claims.lowest-bad-entry (arrayOfU32 1_073_741_824) 2 refl;
+      five-before-six = claims.lowest-bad-entry fiveAndSix 3 refl;
+      six-before-seven = claims.lowest-bad-entry sixAndSeven 2 refl;
+      alignments = claims.alignments matrixOfF32 matrixTypes refl 1 (matrix 3 3 f32) refl 16 refl;
+      numbers-within-limit = claims.numbers-within-limit matrixOfF32 matrixTypes refl 1 (matrix 3 3 f32) refl 48 (List·Memᴰ·head refl);
+      places-in-order = claims.places-in-order matrixOfF32 1 (matrix 3 3 f32) entry refl 0;
+      some-words = claims.some-words 0 (matrix 3 3 f32) refl (λ o. true-not-false o refl);
+      members-lie =
+          claims.members-lie {f = structWithSize} {e = 1} {b = replicate 24 0}
+          (record { entry = sized .entry; within = omega arith; layout = refl }) (omega arith) 1 20 (scalar u32) refl refl;
+      can-read = claims.reading-good-if openStruct 4 rubbish nine .only-if _ refl;
+      can-write = claims.writing-good-if openStruct 4 nine rubbish .only-if _ refl;
+      can-view = claims.viewing-good-if matrixOfF32 1 inMatrix rubbish .only-if _ refl;
+      can-set = claims.setting-good-if matrixOfF32 1 inMatrix 5 rubbish .only-if _ refl;
+      wrote = _;
+      write-good = refl;
+      writing = claims.writing openStruct 4 nine rubbish _ refl;
+      read = _;
+      read-good = refl;
+      reading = claims.reading openStruct 4 rubbish nine _ refl;
+      reading-what-was-written = claims.reading-what-was-written openStruct 4 nine rubbish _ refl rubbish (omega arith);
+      refused-places-fit = claims.refused-places-fit (arrayOfU32 1_073_741_824) .check 7 1 refl;
+      matrix-given = given;
+      matrix-leading = leading;
+      matrix-demand = claims.demand-3 given .set-read inMatrix 36 f32 leading 5 (omega arith) nine (omega arith);
+      matrix-path = claims.place-has-one-path given (record { at = 36; width = 4 }) (claims.path-has-place given leading);
+      struct-given = sized;
+      struct-leading = second;
+      struct-demand = claims.demand-3 sized .set-read inStruct 20 u32 second 5 (omega arith) nine (omega arith);
+    }

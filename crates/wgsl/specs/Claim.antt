@@ -1,0 +1,200 @@
+-- What the laws of proofs/Claims say: the predicates that they use, in the order of the laws.
+--
+-- In order: bytes; the lowest bad entry; places; where members lie; paths; the entry that a call is about; when a call is good; what a
+-- call leaves; the places of refusals.
+-- Not here: demand 3 (`Demand`).
+-- Definitions only. Assumes nothing.
+use Prim.Native.Nat.{ℕ, zero, suc, _+_, _*_, _^_, _<_, _≤_}
+use mathlib.Core.Bool.{true, false}
+use mathlib.Core.List.{List, [], _∷_, map}
+use mathlib.Core.Logic.{_⊎_}
+use mathlib.Core.Option.{none, some}
+use mathlib.Core.Path.{_≡_}
+use lib.ListN.{length, getD, take, drop}
+use Rattle.wgsl.specs.Round.{limit}
+use Rattle.wgsl.specs.Types.{Scalar, Ty, Members, no-more, member, isOpen}
+use Rattle.wgsl.specs.Size.{present, widthOf, fitsLimit, hasLayout, isStorable}
+use Rattle.wgsl.specs.Said.{Said, good, refused}
+use Rattle.wgsl.specs.Rule.{typeOfEntry, isAllowed, givenFits, typesBelow}
+use Rattle.wgsl.specs.Place.{extentOf, elementsIn, Shape, one, parts, field, shapeOf, Place, places, wordCount, wordsRead}
+use Rattle.wgsl.specs.Path as path
+use Rattle.wgsl.specs.Path.{Step, stepOf}
+use Rattle.wgsl.specs.Call.{Done, checkOf, entryOf, sizeCall, alignCall, minSizeCall, layoutCall, readCall, writeCall, viewCall, setCall, rankCall, commonCall}
+
+-- ---- bytes
+
+-- byte i is none of the k bytes from `at`
+abbrev pub Outside : ℕ → ℕ → ℕ → Type 0
+Outside at k i = (i < at) ⊎ (at + k ≤ i)
+
+-- the m bytes from a and the n bytes from b share none
+abbrev pub Apart : ℕ → ℕ → ℕ → ℕ → Type 0
+Apart a m b n = (a + m ≤ b) ⊎ (b + n ≤ a)
+
+-- ---- the lowest bad entry
+
+-- Why entry k, over the types of the lower entries, is refused with a number: "in it 5 before 6 before 7".
+pub data Broken (f : List ℕ) (ts : List Ty) (k : ℕ) : ℕ → Type 0 where
+  -- 5: "any rule above for an entry or its members is broken, but the two under 6"
+  no-type : typeOfEntry f ts k ≡ none → Broken f ts k 5
+  not-allowed : (t : Ty) → typeOfEntry f ts k ≡ some t → isAllowed t ≡ false → Broken f ts k 5
+  -- 6: "the sentence on a given size or on a given align is broken", and nothing that 5 names
+  not-given : (t : Ty) → typeOfEntry f ts k ≡ some t → isAllowed t ≡ true → givenFits t ≡ false → Broken f ts k 6
+  -- 7: "a number too large", and nothing that 5 or 6 name
+  too-large : (t : Ty) → typeOfEntry f ts k ≡ some t → isAllowed t ≡ true → givenFits t ≡ true → fitsLimit t ≡ false → Broken f ts k 7
+
+-- The entry at `place` is the lowest bad one below n, and is refused with that number.
+pub record Lowest (f : List ℕ) (n number place : ℕ) : Type 0 where
+  pub low : place < n
+  pub types : List Ty
+  pub good-below : typesBelow f place ≡ good types
+  pub broken : Broken f types place number
+
+-- ---- places
+
+-- the places lie between lo and hi, each past the end of the one before
+unfoldable pub Ordered : List Place → ℕ → ℕ → Type 0
+Ordered [] lo hi = lo ≤ hi
+Ordered (p ∷ ps) lo hi = (lo ≤ p .at) × Ordered ps (p .at + p .width) hi
+
+-- byte i lies in none of the places
+unfoldable pub Uncovered : List Place → ℕ → Type 0
+Uncovered [] i = Unit {0}
+Uncovered (p ∷ ps) i = Outside (p .at) (p .width) i × Uncovered ps i
+
+-- each word is one that its place can hold
+unfoldable pub Fit : List Place → List ℕ → Type 0
+Fit [] ws = Unit {0}
+Fit (p ∷ ps) [] = Unit {0}
+Fit (p ∷ ps) (w ∷ ws) = (w < 256 ^ p .width) × Fit ps ws
+
+-- ---- where members lie
+
+-- the types of the members, in their order
+unfoldable pub typesIn : Members → List Ty
+typesIn no-more = []
+typesIn (member t size align ms) = t ∷ typesIn ms
+
+-- the u32 that is the step to member i
+unfoldable pub memberStep : ℕ → ℕ
+memberStep i = 2 ^ 31 + i
+
+-- ---- paths
+
+-- the steps lead from a shape at an offset to a shape at an offset: each is one that the shape has
+pub data Leads : ℕ → Shape → List Step → ℕ → Shape → Type 0 where
+  here : {off : ℕ} {x : Shape} → Leads off x [] off x
+  part : {off n stride i a : ℕ} {x y : Shape} {steps : List Step} → i < n → Leads (off + i * stride) x steps a y → Leads off (parts n stride x) (path.index i ∷ steps) a y
+  first : {off offset a : ℕ} {x rest y : Shape} {steps : List Step} → Leads (off + offset) x steps a y → Leads off (field offset x rest) (path.member zero ∷ steps) a y
+  later : {off offset i a : ℕ} {x rest y : Shape} {steps : List Step} → Leads off rest (path.member i ∷ steps) a y → Leads off (field offset x rest) (path.member (suc i) ∷ steps) a y
+
+-- ---- the entry that a call is about
+
+-- entry e of an accepted file has the type t, and neither 8 nor 17 nor 9 is due
+pub record LaidOut (f : List ℕ) (e : ℕ) (b : List ℕ) (t : Ty) : Type 0 where
+  pub entry : entryOf f e ≡ good t
+  pub within : length b ≤ limit
+  pub layout : hasLayout t ≡ true
+
+-- the same, and 10 is not due
+pub record Stored (f : List ℕ) (e : ℕ) (b : List ℕ) (t : Ty) : Type 0 where
+  pub entry : entryOf f e ≡ good t
+  pub within : length b ≤ limit
+  pub layout : hasLayout t ≡ true
+  pub storable : isStorable t ≡ true
+
+-- 15 is not due to read, view or set: the buffer holds the size, or of an open type one whole element
+abbrev pub HasRoom : Ty → List ℕ → Type 0
+HasRoom t b = extentOf 1 t ≤ length b
+
+-- ---- when a call is good
+
+-- A call is good exactly if P holds: so it refuses exactly if P does not.
+pub record GoodIf {A : Type 0} (said : Said A) (P : Type 0) : Type 0 where
+  pub if-so : P → (a : A) × (said ≡ good a)
+  pub only-if : (a : A) → said ≡ good a → P
+
+-- None of 14, 15, 16 is due to write: the words are as many as the type with some number of elements has, at least one if it is open;
+-- there is room for them, and each is one that its place can hold.
+pub record CanWrite (f : List ℕ) (e : ℕ) (ws b : List ℕ) : Type 0 where
+  pub type : Ty
+  pub stored : Stored f e b type
+  pub elements : ℕ
+  pub some-elements : isOpen type ≡ true → 1 ≤ elements
+  pub count : length ws ≡ wordCount elements type
+  pub room : extentOf elements type ≤ length b
+  pub words-fit : Fit (places elements type) ws
+
+-- Neither 15 nor 14 is due to read.
+pub record CanRead (f : List ℕ) (e : ℕ) (b ws : List ℕ) : Type 0 where
+  pub type : Ty
+  pub stored : Stored f e b type
+  pub room : HasRoom type b
+  pub enough : wordCount (elementsIn (length b) type) type ≤ length ws
+
+-- Neither 15 nor 11 to 13 is due to view: every step is one that the shape before it has.
+pub record CanView (f : List ℕ) (e : ℕ) (steps b : List ℕ) : Type 0 where
+  pub type : Ty
+  pub laid : LaidOut f e b type
+  pub room : HasRoom type b
+  pub offset : ℕ
+  pub shape : Shape
+  pub valid : Leads 0 (shapeOf (elementsIn (length b) type) type) (map stepOf steps) offset shape
+
+-- Nor 14 nor 16 to set: the steps lead to one scalar, which can hold the word.
+pub record CanSet (f : List ℕ) (e : ℕ) (steps : List ℕ) (w : ℕ) (b : List ℕ) : Type 0 where
+  pub type : Ty
+  pub stored : Stored f e b type
+  pub room : HasRoom type b
+  pub offset : ℕ
+  pub scalar-there : Scalar
+  pub valid : Leads 0 (shapeOf (elementsIn (length b) type) type) (map stepOf steps) offset (one scalar-there)
+  pub word-fits : w < 256 ^ present (widthOf scalar-there)
+
+-- ---- what a call leaves
+
+-- What a write that is not refused has done. An open type's array then has so many elements.
+pub record Wrote (f : List ℕ) (e : ℕ) (ws b : List ℕ) (d : Done) : Type 0 where
+  pub type : Ty
+  pub elements : ℕ
+  pub stored : Stored f e b type
+  pub some-elements : isOpen type ≡ true → 1 ≤ elements
+  pub count : length ws ≡ wordCount elements type
+  pub value-is : d .value ≡ extentOf elements type
+  pub fits : extentOf elements type ≤ length b
+  pub length-same : length (d .contents) ≡ length b
+  pub words-there : wordsRead (places elements type) (d .contents) ≡ ws
+  pub zero-elsewhere : (i : ℕ) → i < d .value → Uncovered (places elements type) i → getD (d .contents) i 0 ≡ 0
+  pub later-stay : (i : ℕ) → d .value ≤ i → getD (d .contents) i 0 ≡ getD b i 0
+
+-- What a read that is not refused has done. An open type's array has so many elements in the buffer.
+pub record Read (f : List ℕ) (e : ℕ) (b ws : List ℕ) (d : Done) : Type 0 where
+  pub type : Ty
+  pub elements : ℕ
+  pub stored : Stored f e b type
+  pub elements-are : elements ≡ elementsIn (length b) type
+  pub fits : extentOf elements type ≤ length b
+  pub value-is : d .value ≡ wordCount elements type
+  pub words-are : take (d .value) (d .contents) ≡ wordsRead (places elements type) b
+  pub later-stay : drop (d .value) (d .contents) ≡ drop (d .value) ws
+  pub length-same : length (d .contents) ≡ length ws
+
+-- ---- the places of refusals
+
+-- a refusal's place is a number of 32 bits
+abbrev pub PlaceFits : {A : Type 0} → Said A → Type 0
+PlaceFits said = (number place : ℕ) → said ≡ refused number place → place < 2 ^ 32
+
+-- the same of every call, whatever it is asked
+pub record PlacesFit (f : List ℕ) : Type 0 where
+  pub check : PlaceFits (checkOf f)
+  pub size : (e : ℕ) → PlaceFits (sizeCall f e)
+  pub align : (e : ℕ) → PlaceFits (alignCall f e)
+  pub min-size : (e : ℕ) → PlaceFits (minSizeCall f e)
+  pub layout : (e : ℕ) → PlaceFits (layoutCall f e)
+  pub read : (e : ℕ) (b ws : List ℕ) → PlaceFits (readCall f e b ws)
+  pub write : (e : ℕ) (ws b : List ℕ) → PlaceFits (writeCall f e ws b)
+  pub view : (e : ℕ) (steps b : List ℕ) → PlaceFits (viewCall f e steps b)
+  pub set : (e : ℕ) (steps : List ℕ) (w : ℕ) (b : List ℕ) → PlaceFits (setCall f e steps w b)
+  pub rank : (x y : ℕ) → PlaceFits (rankCall f x y)
+  pub common : (es : List ℕ) → PlaceFits (commonCall f es)
