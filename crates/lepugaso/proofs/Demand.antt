@@ -1,7 +1,7 @@
--- Demand 3 on the code: of the public calls `view_at`, `set` and `read`, by their claims (proofs/Claims) and the same demand over the
--- definitions (crates/wgsl, proofs/Demand).
+-- Demands 2 and 3 are met by the public calls (specs/Demand), from their claims and the laws over the definitions (crates/wgsl,
+-- proofs/Claims).
 --
--- In order: a path to one scalar, by `view_at`; a call's answer; the demand.
+-- In order: a call's answer; demand 2; a path to one scalar, by `view_at`; demand 3.
 -- Assumes nothing.
 use Prim.Native.Nat.{ℕ, _+_, _%_, _^_, _<_, _≤_}
 use mathlib.Core.List.{List}
@@ -15,11 +15,12 @@ use Rattle.wgsl.specs.Size.{present, widthOf}
 use Rattle.wgsl.specs.Said.{Said, good, refused}
 use Rattle.wgsl.specs.Place.{Shape, one, parts, field, whole, spanOf, places, wordCount}
 use Rattle.wgsl.specs.Path as ways
-use Rattle.wgsl.specs.Call.{Done, answerOf, contentsOf, readCall, viewCall}
+use Rattle.wgsl.specs.Call.{Done, answerOf, contentsOf, readCall, writeCall, viewCall}
+use Rattle.wgsl.specs.Claim.{Outside, Apart}
+use Rattle.wgsl.specs.Demand.{Given, Leading, Words, SetThenRead}
 use Rattle.wgsl.proofs.Said.{good-not-refused}
-use Rattle.wgsl.proofs.Number.{Outside}
-use Rattle.wgsl.proofs.Path.{Apart}
-use Rattle.wgsl.proofs.Demand.{Given, Leading, Words, demand-three, SetThenRead}
+use Rattle.wgsl.proofs.Claims.{writing-good-if, writing, reading-what-was-written}
+use Rattle.wgsl.proofs.Demand.{demand-three}
 use Rattle.layout.specs.declared.ask.Number.{Number}
 use Rattle.layout.specs.declared.ask.Number.the-variants.{Is}
 use Rattle.layout.specs.Answer.{saidNumber}
@@ -28,14 +29,72 @@ use Rattle.walker.specs.declared.walk.Target.{Target}
 use Rattle.walker.specs.declared.walk.Walked.the-variants.{To}
 use Rattle.walker.specs.Way.{scalarIn}
 use Rattle.walker.specs.Walk.{targetIs, reached}
-use Rattle.lepugaso.proofs.Claims.{Views, Sets, Reads}
+use Rattle.lepugaso.specs.Claim.{Writes, Reads, Sets}
+use Rattle.lepugaso.specs.Demand.{Filled, TwoOnTheCode, ToScalar, IsSet, OneReplaced, ThreeOnTheCode}
+
+-- ---- a call's answer
+
+-- where the definition gives a value and contents, so does the call
+good-answer : {said : Said Done} {v : ℕ} {c : List ℕ} (r : Number) → said ≡ good (record { value = v; contents = c }) → saidNumber r ≡ answerOf said → r ≡ Is v
+unfolding answerOf
+good-answer r is q = single-number r (Is _) (q ∙ ap answerOf is) refl
+
+good-contents : {said : Said Done} {v : ℕ} {c after : List ℕ} (before : List ℕ) → said ≡ good (record { value = v; contents = c }) → after ≡ contentsOf before said → after ≡ c
+unfolding contentsOf
+good-contents before is q = q ∙ ap (contentsOf before) is
+
+-- where the call answers a value, so does the definition
+answer-good : (said : Said Done) (v : ℕ) → good v ≡ answerOf said → (c : List ℕ) × (said ≡ good (record { value = v; contents = c }))
+unfolding answerOf
+answer-good (good d) v q = let same : v ≡ d .value = cc in (d .contents, rw same refl)
+answer-good (refused number place) v q = good-not-refused refl q
+
+-- where the call refuses, nothing changes
+answer-refused : {number place : ℕ} (said : Said Done) (before : List ℕ) → refused number place ≡ answerOf said → contentsOf before said ≡ before
+unfolding answerOf contentsOf
+answer-refused (good d) before q = good-not-refused q refl
+answer-refused (refused number place) before q = refl
+
+-- ---- demand 2
+
+module _ (f : List ℕ) (e : ℕ) (ws b : List ℕ) where
+  wrote-filled : (n : ℕ) (b′ : List ℕ) → Writes f e ws b (Is n) b′ → Filled f e ws b n b′
+  wrote-filled n b′ x =
+      let (c, is) = answer-good (writeCall f e ws b) n (x .answer) in
+      let w = writing f e ws b (record { value = n; contents = c }) is in
+      let same : b′ ≡ c = good-contents b is (x .buffer) in
+      rw same (record {
+        type = w .type;
+        elements = w .elements;
+        stored = w .stored;
+        some-elements = w .some-elements;
+        count = w .count;
+        size-filled = w .value-is;
+        inside = omega (arith, w .value-is, w .fits);
+        length-same = w .length-same;
+        values-there = w .words-there;
+        zero-elsewhere = w .zero-elsewhere;
+        later-stay = w .later-stay;
+        read-back = λ vs enough r vs′ y.
+            let back = reading-what-was-written f e ws b (record { value = n; contents = c }) is vs enough in
+            (good-answer r back (y .answer), good-contents vs back (y .words));
+      })
+
+  -- Demand 2 is met by the calls.
+  pub demand-two-on-the-code : TwoOnTheCode f e ws b
+  demand-two-on-the-code =
+      record {
+        answered = λ r b′ x can.
+            let (d, is) = writing-good-if f e ws b .if-so can in
+            (d .value, good-answer r is (x .answer));
+        only-then = λ n b′ x.
+            let (c, is) = answer-good (writeCall f e ws b) n (x .answer) in
+            writing-good-if f e ws b .only-if (record { value = n; contents = c }) is;
+        filled = wrote-filled;
+        refused-same = λ r b′ x. x .buffer ∙ answer-refused (writeCall f e ws b) b (x .answer);
+      }
 
 -- ---- a path to one scalar
-
--- `view_at` answers the target t for the path, and t is one scalar
-pub record ToScalar (f : List ℕ) (e : ℕ) (b path : List ℕ) (t : Target) : Type 0 where
-  pub views : Views f e path b (To t)
-  pub scalar : t .scalar ≤ 6
 
 -- what it is: a path that leads to a scalar of t's offset and size
 record Scalar-at (f : List ℕ) (e : ℕ) (b path : List ℕ) (t : Target) : Type 0 where
@@ -66,45 +125,7 @@ scalar-at {f} {e} {b} {path} {t} x = go (viewCall f e path b) refl (x .views .an
         }
     go (refused number place) is q = good-not-refused refl q
 
--- ---- a call's answer
-
--- where the definition gives a value and contents, so does the call
-good-answer : {said : Said Done} {v : ℕ} {c : List ℕ} (r : Number) → said ≡ good (record { value = v; contents = c }) → saidNumber r ≡ answerOf said → r ≡ Is v
-unfolding answerOf
-good-answer r is q = single-number r (Is _) (q ∙ ap answerOf is) refl
-
-good-contents : {said : Said Done} {v : ℕ} {c after : List ℕ} (before : List ℕ) → said ≡ good (record { value = v; contents = c }) → after ≡ contentsOf before said → after ≡ c
-unfolding contentsOf
-good-contents before is q = q ∙ ap (contentsOf before) is
-
--- ---- the demand
-
--- a word w set by `set` at the path to t in the buffer b: what the call did
-pub record IsSet (t : Target) (b : List ℕ) (r : Number) (b′ : List ℕ) : Type 0 where
-  pub not-refused : r ≡ Is (t .offset)
-  pub length-same : length b′ ≡ length b
-  pub others-stay : (i : ℕ) → Outside (t .offset) (t .size) i → getD b′ i 0 ≡ getD b i 0
-
--- `read` answered r and gave `old` before a set of w at t, and answered q and gave `new` after it: what changed
-pub record OneReplaced {f : List ℕ} {e : ℕ} {b : List ℕ} (g : Given f e b) (t : Target) (w : ℕ) (r : Number) (old : List ℕ) (q : Number) (new : List ℕ) : Type 0 where
-  pub count : ℕ
-  pub answer-before : r ≡ Is count
-  pub answer-after : q ≡ Is count
-  pub position : ℕ
-  pub position-inside : position < count
-  pub position-is : getElem? (places 0 (g .type)) position ≡ some (record { at = t .offset; width = t .size })
-  pub replaced : new ≡ set old position w
-
--- "For any accepted table, any storable entry of fixed size and any buffer of at least that size (within 01's limit)": `Given`
-pub record OnTheCode {f : List ℕ} {e : ℕ} {b : List ℕ} (g : Given f e b) : Type 0 where
-  -- "every valid path to one scalar leads inside the size, at a multiple of the scalar's own size"
-  pub inside : (path : List ℕ) (t : Target) → ToScalar f e b path t → (t .offset + t .size ≤ g .size) × (t .offset % t .size ≡ 0)
-  -- "different paths share no byte" (`Words`: steps are numbers of 32 bits, as those of every slice of u32 are)
-  pub apart : (p q : List ℕ) (t u : Target) → ToScalar f e b p t → ToScalar f e b q u → Words p → Words q → (p ≡ q) ⊎ Apart (t .offset) (t .size) (u .offset) (u .size)
-  -- "setting a scalar with a word its type can hold is never refused and changes only its bytes"
-  pub set-alone : (path : List ℕ) (t : Target) → ToScalar f e b path t → (w : ℕ) → w < 256 ^ t .size → (r : Number) (b′ : List ℕ) → Sets f e path w b r b′ → IsSet t b r b′
-  -- "reading the whole entry into enough words then gives the old words with that one replaced"
-  pub read-back : (path : List ℕ) (t : Target) → ToScalar f e b path t → (w : ℕ) → w < 256 ^ t .size → (r : Number) (b′ : List ℕ) → Sets f e path w b r b′ → (ws : List ℕ) → wordCount 0 (g .type) ≤ length ws → (p q : Number) (old new : List ℕ) → Reads f e b ws p old → Reads f e b′ ws q new → OneReplaced g t w p old q new
+-- ---- demand 3
 
 module _ {f : List ℕ} {e : ℕ} {b : List ℕ} (g : Given f e b) where
   scalar-inside : (path : List ℕ) (t : Target) → ToScalar f e b path t → (t .offset + t .size ≤ g .size) × (t .offset % t .size ≡ 0)
@@ -157,7 +178,7 @@ module _ {f : List ℕ} {e : ℕ} {b : List ℕ} (g : Given f e b) where
         }
 
   -- Demand 3 is met by the calls.
-  pub demand-three-on-the-code : OnTheCode g
+  pub demand-three-on-the-code : ThreeOnTheCode g
   demand-three-on-the-code =
       record {
         inside = scalar-inside;
