@@ -1,14 +1,15 @@
 -- An answer as the numbers that cross to C.
 --
--- In order: an answer that is a number; the three numbers of a layout; the bytes of a view.
+-- In order: an answer that is a number; the three numbers of a layout; the bytes of a view; places.
 -- Definitions only. Assumes nothing.
 use Prim.Native.Nat.{ℕ, _%_, _^_}
 use mathlib.Core.List.{List, [], _∷_}
 use mathlib.Core.Option.{Option, none, some}
+use mathlib.Core.Path.{_≡_}
 use Rattle.wgsl.specs.Said.{Said, good, refused}
 use Rattle.wgsl.specs.Place.{spanOf}
 use Rattle.wgsl.specs.Path.{Target}
-use Rattle.wgsl.specs.Call.{Layout}
+use Rattle.wgsl.specs.Call.{Layout, answerOf, offsetOf, checkOf, sizeCall, alignCall, minSizeCall, layoutCall, readCall, writeCall, viewCall, setCall, rankCall, commonCall}
 use Rattle.surface.specs.declared.Crossing.{Crossing}
 
 -- 0 and the value, or the refusal's number and place
@@ -35,3 +36,24 @@ laidOut (refused number place) before = before
 abbrev pub sizeOut : Said Target → ℕ → ℕ
 sizeOut (good t) before = spanOf (t .shape)
 sizeOut (refused number place) before = before
+
+-- ---- places
+
+-- a refusal crosses whole: its number, and all of its place
+abbrev pub CrossesWhole : Said ℕ → Type 0
+CrossesWhole said =
+    (number place : ℕ) → said ≡ refused number place → crossed said ≡ record { refusal = number; place = place; value = 0 }
+
+-- the same of every call
+pub record AllCross (f : List ℕ) : Type 0 where
+  pub check : CrossesWhole (checkOf f)
+  pub size : (e : ℕ) → CrossesWhole (sizeCall f e)
+  pub align : (e : ℕ) → CrossesWhole (alignCall f e)
+  pub min-size : (e : ℕ) → CrossesWhole (minSizeCall f e)
+  pub layout : (e : ℕ) → CrossesWhole (told (layoutCall f e))
+  pub read : (e : ℕ) (b ws : List ℕ) → CrossesWhole (answerOf (readCall f e b ws))
+  pub write : (e : ℕ) (ws b : List ℕ) → CrossesWhole (answerOf (writeCall f e ws b))
+  pub view : (e : ℕ) (steps b : List ℕ) → CrossesWhole (offsetOf (viewCall f e steps b))
+  pub set : (e : ℕ) (steps : List ℕ) (w : ℕ) (b : List ℕ) → CrossesWhole (answerOf (setCall f e steps w b))
+  pub rank : (x y : ℕ) → CrossesWhole (rankCall f x y)
+  pub common : (es : List ℕ) → CrossesWhole (commonCall f es)

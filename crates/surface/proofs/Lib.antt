@@ -1,0 +1,2 @@
+-- What is claimed of the exports together.
+pub mod Places

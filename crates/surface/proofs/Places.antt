@@ -1,0 +1,51 @@
+-- Every refusal crosses to C whole (specs/Crossing, `AllCross`): its place is a number of 32 bits (crates/wgsl, `refused-places-fit`).
+-- Assumes nothing.
+use Prim.Native.Nat.{ℕ, _%_, _^_}
+use mathlib.Core.List.{List}
+use mathlib.Core.Path.{_≡_, refl}
+use native.Mathlib.Omega.{arith}
+use Rattle.wgsl.specs.Said.{Said, good, refused}
+use Rattle.wgsl.specs.Path.{Target}
+use Rattle.wgsl.specs.Call.{Layout, Done, answerOf, offsetOf}
+use Rattle.wgsl.specs.Claim.{PlaceFits}
+use Rattle.wgsl.proofs.Said.{good-not-refused}
+use Rattle.wgsl.proofs.Claims.{refused-places-fit}
+use Rattle.surface.specs.Crossing.{crossed, told, CrossesWhole, AllCross}
+
+whole : (said : Said ℕ) → PlaceFits said → CrossesWhole said
+whole said fits number place e =
+    let low : place % 2 ^ 32 ≡ place = omega (arith, fits number place e) in
+    rw (e, low)
+
+-- what is refused as an answer, a layout or an offset was refused so
+answer-fits : (said : Said Done) → PlaceFits said → PlaceFits (answerOf said)
+unfolding answerOf
+answer-fits (good d) h number place e = good-not-refused refl e
+answer-fits (refused n p) h number place e = h number place cc
+
+told-fits : (said : Said Layout) → PlaceFits said → PlaceFits (told said)
+told-fits (good l) h number place e = good-not-refused refl e
+told-fits (refused n p) h number place e = h number place cc
+
+offset-fits : (said : Said Target) → PlaceFits said → PlaceFits (offsetOf said)
+unfolding offsetOf
+offset-fits (good t) h number place e = good-not-refused refl e
+offset-fits (refused n p) h number place e = h number place cc
+
+-- Every refusal of every call crosses whole.
+pub all-cross : (f : List ℕ) → AllCross f
+all-cross f =
+    let fits = refused-places-fit f in
+    record {
+      check = whole _ (fits .check);
+      size = λ e. whole _ (fits .size e);
+      align = λ e. whole _ (fits .align e);
+      min-size = λ e. whole _ (fits .min-size e);
+      layout = λ e. whole _ (told-fits _ (fits .layout e));
+      read = λ e b ws. whole _ (answer-fits _ (fits .read e b ws));
+      write = λ e ws b. whole _ (answer-fits _ (fits .write e ws b));
+      view = λ e steps b. whole _ (offset-fits _ (fits .view e steps b));
+      set = λ e steps w b. whole _ (answer-fits _ (fits .set e steps w b));
+      rank = λ x y. whole _ (fits .rank x y);
+      common = λ es. whole _ (fits .common es);
+    }
