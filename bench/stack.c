@@ -1,6 +1,6 @@
-/* How much stack a call takes on a table of 256 entries, each within the next: nested arrays, nested structs, written, read, and viewed
- * and set at a path through all of them. The call runs in a thread whose stack was painted before; what is no longer paint was used, the
- * thread's own start included. */
+/* How much stack each call takes at the most of three tables of 256 entries, each within the next: nested arrays, nested structs, and both
+ * in turn; views and sets go by a path through all of them. The call runs in a thread whose stack was painted before; what is no longer
+ * paint was used, the thread's own start included. */
 #include <pthread.h>
 #include <stdio.h>
 #include <stdlib.h>
@@ -14,8 +14,9 @@ static uint8_t file[12 * ENTRIES + 12 * ENTRIES + 10], buf[16];
 static size_t file_len;
 static uint32_t words[3] = {1, 2, 3};
 static uint32_t path[ENTRIES - 1];
-static enum { WRITE, READ, VIEW, SET, WAYS } way;
-static const char *const names[WAYS] = {"written", "read", "viewed", "set"};
+static enum { CHECK, SIZE, ALIGN, MIN_SIZE, LAYOUT_OF, RANK, COMMON, WRITE, READ, VIEW, SET, CALLS } way;
+static const char *const names[CALLS] = {"check", "size", "align", "min_size", "layout_of", "rank", "common", "write", "read", "view", "set"};
+enum { ARRAYS, STRUCTS, BOTH, TABLES };
 static lepugaso_answer answer;
 
 static void put(uint8_t *at, uint8_t kind, uint8_t rows, uint8_t reference, uint8_t count) {
@@ -23,56 +24,77 @@ static void put(uint8_t *at, uint8_t kind, uint8_t rows, uint8_t reference, uint
 }
 
 /* An f32, a vec3 of it, a struct of that; then each entry an array of one, or a struct, of the one before. */
-static void nest(int structs) {
-    int members = structs ? ENTRIES - 2 : 1;
+static void nest(int table) {
+    int members = 0;
+    uint8_t types[ENTRIES];
     memset(file, 0, sizeof file);
     put(file, 3, 0, 0, 0);
     put(file + 12, 7, 3, 0, 0);
     for (int k = 2; k < ENTRIES; k++) {
-        if (structs || k == 2) {
-            put(file + 12 * k, 12, 0, (uint8_t)(k - 2), 1);
+        int is_struct = k == 2 || table == STRUCTS || (table == BOTH && k % 2 == 0);
+        if (is_struct) {
+            put(file + 12 * k, 12, 0, (uint8_t)members, 1);
+            types[members++] = (uint8_t)(k - 1);
         } else {
             put(file + 12 * k, 9, 0, (uint8_t)(k - 1), 1);
         }
+        /* A step into each entry but the first, an f32. */
+        path[ENTRIES - 1 - k] = is_struct ? LEPUGASO_MEMBER(0) : 0;
     }
+    path[ENTRIES - 2] = 2;
     uint8_t *end = file + 12 * ENTRIES;
-    for (int m = 0; m < members; m++, end += 12) end[0] = (uint8_t)(m + 1);
+    for (int m = 0; m < members; m++, end += 12) end[0] = types[m];
     end[1] = 1, end[2] = (uint8_t)members, end[8] = 1;
     file_len = (size_t)(end - file) + 10;
-    /* A step into each entry but the last, an f32. */
-    for (int k = 0; k < ENTRIES - 1; k++) path[k] = structs || k == ENTRIES - 3 ? LEPUGASO_MEMBER(0) : 0;
-    path[ENTRIES - 2] = 2;
 }
 
 static void *call(void *unused) {
     const uint8_t *part;
     size_t part_len;
+    lepugaso_layout layout;
+    const uint32_t last = ENTRIES - 1, list[2] = {last, last};
     switch (way) {
-    case WRITE: answer = lepugaso_write(file, file_len, ENTRIES - 1, words, 3, buf, sizeof buf); break;
-    case READ: answer = lepugaso_read(file, file_len, ENTRIES - 1, buf, sizeof buf, words, 3); break;
-    case VIEW: answer = lepugaso_view(file, file_len, ENTRIES - 1, path, ENTRIES - 1, buf, sizeof buf, &part, &part_len); break;
-    default: answer = lepugaso_set(file, file_len, ENTRIES - 1, path, ENTRIES - 1, 7, buf, sizeof buf);
+    case CHECK: answer = lepugaso_check(file, file_len); break;
+    case SIZE: answer = lepugaso_size(file, file_len, last); break;
+    case ALIGN: answer = lepugaso_align(file, file_len, last); break;
+    case MIN_SIZE: answer = lepugaso_min_size(file, file_len, last); break;
+    case LAYOUT_OF: answer = lepugaso_layout_of(file, file_len, last, &layout); break;
+    case RANK: answer = lepugaso_rank(file, file_len, last, last); break;
+    case COMMON: answer = lepugaso_common(file, file_len, list, 2); break;
+    case WRITE: answer = lepugaso_write(file, file_len, last, words, 3, buf, sizeof buf); break;
+    case READ: answer = lepugaso_read(file, file_len, last, buf, sizeof buf, words, 3); break;
+    case VIEW: answer = lepugaso_view(file, file_len, last, path, ENTRIES - 1, buf, sizeof buf, &part, &part_len); break;
+    default: answer = lepugaso_set(file, file_len, last, path, ENTRIES - 1, 7, buf, sizeof buf);
     }
     return unused;
 }
 
+/* The bytes of stack of one call on one table. */
+static size_t used(int table) {
+    unsigned char *stack = aligned_alloc(4096, STACK);
+    pthread_attr_t attributes;
+    pthread_t thread;
+    size_t clean = 0;
+    nest(table);
+    if (!stack) exit(2);
+    memset(stack, PAINT, STACK);
+    if (pthread_attr_init(&attributes) || pthread_attr_setstack(&attributes, stack, STACK)) exit(2);
+    if (pthread_create(&thread, &attributes, call, NULL) || pthread_join(thread, NULL)) exit(2);
+    while (clean < STACK && stack[clean] == PAINT) clean++;
+    free(stack);
+    if (answer.refusal || (way >= VIEW && answer.value != 8)) exit(1);
+    return STACK - clean;
+}
+
 int main(void) {
-    for (int structs = 0; structs < 2; structs++) {
-        for (way = WRITE; way < WAYS; way++) {
-            nest(structs);
-            unsigned char *stack = aligned_alloc(4096, STACK);
-            pthread_attr_t attributes;
-            pthread_t thread;
-            size_t clean = 0;
-            if (!stack) return 2;
-            memset(stack, PAINT, STACK);
-            if (pthread_attr_init(&attributes) || pthread_attr_setstack(&attributes, stack, STACK)) return 2;
-            if (pthread_create(&thread, &attributes, call, NULL) || pthread_join(thread, NULL)) return 2;
-            while (clean < STACK && stack[clean] == PAINT) clean++;
-            printf("256 nested %s, %s: %zu bytes of stack\n", structs ? "structs" : "arrays", names[way], STACK - clean);
-            free(stack);
-            if (answer.refusal || (way >= VIEW && answer.value != 8)) return 1;
+    printf("%-10s %8s %8s %8s %8s\n", "stack of", "arrays", "structs", "both", "most");
+    for (way = CHECK; way < CALLS; way++) {
+        size_t most = 0, each[TABLES];
+        for (int table = 0; table < TABLES; table++) {
+            each[table] = used(table);
+            if (each[table] > most) most = each[table];
         }
+        printf("%-10s %8zu %8zu %8zu %8zu\n", names[way], each[ARRAYS], each[STRUCTS], each[BOTH], most);
     }
     return 0;
 }

@@ -9,14 +9,14 @@ use mathlib.Core.Logic.{_⊎_}
 use mathlib.Core.Option.{some}
 use mathlib.Core.Path.{_≡_, refl, ap, ap₂, sym, _∙_}
 use native.Mathlib.Omega.{arith}
-use lib.ListN.{length, getD, getElem?, replicate, set, length-replicate}
+use lib.ListN.{length, getD, replicate, set, length-replicate}
 use Rattle.wgsl.specs.Types.{Scalar}
 use Rattle.wgsl.specs.Size.{present, widthOf}
 use Rattle.wgsl.specs.Said.{Said, good, refused}
-use Rattle.wgsl.specs.Place.{Shape, one, parts, field, whole, spanOf, places, wordCount}
+use Rattle.wgsl.specs.Place.{Shape, spanOf, wordCount}
 use Rattle.wgsl.specs.Path as ways
 use Rattle.wgsl.specs.Call.{Done, answerOf, contentsOf, readCall, writeCall, viewCall}
-use Rattle.wgsl.specs.Claim.{Outside, Apart}
+use Rattle.wgsl.specs.Claim.{Apart}
 use Rattle.wgsl.specs.Demand.{Given, Leading, Words, SetThenRead}
 use Rattle.wgsl.proofs.Said.{good-not-refused}
 use Rattle.wgsl.proofs.Claims.{writing-good-if, writing, reading-what-was-written}
@@ -26,9 +26,8 @@ use Rattle.layout.specs.declared.ask.Number.the-variants.{Is}
 use Rattle.layout.specs.Answer.{saidNumber}
 use Rattle.layout.proofs.Single.{single-number}
 use Rattle.walker.specs.declared.walk.Target.{Target}
-use Rattle.walker.specs.declared.walk.Walked.the-variants.{To}
-use Rattle.walker.specs.Way.{scalarIn}
 use Rattle.walker.specs.Walk.{targetIs, reached}
+use Rattle.paths.proofs.Settings.{scalar-shape}
 use Rattle.lepugaso.specs.Claim.{Writes, Reads, Sets}
 use Rattle.lepugaso.specs.Demand.{Filled, TwoOnTheCode, ToScalar, IsSet, OneReplaced, ThreeOnTheCode}
 
@@ -102,13 +101,6 @@ record Scalar-at (f : List ℕ) (e : ℕ) (b path : List ℕ) (t : Target) : Typ
   leading : Leading f e b path (t .offset) kind
   size-is : t .size ≡ present (widthOf kind)
 
-one-scalar : (x : Shape) → scalarIn x ≤ 6 → (s : Scalar) × (x ≡ one s)
-unfolding scalarIn
-one-scalar (one s) h = (s, refl)
-one-scalar (parts n stride x) h = absurd (omega arith)
-one-scalar (field offset x rest) h = absurd (omega arith)
-one-scalar (whole z) h = absurd (omega arith)
-
 scalar-at : {f : List ℕ} {e : ℕ} {b path : List ℕ} {t : Target} → ToScalar f e b path t → Scalar-at f e b path t
 unfolding spanOf
 scalar-at {f} {e} {b} {path} {t} x = go (viewCall f e path b) refl (x .views .answer)
@@ -117,7 +109,7 @@ scalar-at {f} {e} {b} {path} {t} x = go (viewCall f e path b) refl (x .views .an
     go (good u) is q =
         let same : t ≡ targetIs u = cc in
         let at : u .offset ≡ t .offset = sym (ap (λ (v : Target). v .offset) same) in
-        let (s, shape) = one-scalar (u .shape) (omega (arith, x .scalar, ap (λ (v : Target). v .scalar) same)) in
+        let (s, shape) = scalar-shape (u .shape) (omega (arith, x .scalar, ap (λ (v : Target). v .scalar) same)) in
         record {
           kind = s;
           leading = record { leads = is ∙ ap₂ (λ (o : ℕ) (y : Shape). good (record { offset = o; shape = y })) at shape };

@@ -17,7 +17,6 @@ use lib.Seq.{drop-length}
 use Rattle.wgsl.specs.Types.{Ty, everywhere}
 use Rattle.wgsl.specs.Size.{present, sizeOf, alignOf}
 use Rattle.wgsl.specs.Said.{Said, good, refused}
-use Rattle.wgsl.specs.File.{checkTrailer}
 use Rattle.wgsl.specs.Rule.{isWellFormed, typesOf}
 use Rattle.wgsl.specs.Call.{checkOf}
 use Rattle.wgsl.specs.Listing.{orDash, entryLine, entryLines, refusedLine, listed, inputLimit, listingOf}

@@ -19,8 +19,8 @@ use Rattle.wgsl.specs.Call.{storedEntry, scalarAt, setCall}
 use Rattle.wgsl.proofs.Shape.{Sound}
 use Rattle.wgsl.proofs.Said.{then-good, then-cases, then-is, then-refused}
 use Rattle.kinds.proofs.Scalar.{kind-bounded}
+use Rattle.walker.specs.Walk.{scalarIn}
 use Rattle.walker.specs.declared.walk.Target.{Target}
-use Rattle.walker.specs.Way.{scalarIn}
 use Rattle.paths.specs.Locate.{targetCall}
 use Rattle.paths.specs.Set.{storedAs, setAs, Narrow, Roomy}
 
@@ -48,7 +48,8 @@ no-scalar (parts n stride x) h = refl
 no-scalar (field offset x rest) h = refl
 no-scalar (whole z) h = refl
 
-scalar-shape : (x : Shape) → scalarIn x ≤ 6 → (s : Scalar) × (x ≡ one s)
+-- What is said to be one scalar is one.
+pub scalar-shape : (x : Shape) → scalarIn x ≤ 6 → (s : Scalar) × (x ≡ one s)
 unfolding scalarIn
 scalar-shape (one s) h = (s, refl)
 scalar-shape (parts n stride x) h = absurd (omega arith)

@@ -10,7 +10,7 @@ use Rattle.wgsl.specs.Call.{Layout, Done, answerOf, offsetOf}
 use Rattle.wgsl.specs.Claim.{PlaceFits}
 use Rattle.wgsl.proofs.Said.{good-not-refused}
 use Rattle.wgsl.proofs.Claims.{refused-places-fit}
-use Rattle.surface.specs.Crossing.{crossed, told, CrossesWhole, AllCross}
+use Rattle.surface.specs.Crossing.{told, CrossesWhole, AllCross}
 
 whole : (said : Said ℕ) → PlaceFits said → CrossesWhole said
 whole said fits number place e =

@@ -4,18 +4,17 @@
 -- entries up to one that is refused or laid out.
 -- Assumes nothing.
 use Prim.Native.Nat.{ℕ, zero, suc, _+_, _-_, _*_, _<_, _≤_}
-use mathlib.Core.Bool.{Bool, true, false, not, cond, _&&_}
+use mathlib.Core.Bool.{Bool, true, false, not, cond}
 use mathlib.Core.List.{List, [], _∷_, _++_}
 use mathlib.Core.Option.{Option, none, some}
 use mathlib.Core.Path.{_≡_, refl, sym, ap, _∙_}
 use native.Mathlib.Omega.{arith}
-use borrow.Author.Tests.{le-leb, lt-leb, ne-eqb, eqb-true, not-false}
+use borrow.Author.Tests.{le-leb, lt-leb, ne-eqb}
 use lib.Dec.{eqb}
-use lib.ListN.{length}
 use Rattle.wgsl.specs.Types.{Ty}
 use Rattle.wgsl.specs.Size.{fitsLimit}
 use Rattle.wgsl.specs.Said.{Said, good, refused, _>>=_, _>>_, refuse, orRefuse}
-use Rattle.wgsl.specs.File.{Trailer, trailerOf, trailerLength, lengthBy, typeEntryLength, memberEntryLength, TypeEntry, typeEntryAt, typeEntryFrom, between, checkTrailer}
+use Rattle.wgsl.specs.File.{Trailer, trailerOf, typeEntryLength, memberEntryLength, TypeEntry, typeEntryAt, typeEntryFrom, checkTrailer}
 use Rattle.wgsl.specs.Rule.{when, unused, lower, scalarMade, overMade, vectorMade, matrixMade, arrayMade, runtimeMade, atomicMade, andThen, structMade, typeMade, typeOfEntry, isAllowed, givenFits, judged, typesBelow, typesOf}
 use Rattle.wgsl.proofs.Said.{good-not-refused, then-is, then-refused}
 use Rattle.wgsl.proofs.Accepted.{Trailed}

@@ -27,7 +27,8 @@ use Rattle.plan.specs.Plan.{rowOf}
 use Rattle.walker.specs.declared.enter.Place.{Place}
 use Rattle.walker.specs.declared.enter.Place.the-variants.{Entry, Column}
 use Rattle.walker.specs.declared.enter.Entered.the-variants.{Into}
-use Rattle.walker.specs.Way.{sizeAt, partsAt, Parted, Site, Stands, at-entry, at-column, Standing, scalarIn, Enters}
+use Rattle.walker.specs.Way.{sizeAt, partsAt, Parted, Site, Stands, at-entry, at-column, Standing, Enters}
+use Rattle.walker.specs.Walk.{scalarIn}
 use Rattle.walker.proofs.Sizes.{step-inside, size-within, row-inside, row-there, sound-at}
 use Rattle.walker.proofs.Entries.{Part, Found, a-scalar, an-atomic, of-parts, of-members, found}
 

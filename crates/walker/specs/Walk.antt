@@ -1,13 +1,21 @@
 -- What a walk answers, in the words of crates/wgsl (specs/Path).
 -- Definitions only. Assumes nothing.
+use Prim.Native.Nat.{ℕ}
 use Rattle.wgsl.specs.Said.{Said, good, refused}
-use Rattle.wgsl.specs.Place.{spanOf}
+use Rattle.wgsl.specs.Rank.{kindOf}
+use Rattle.wgsl.specs.Place.{Shape, one, parts, field, whole, spanOf}
 use Rattle.wgsl.specs.Path as path
 use Rattle.file.specs.Refusal.{numberOf, placeOf}
 use Rattle.walker.specs.declared.walk.Target.{Target}
 use Rattle.walker.specs.declared.walk.Walked.{Walked}
 use Rattle.walker.specs.declared.walk.Walked.the-variants.{To, Refused}
-use Rattle.walker.specs.Way.{scalarIn}
+
+-- the kind of the one scalar that a shape is; 7 where it is none
+unfoldable pub scalarIn : Shape → ℕ
+scalarIn (one s) = kindOf s
+scalarIn (parts n stride x) = 7
+scalarIn (field offset x rest) = 7
+scalarIn (whole z) = 7
 
 -- the offset of a target, its bytes, and the kind of the one scalar that it is (7 where it is none)
 abbrev pub targetIs : path.Target → Target

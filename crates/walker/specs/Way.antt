@@ -14,8 +14,7 @@ use Rattle.wgsl.specs.Types.{Scalar, Ty, scalar}
 use Rattle.wgsl.specs.Size.{hasLayout}
 use Rattle.wgsl.specs.Said.{good, refused}
 use Rattle.wgsl.specs.Rule.{typesOf}
-use Rattle.wgsl.specs.Rank.{kindOf}
-use Rattle.wgsl.specs.Place.{Shape, one, parts, field, whole, column, shapeOf, spanOf}
+use Rattle.wgsl.specs.Place.{Shape, column, shapeOf, spanOf}
 use Rattle.wgsl.specs.Path.{Step, enter}
 use Rattle.rows.specs.Row.{rowAt}
 use Rattle.plan.specs.Plan.{Rows, memberBytes}
@@ -60,13 +59,6 @@ pub record Standing (f : List ℕ) (ts : List Ty) (ms rows : List ℕ) (k n : �
   pub site : Site f ts ms rows k
   pub stands : Stands ts k n p x
   pub within : spanOf x ≤ limit
-
--- the kind of the one scalar that a shape is; 7 where it is none
-unfoldable pub scalarIn : Shape → ℕ
-scalarIn (one s) = kindOf s
-scalarIn (parts n stride x) = 7
-scalarIn (field offset x rest) = 7
-scalarIn (whole z) = 7
 
 -- ---- what a step leads to
 

@@ -15,7 +15,8 @@ ghost use Rattle.rows.specs.Row.{rowAt};
 ghost use Rattle.walker.specs.declared.enter.Place.the-variants.{Entry, Column};
 ghost use Rattle.walker.specs.declared.enter.Entered.the-variants.{Into};
 ghost use Rattle.walker.specs.Step.{stepIs};
-ghost use Rattle.walker.specs.Way.{sizeAt, partsAt, scalarIn, Standing, Parted, Enters};
+ghost use Rattle.walker.specs.Way.{sizeAt, partsAt, Standing, Parted, Enters};
+ghost use Rattle.walker.specs.Walk.{scalarIn};
 
 // Where a walk stands: at an entry, or at a matrix's column of so many rows over the entry of its scalar, since a column has no entry.
 pub enum Place {

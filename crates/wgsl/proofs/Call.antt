@@ -3,7 +3,7 @@
 -- In order: steps whose value is not used; the entry that a call is about; its shape; room in the buffer; writing; reading; how many
 -- elements are read back; reading what was written.
 -- Assumes nothing.
-use Prim.Native.Nat.{ℕ, _+_, _-_, _<_, _≤_}
+use Prim.Native.Nat.{ℕ, _+_, _-_, _≤_}
 use mathlib.Core.Bool.{Bool, true, false, not, _&&_, _||_}
 use mathlib.Core.List.{List, _++_}
 use mathlib.Core.Option.{Option, none, some}
@@ -12,14 +12,14 @@ use native.Mathlib.Omega.{arith}
 use native.Mathlib.Nat.{zero-mod, zero-add, div-mul-le-self, div-le-self}
 use borrow.Author.Tests.{ltb-false, le-ltb, leb-true, le-leb, eqb-true, eqb-false, ne-eqb, not-false}
 use lib.Dec.{eqb, ltb}
-use lib.ListN.{length, getD, take, drop, length-append, length-drop}
+use lib.ListN.{length, take, drop, length-append, length-drop}
 use lib.Seq.{length-take-le, take-at, drop-at, getD-take}
 use Rattle.wgsl.specs.Round.{limit, withinLimit}
-use Rattle.wgsl.specs.Types.{Ty, array, isOpen, everywhere}
+use Rattle.wgsl.specs.Types.{Ty, isOpen, everywhere}
 use Rattle.wgsl.specs.Size.{isPresent, present, sizeOf, alignOf, hasLayout, isStorable}
-use Rattle.wgsl.specs.Said.{good, refused, _>>_, refuse}
+use Rattle.wgsl.specs.Said.{good, _>>_, refuse}
 use Rattle.wgsl.specs.Rule.{isWellFormed}
-use Rattle.wgsl.specs.Place.{Tail, tailOf, extentBy, extentOf, elementsBy, elementsIn, Shape, one, shapeOf, spanOf, Place, placesOf, places, wordCount, written, wordsRead}
+use Rattle.wgsl.specs.Place.{Tail, tailOf, extentBy, extentOf, elementsBy, elementsIn, Shape, shapeOf, spanOf, Place, placesOf, places, wordCount, written, wordsRead}
 use Rattle.wgsl.specs.Call.{Done, entryOf, laidEntry, storedEntry, isShort, elementsFor, isWrongCount, readCall, writeCall}
 use Rattle.wgsl.specs.Claim.{Ordered, LaidOut, Stored, Wrote, Read}
 use Rattle.wgsl.proofs.Absent.{both-hold, true-not-false, present-some}

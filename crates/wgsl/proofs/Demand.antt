@@ -4,23 +4,23 @@
 -- demand.
 -- Assumes nothing.
 use Prim.Native.Nat.{ℕ, suc, _+_, _%_, _^_, _<_, _≤_}
-use mathlib.Core.Bool.{true, false}
+use mathlib.Core.Bool.{false}
 use mathlib.Core.List.{List, [], _∷_, _++_, map, append-assoc}
 use mathlib.Core.Logic.{_⊎_, ⊎-map}
 use mathlib.Core.Option.{some}
 use mathlib.Core.Path.{_≡_, refl, ap, sym, _∙_}
 use native.Mathlib.Omega.{arith}
-use borrow.Author.Tests.{le-leb, le-ltb}
-use lib.ListN.{length, getD, drop, set, getElem?, length-append}
+use borrow.Author.Tests.{le-ltb}
+use lib.ListN.{length, drop, set, getElem?, length-append}
 use lib.Seq.{set-at}
-use Rattle.wgsl.specs.Round.{limit, withinLimit}
+use Rattle.wgsl.specs.Round.{withinLimit}
 use Rattle.wgsl.specs.Number.{load}
 use Rattle.wgsl.specs.Types.{Scalar, Ty, everywhere}
 use Rattle.wgsl.specs.Size.{present, widthOf, sizeOf, hasLayout, isPlain, isStorable}
 use Rattle.wgsl.specs.Said.{good, orRefuse}
 use Rattle.wgsl.specs.Place.{elementsBy, elementsIn, one, shapeOf, spanOf, Place, wordPlaces, places, wordCount, storeWords, wordsRead}
 use Rattle.wgsl.specs.Path.{walk, stepOf}
-use Rattle.wgsl.specs.Call.{entryOf, isShort, readCall, targetIn, viewCall, scalarAt, setCall}
+use Rattle.wgsl.specs.Call.{isShort, targetIn, viewCall, scalarAt, setCall}
 use Rattle.wgsl.specs.Claim.{Apart, Ordered, Uncovered, Fit, Stored}
 use Rattle.wgsl.specs.Demand.{Given, Leading, Words, SetThenRead, DemandThree}
 use Rattle.wgsl.proofs.Absent.{both-hold, present-is}

@@ -2,24 +2,24 @@
 --
 -- In order: room in the buffer; the words of an open type, counted back; read; write; view; set.
 -- Assumes nothing.
-use Prim.Native.Nat.{ℕ, suc, _+_, _-_, _*_, _/_, _^_, _<_, _≤_}
-use mathlib.Core.Bool.{Bool, true, false, _&&_, not}
+use Prim.Native.Nat.{ℕ, _-_, _*_, _≤_}
+use mathlib.Core.Bool.{Bool, true, false}
 use mathlib.Core.List.{List, [], _∷_, map}
-use mathlib.Core.Option.{Option, some, Option·some-injective}
+use mathlib.Core.Option.{some, Option·some-injective}
 use mathlib.Core.Path.{_≡_, refl, ap, sym, _∙_}
 use native.Mathlib.Omega.{arith}
 use native.Mathlib.Nat.{le-div-iff-mul-le, mul-div-cancel, one-mul}
-use borrow.Author.Tests.{ltb-true, ltb-false, le-ltb, ne-eqb, eq-eqb, not-false}
-use lib.Dec.{eqb, ltb}
+use borrow.Author.Tests.{ltb-false, le-ltb, ne-eqb, eq-eqb}
+use lib.Dec.{ltb}
 use lib.ListN.{length}
 use Rattle.wgsl.specs.Types.{Scalar, Ty, scalar, vector, matrix, array, runtime, atomic, struct, Members, no-more, member, isOpen, everywhere, everyMember}
-use Rattle.wgsl.specs.Size.{present, widthOf, sizeOf}
-use Rattle.wgsl.specs.Said.{good, orRefuse}
+use Rattle.wgsl.specs.Size.{present, sizeOf}
+use Rattle.wgsl.specs.Said.{orRefuse}
 use Rattle.wgsl.specs.Rule.{isWellFormed}
-use Rattle.wgsl.specs.Place.{Tail, tailOf, extentBy, extentOf, elementsBy, elementsIn, Shape, one, parts, field, whole, shapeOf, Place, wordPlaces, placesOf, places, wordCount}
-use Rattle.wgsl.specs.Path.{Target, walk, stepOf}
-use Rattle.wgsl.specs.Call.{Done, isShort, elementsFor, isWrongCount, readCall, writeCall, targetIn, viewCall, scalarAt, setCall}
-use Rattle.wgsl.specs.Claim.{Fit, Leads, HasRoom, GoodIf, CanWrite, CanRead, CanView, CanSet}
+use Rattle.wgsl.specs.Place.{Tail, extentBy, extentOf, elementsBy, elementsIn, Shape, one, parts, field, whole, shapeOf, wordPlaces, placesOf, places, wordCount}
+use Rattle.wgsl.specs.Path.{Target, stepOf}
+use Rattle.wgsl.specs.Call.{isShort, elementsFor, isWrongCount, readCall, writeCall, targetIn, viewCall, scalarAt, setCall}
+use Rattle.wgsl.specs.Claim.{Fit, HasRoom, GoodIf, CanWrite, CanRead, CanView, CanSet}
 use Rattle.wgsl.proofs.Absent.{both-hold, true-not-false, some-not-none}
 use Rattle.wgsl.proofs.Said.{next-good, next-is, then-good, then-is, refuse-good, refuse-no, orRefuse-good}
 use Rattle.wgsl.proofs.Passed.{runtime-passed, struct-passed}

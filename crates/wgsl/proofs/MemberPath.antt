@@ -1,17 +1,16 @@
 -- Where the members of a struct lie (specs/Size), along a path (specs/Path): the step to member i leads to the i-th offset.
 -- Assumes nothing.
-use Prim.Native.Nat.{ℕ, zero, suc, _+_, _^_, _<_, _≤_}
-use mathlib.Core.Bool.{true}
+use Prim.Native.Nat.{ℕ, zero, suc, _+_, _^_, _<_}
 use mathlib.Core.List.{List, [], _∷_}
-use mathlib.Core.Option.{Option, none, some}
-use mathlib.Core.Path.{_≡_, refl, ap, sym, _∙_}
+use mathlib.Core.Option.{Option, some}
+use mathlib.Core.Path.{_≡_, refl, ap, _∙_}
 use native.Mathlib.Omega.{arith}
 use native.Mathlib.Nat.{add-comm, zero-add}
 use lib.ListN.{length, getElem?}
-use Rattle.wgsl.specs.Types.{Ty, struct, Members, no-more, member, everywhere}
+use Rattle.wgsl.specs.Types.{Ty, struct, Members, no-more, member}
 use Rattle.wgsl.specs.Size.{present, alignOf, sizeOf, memberEnd, offsetsOf}
 use Rattle.wgsl.specs.Said.{good, _>>=_}
-use Rattle.wgsl.specs.Rule.{isWellFormed, countOf}
+use Rattle.wgsl.specs.Rule.{countOf}
 use Rattle.wgsl.specs.Place.{extentOf, elementsIn, shapeOf, fieldsOf}
 use Rattle.wgsl.specs.Path as path
 use Rattle.wgsl.specs.Path.{enter, walk, stepOf}

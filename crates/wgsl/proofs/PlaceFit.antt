@@ -4,11 +4,11 @@
 -- In order: the calls' steps; entries; how deep a shape is; bad steps; bad words; every call.
 -- Assumes nothing.
 use Prim.Native.Nat.{ℕ, zero, suc, _+_, _*_, _^_, _<_, _≤_, max}
-use mathlib.Core.Bool.{Bool, true, false, cond, not}
-use mathlib.Core.List.{List, [], _∷_, _++_, map}
-use mathlib.Core.Option.{Option, none, some, Option·some-injective}
+use mathlib.Core.Bool.{Bool, true, false, cond}
+use mathlib.Core.List.{List, [], _∷_, map}
+use mathlib.Core.Option.{Option, some, Option·some-injective}
 use mathlib.Core.Logic.{_⊎_, ⊎-elim}
-use mathlib.Core.Path.{_≡_, refl, ap, sym, _∙_}
+use mathlib.Core.Path.{_≡_, refl}
 use native.Mathlib.Omega.{arith}
 use borrow.Author.Tests.{ltb-false}
 use lib.Dec.{ltb}
@@ -17,16 +17,15 @@ use Rattle.wgsl.specs.Round.{limit}
 use Rattle.wgsl.specs.Types.{Ty, Members, no-more, member}
 use Rattle.wgsl.specs.Size.{alignOf, sizeOf, memberEnd}
 use Rattle.wgsl.specs.Said.{Said, good, refused, _>>=_, _>>_, refuse, orRefuse}
-use Rattle.wgsl.specs.File.{trailerOf}
-use Rattle.wgsl.specs.Rule.{lower, membersFrom, typeOfEntry, judged, typesBelow, typesOf}
-use Rattle.wgsl.specs.Place.{extentOf, elementsIn, Shape, one, parts, field, whole, column, shapeOf, fieldsOf, spanOf, Place, wordPlaces, places, wordCount, checkWords}
+use Rattle.wgsl.specs.Rule.{lower, membersFrom, typeOfEntry, typesBelow, typesOf}
+use Rattle.wgsl.specs.Place.{extentOf, elementsIn, Shape, one, parts, field, whole, column, shapeOf, fieldsOf, Place, wordPlaces, places, checkWords}
 use Rattle.wgsl.specs.Path as path
 use Rattle.wgsl.specs.Path.{Step, index, Target, enter, walk, stepOf}
 use Rattle.wgsl.specs.Call.{checkOf, entryOf, sizeCall, alignCall, minSizeCall, layoutCall, laidEntry, storedEntry, elementsFor, readCall, writeCall, targetIn, viewCall, scalarAt, setCall, rankCall, entriesOf, commonCall}
 use Rattle.wgsl.specs.Rank.{commonOfAll}
 use Rattle.wgsl.specs.Claim.{PlaceFits, PlacesFit}
 use Rattle.wgsl.proofs.Absent.{some-not-none}
-use Rattle.wgsl.proofs.Said.{good-not-refused, then-good, then-cases, refuse-good, refuse-cases, orRefuse-good, orRefuse-refused, when-some, andThen-some}
+use Rattle.wgsl.proofs.Said.{good-not-refused, then-good, then-cases, refuse-cases, orRefuse-good, orRefuse-refused, when-some, andThen-some}
 use Rattle.wgsl.proofs.Path.{target}
 use Rattle.wgsl.proofs.Accepted.{getElem-cases, judged-good, Made, made-scalar, made-vector, made-matrix, made-array, made-runtime, made-atomic, made-struct, entry-made, split, accepted, refused-place}
 use Rattle.wgsl.proofs.Count.{places-words, words-room}
