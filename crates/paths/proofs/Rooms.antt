@@ -2,13 +2,13 @@
 --
 -- In order: what the code has of a target; the target lies inside; its part.
 -- Assumes nothing.
-use Prim.Native.Nat.{ℕ, _+_, _-_, _≤_}
+use Prim.Native.Nat.{ℕ, _+_, _≤_}
 use mathlib.Core.Bool.{Bool, false}
-use mathlib.Core.List.{List, [], map}
+use mathlib.Core.List.{List, map}
 use mathlib.Core.Path.{_≡_, refl, ap, sym}
 use native.Mathlib.Omega.{arith}
 use native.Mathlib.Nat.{add-sub-cancel-left}
-use lib.ListN.{length, take, drop}
+use lib.ListN.{length}
 use Rattle.wgsl.specs.Round.{limit, withinLimit}
 use Rattle.wgsl.specs.Said.{Said, good, refused}
 use Rattle.wgsl.specs.Place.{elementsIn, shapeOf, spanOf}
@@ -22,6 +22,7 @@ use Rattle.walker.specs.declared.walk.Target.{Target}
 use Rattle.walker.specs.Walk.{targetIs, reached}
 use Rattle.paths.specs.Locate.{targetCall}
 use Rattle.paths.specs.Set.{Roomy}
+use Rattle.paths.specs.View.{PartIs}
 use Rattle.paths.proofs.Permits.{entryAs, entry-laid-out}
 
 -- ---- what the code has
@@ -67,22 +68,22 @@ room x = rw (x .is) (x .inside)
 
 -- ---- its part
 
+part-of : {t : Target} (u : steps.Target) (b : List ℕ) → Roomy t u (length b) → PartIs (record { from = t .offset; to = t .offset + t .size }) (good u) b
+unfolding partOf partStart
+part-of u b x = record {
+  start-is = ap (λ (t : Target). t .offset) (x .is);
+  rises = omega arith;
+  inside = room x;
+  bytes-are = rw (x .is, add-sub-cancel-left (u .offset) (spanOf (u .shape))) refl;
+}
+
 module _ (f : List ℕ) (e : ℕ) (path b : List ℕ) where
-  pub part-inside : {t : Target} → good t ≡ reached (viewCall f e path b) → (t .offset + t .size ≤ length b) × (length b ≤ limit)
+  pub part-there : {t : Target} → good t ≡ reached (viewCall f e path b) → PartIs (record { from = t .offset; to = t .offset + t .size }) (viewCall f e path b) b
   unfolding viewCall targetCall
-  part-inside h =
-      let x = roomy false f e path b h in
-      (room (x .2), x .2 .within)
+  part-there h = let x = roomy false f e path b h in rw (x .1) (part-of (x .0) b (x .2))
 
--- where the part begins, and its bytes, are the target's
-pub part-is : {t : Target} (said : Said steps.Target) (b : List ℕ) → good t ≡ reached said → (take (t .offset + t .size - t .offset) (drop (t .offset) b) ≡ partOf said b) × (t .offset ≡ partStart said)
-unfolding partOf partStart
-part-is {t} (good u) b e =
-    let is : t ≡ targetIs u = cc in
-    rw is (ap (λ (n : ℕ). take n (drop (u .offset) b)) (add-sub-cancel-left (u .offset) (spanOf (u .shape))), refl)
-part-is (refused number place) b e = good-not-refused refl e
-
-pub part-none : {number place : ℕ} (said : Said steps.Target) (b : List ℕ) → refused number place ≡ reached said → ([] ≡ partOf said b) × (0 ≡ partStart said)
-unfolding partOf partStart
-part-none (good u) b e = good-not-refused refl (sym e)
-part-none (refused number place) b e = (refl, refl)
+  -- where refused, the empty one at the start
+  pub part-none : {number place : ℕ} → refused number place ≡ reached (viewCall f e path b) → PartIs (record { from = 0; to = 0 }) (viewCall f e path b) b
+  unfolding partOf partStart
+  part-none h =
+      rw (reached-refused (viewCall f e path b) h) (record { start-is = refl; rises = omega arith; inside = omega arith; bytes-are = refl })

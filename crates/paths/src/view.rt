@@ -3,9 +3,12 @@ use crate::locate::locate;
 use walker::walk::Walked;
 ghost use denote.Ref.{ptr};
 ghost use mathlib.Core.Path.{_≡_};
+ghost use mathlib.Core.List.{List};
+ghost use Prim.Native.Nat.{ℕ};
+ghost use lib.ListN.{length};
 ghost use Rattle.wgsl.specs.Call.{viewCall, partOf, partStart};
 ghost use Rattle.walker.specs.Walk.{saidWalked, reached};
-ghost use Rattle.paths.specs.View.{after};
+ghost use Rattle.paths.specs.View.{after, PartIs};
 
 // What `path` leads to from entry `entry`: its offset, its bytes and its scalar.
 // Refuses 1 to 7 (file), 8, 17, 9 (no layout), 15, then 11 to 13 (the first bad step).
@@ -15,19 +18,35 @@ pub fn view_at(file: &[u8], entry: u32, path: &[u32], buf: &[u8]) -> Walked
     locate(file, entry, path, buf.len(), false)
 }
 
+// A part of a buffer: the bytes from one place up to another.
+struct Part {
+    from: usize,
+    to: usize,
+}
+
+// The part that a view hands back of a buffer of so many bytes; where `view_at` refuses, the empty part at the start. It never sees the
+// buffer.
+fn part_at(file: &[u8], entry: u32, path: &[u32], bytes: usize) -> Part
+    ensures { λ r. ⌜ ((b : List ℕ) → length b ≡ bytes → PartIs r (viewCall (now (file .entry)) entry (now (path .entry)) b) b) ⌝ }
+{
+    match locate(file, entry, path, bytes, false) {
+        Walked::To(t) => Part {
+            from: t.offset,
+            to: t.offset + t.size,
+        },
+        Walked::Refused(_) => Part { from: 0, to: 0 },
+    }
+}
+
 // The bytes of what `path` leads to, as that part of the buffer; where `view_at` refuses, the empty part at its start.
 pub fn view<'a>(file: &[u8], entry: u32, path: &[u32], buf: &'a [u8]) -> &'a [u8]
     ensures bytes { λ r. ⌜ now r ≡ partOf (viewCall (now (file .entry)) entry (now (path .entry)) (now (buf .entry))) (now (buf .entry)) ⌝ }
     ensures place { λ r. ⌜ ptr r ≡ after (ptr (buf .entry)) (partStart (viewCall (now (file .entry)) entry (now (path .entry)) (now (buf .entry)))) ⌝ }
 {
-    match locate(file, entry, path, buf.len(), false) {
-        Walked::To(t) => {
-            let from = t.offset;
-            let to = from + t.size;
-            &buf[from..to]
-        }
-        Walked::Refused(_) => &buf[0..0],
-    }
+    let p = part_at(file, entry, path, buf.len());
+    let from = p.from;
+    let to = p.to;
+    &buf[from..to]
 }
 
 // The same part, to be written.
@@ -35,12 +54,8 @@ pub fn view_mut<'a>(file: &[u8], entry: u32, path: &[u32], buf: &'a mut [u8]) ->
     ensures bytes { λ r. ⌜ now r ≡ partOf (viewCall (now (file .entry)) entry (now (path .entry)) (now (buf .entry))) (now (buf .entry)) ⌝ }
     ensures place { λ r. ⌜ ptr r ≡ after (ptr (buf .entry)) (partStart (viewCall (now (file .entry)) entry (now (path .entry)) (now (buf .entry)))) ⌝ }
 {
-    match locate(file, entry, path, buf.len(), false) {
-        Walked::To(t) => {
-            let from = t.offset;
-            let to = from + t.size;
-            &mut buf[from..to]
-        }
-        Walked::Refused(_) => &mut buf[0..0],
-    }
+    let p = part_at(file, entry, path, buf.len());
+    let from = p.from;
+    let to = p.to;
+    &mut buf[from..to]
 }
