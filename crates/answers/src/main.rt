@@ -16,6 +16,7 @@ use lepugaso::set;
 use lepugaso::size;
 use lepugaso::view;
 use lepugaso::view_at;
+use lepugaso::view_mut;
 use lepugaso::write;
 use libc::STDIN_FILENO;
 use libc::STDOUT_FILENO;
@@ -139,10 +140,38 @@ fn say_walked(w: Walked) {
     }
 }
 
-// Says where a path leads, and the bytes that a view hands back.
+// Whether `view_mut` hands back these bytes.
+fn same_part(file: &[u8], entry: u32, path: &[u32], part: &[u8], buffer: &mut [u8]) -> bool {
+    let got = view_mut(file, entry, path, buffer);
+    same(got, part)
+}
+
+// Whether `view_mut` hands back these bytes of a copy of the buffer, and leaves the copy as the buffer is.
+fn only_hands_back(
+    file: &[u8],
+    entry: u32,
+    path: &[u32],
+    part: &[u8],
+    held: &[u8],
+    copied: &mut [u8],
+) -> bool {
+    if !same_part(file, entry, path, part, copied) {
+        return false;
+    }
+    same(copied, held)
+}
+
+// Says where a path leads, and the bytes that a view hands back; and puts the question to `view_mut` on a copy of the buffer.
 fn answer_view(file: &[u8], entry: u32, path: &[u32], held: &[u8]) {
+    let mut buffer = io::buffer();
+    let p = copy(held, &mut buffer);
+    let n = p.count;
+    let part = view(file, entry, path, held);
     say_walked(view_at(file, entry, path, held));
-    say_bytes(view(file, entry, path, held));
+    say_bytes(part);
+    if !only_hands_back(file, entry, path, part, held, &mut buffer[..n]) {
+        say(b" changed");
+    }
     say(b"\n");
 }
 
