@@ -20,9 +20,10 @@ run:
 test:
 	@rt fmt --check
 	@tools/examples
+	@tools/believed --check
 	@tools/gate
 
-# Why each wrong program of must-fail/ is refused.
+# On what fact each wrong program of must-fail/ is refused.
 edits:
 	@tools/edits
 

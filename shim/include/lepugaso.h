@@ -2,7 +2,8 @@
  *
  * A layout file describes types as numbered entries; every call takes one, as bytes, and asks something of it. Nothing is kept between
  * calls, nothing is allocated, and any bytes and any numbers may be passed: what cannot be answered is refused with a number. Threads may
- * call at the same time.
+ * call at the same time. No call takes more than LEPUGASO_STACK bytes of stack: 130 KiB to write or read types that nest 256 deep, 63 KiB to
+ * view or set along such a path, 33 KiB to ask anything else.
  *
  * For x86-64 Linux. Link liblepugaso.a, which needs nothing but memcpy, memmove and memset, or liblepugaso.so.
  *
@@ -57,6 +58,9 @@ typedef struct lepugaso_layout {
 } lepugaso_layout;
 
 #define LEPUGASO_ABSENT UINT64_MAX
+
+/* The stack that a thread must have left for a call, in bytes. */
+#define LEPUGASO_STACK 163840
 
 /* The step of a path into member `number` of a struct: bit 31 tells it from an index. */
 #define LEPUGASO_MEMBER(number) (UINT32_C(0x80000000) | (uint32_t)(number))

@@ -9,7 +9,7 @@ use mathlib.Core.Path.{_≡_, refl, ap, sym}
 use native.Mathlib.Omega.{arith}
 use native.Mathlib.Nat.{add-sub-cancel-left}
 use lib.ListN.{length}
-use Rattle.wgsl.specs.Round.{limit, withinLimit}
+use Rattle.wgsl.specs.Round.{withinLimit}
 use Rattle.wgsl.specs.Said.{Said, good, refused}
 use Rattle.wgsl.specs.Place.{elementsIn, shapeOf, spanOf}
 use Rattle.wgsl.specs.Path as steps
