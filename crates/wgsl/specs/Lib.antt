@@ -11,6 +11,7 @@ pub mod Path
 pub mod Rank
 pub mod Call
 pub mod Listing
+pub mod Field
 pub mod Claim
 pub mod Demand
 pub mod Case
