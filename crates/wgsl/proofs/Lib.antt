@@ -31,5 +31,6 @@ pub mod Demand
 pub mod OnePath
 pub mod Rank
 pub mod Case
+pub mod Field
 pub mod Claims
 pub mod Witness
