@@ -9,15 +9,17 @@ use mathlib.Core.Bool.{Bool, true, false, cond, _&&_}
 use mathlib.Core.Path.{_≡_, refl, ap, sym, _∙_}
 use mathlib.Core.Logic.{_⊎_, inl, inr, ⊎-elim}
 use native.Mathlib.Omega.{arith}
-use native.Mathlib.Nat.{mod-lt, mod-one, mod-eq-of-lt, div-one, div-eq-of-lt, lt-of-lt-of-le, lt-of-not-le, pow-suc}
+use native.Mathlib.Nat.{mod-lt, mod-one, mod-eq-of-lt, div-one, div-eq-of-lt, lt-of-lt-of-le, lt-of-not-le, add-zero, pow-suc}
 use native.Mathlib.Decide.{decLe}
 use borrow.Author.Tests.{lt-ltb, le-ltb, le-leb, lt-leb, eqb-true, eqb-false}
-use lib.Dec.{eqb, ltb, leb}
+use lib.Dec.{T, eqb, ltb, leb}
 use lib.IntN.{ℤ, pos, negsuc, _-ℤ_}
 use lib.Signed.{mag}
 use lib.Pow.{pow-pos, pow-mono, pow-add, shr-shr, shr-lt, split, high, low, field, mod-mod-pow, ones-lt, ones-split, high-ones, mod-pow-add}
 use lib.Arith.{digits-lt}
 use Rattle.wgsl.specs.Field.{startOf, bitsOf, bitAt, fieldAt, repeatedTop, extractedU32, extractedI32, putAt, inserted, patternOf, signedOf, isInside, bitExtracted, bitInserted}
+use Rattle.wgsl.specs.Case.{allPass}
+use Rattle.wgsl.specs.FieldCase.{isNumber, holds, reads, puts, fieldCases, fieldCasesPass}
 use Rattle.wgsl.proofs.Absent.{true-not-false}
 
 -- A field lies within the word.
@@ -285,3 +287,81 @@ pub insert-only : (e new offset count r : ℕ) → e < 2 ^ 32 → r < 2 ^ 32
 insert-only e new offset count r h l bits =
     word-unique r (inserted e new offset count) l (inserted-word e new offset count h)
     (λ j m. bits j m ∙ sym (insert-bit e new offset count j))
+
+-- ---- extraction after insertion
+
+field-put : (e new o c : ℕ) → fieldAt (putAt e new o c) o c ≡ new % 2 ^ c
+unfolding fieldAt
+field-put e new o c =
+    rw (put-is e new o c, high (e / 2 ^ (o + c) * 2 ^ c + new % 2 ^ c) o (mod-lt e (pow-pos o)))
+    (low (e / 2 ^ (o + c)) c (mod-lt new (pow-pos c)))
+
+-- What was inserted is extracted: the new value's low c bits,
+pub extract-inserted : (e new offset count : ℕ) → extractedU32 (inserted e new offset count) offset count ≡ new % 2 ^ bitsOf offset count
+unfolding extractedU32 inserted
+extract-inserted e new offset count = field-put e new (startOf offset) (bitsOf offset count)
+
+-- and of a signed field the same with the top bit repeated.
+pub extract-inserted-signed : (e new offset count : ℕ)
+    → extractedI32 (inserted e new offset count) offset count ≡ repeatedTop (bitsOf offset count) (new % 2 ^ bitsOf offset count)
+unfolding extractedI32
+extract-inserted-signed e new offset count = ap (repeatedTop (bitsOf offset count)) (extract-inserted e new offset count)
+
+-- ---- the whole word, and no bit
+
+repeated-whole : (v : ℕ) → repeatedTop 32 v ≡ v
+unfolding repeatedTop
+repeated-whole v = go (bitAt v 31)
+  where
+    go : (b : Bool) → cond b (v + 0) v ≡ v
+    go true = omega arith
+    go false = refl
+
+-- All 32 bits are the word itself.
+pub extract-whole : (e offset count : ℕ) → e < 2 ^ 32 → startOf offset ≡ 0 → bitsOf offset count ≡ 32
+    → (extractedU32 e offset count ≡ e) × (extractedI32 e offset count ≡ e)
+unfolding extractedI32 extractedU32 fieldAt
+extract-whole e offset count h s b =
+    let u : e / 2 ^ 0 % 2 ^ 32 ≡ e = rw (div-one e) (mod-eq-of-lt h) in
+    (rw (s, b) u, rw (s, b, u) (repeated-whole e))
+
+-- A field of no bit is 0, signed or not,
+pub extract-none : (e offset count : ℕ) → bitsOf offset count ≡ 0 → (extractedU32 e offset count ≡ 0) × (extractedI32 e offset count ≡ 0)
+unfolding extractedI32 extractedU32 fieldAt repeatedTop bitAt
+extract-none e offset count b = (rw b (mod-one _), rw (b, mod-one (e / 2 ^ startOf offset)))
+
+-- and inserting it changes nothing.
+pub insert-none : (e new offset count : ℕ) → bitsOf offset count ≡ 0 → inserted e new offset count ≡ e
+unfolding inserted putAt
+insert-none e new offset count b =
+    rw (b, add-zero (startOf offset), mod-one new) (omega (arith, split e (startOf offset)))
+
+-- ---- two's complement
+
+-- A word is the pattern of the number that it stands for,
+pub signed-pattern : (p : ℕ) → p < 2 ^ 32 → patternOf (signedOf p) ≡ p
+unfolding patternOf signedOf
+signed-pattern p h =
+    ⊎-elim (λ (l : p < 2147483648). rw (lt-ltb p 2147483648 l))
+    (λ (l : 2147483648 ≤ p). rw (le-ltb p 2147483648 l) (omega arith)) (lt-or-le p 2147483648)
+
+-- and a number from -2 ^ 31 up to 2 ^ 31 - 1 is what its pattern stands for.
+pub pattern-signed : (z : ℤ) → mag z < 2 ^ 31 → signedOf (patternOf z) ≡ z
+unfolding patternOf signedOf
+pattern-signed (pos n) h = rw (lt-ltb n 2147483648 h)
+pattern-signed (negsuc n) h =
+    let e : 4294967295 - (4294967295 - n) ≡ n = omega arith in
+    rw (le-ltb (4294967295 - n) 2147483648 (omega arith), e)
+
+-- A pattern is a word.
+pub pattern-word : (z : ℤ) → mag z < 2 ^ 31 → patternOf z < 2 ^ 32
+unfolding patternOf
+pattern-word (pos n) h = omega arith
+pattern-word (negsuc n) h = omega arith
+
+-- ---- the cases
+
+-- The cases of 02 come out: one test, which antt computes.
+pub field-cases-pass : T fieldCasesPass
+unfolding startOf bitsOf bitAt fieldAt repeatedTop extractedU32 extractedI32 putAt inserted signedOf isNumber holds reads puts fieldCases fieldCasesPass allPass
+field-cases-pass = tt

@@ -12,6 +12,7 @@ pub mod Rank
 pub mod Call
 pub mod Listing
 pub mod Field
+pub mod FieldCase
 pub mod Claim
 pub mod Demand
 pub mod Case
