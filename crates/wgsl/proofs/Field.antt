@@ -115,12 +115,13 @@ module _ (c v : ℕ) (short : c ≤ 32) (small : v < 2 ^ c) where
       go true = rw (ones-above c v short) (bit-high (2 ^ (32 - c) - 1) c v j small h ∙ bit-ones (32 - c) (j - c) (omega arith))
       go false = bit-above v c j small h
 
-  repeated-word : repeatedTop c v < 2 ^ 32
+  pub repeated-word : repeatedTop c v < 2 ^ 32
   unfolding repeatedTop
   repeated-word = go (bitAt v (c - 1))
     where
       p : 2 ^ c ≤ 2 ^ 32
       p = pow-mono short
+
       go : (b : Bool) → cond b (v + (2 ^ 32 - 2 ^ c)) v < 2 ^ 32
       go true = omega (arith, p)
       go false = omega (arith, p)
@@ -172,8 +173,10 @@ top-number (suc d) v short small = go (bitAt v (suc d - 1)) refl
   where
     e : suc d - 1 ≡ d
     e = omega arith
+
     p : 2 ^ d ≤ 2 ^ 31
     p = let l : d ≤ 31 = omega arith in pow-mono l
+
     go : (b : Bool) → bitAt v (suc d - 1) ≡ b → signedOf (cond b (v + (2 ^ 32 - 2 ^ suc d)) v) ≡ cond b (pos v -ℤ pos (2 ^ suc d)) (pos v)
     go true t =
         let set : 2 ^ d ≤ v = top-set d v (rw e at t) in
@@ -244,7 +247,7 @@ put-bounded k e new o c h =
     rw (put-is e new o c)
     (rw q at (digits-lt (digits-lt (shr-lt k (o + c) h) (mod-lt new (pow-pos c))) (mod-lt e (pow-pos o))))
 
-put-word : (e new o c : ℕ) → o + c ≤ 32 → e < 2 ^ 32 → putAt e new o c < 2 ^ 32
+pub put-word : (e new o c : ℕ) → o + c ≤ 32 → e < 2 ^ 32 → putAt e new o c < 2 ^ 32
 put-word e new o c within h =
     let q : 32 - (o + c) + (o + c) ≡ 32 = omega arith in
     let r : 2 ^ (32 - (o + c) + (o + c)) ≡ 2 ^ 32 = ap (λ (x : ℕ). 2 ^ x) q in
@@ -257,7 +260,7 @@ inserted-word e new offset count h = put-word e new (startOf offset) (bitsOf off
 
 -- ---- a word is told by its bits
 
-digit-told : (n : ℕ) → n < 2 → cond (eqb n 1) 1 0 ≡ n
+pub digit-told : (n : ℕ) → n < 2 → cond (eqb n 1) 1 0 ≡ n
 digit-told zero h = refl
 digit-told (suc zero) h = refl
 digit-told (suc (suc n)) h = absurd (omega arith)

@@ -1,0 +1,14 @@
+-- The field at o and c, with its top bit repeated.
+use Rattle.wgsl.specs.Field.{extractedU32, extractedI32}
+use borrow.Author.Needs.{needs}
+use Rattle.fields.proofs.extract_pattern.Statement.{statement}
+use Rattle.fields.proofs.extract_pattern.Tie as tie
+
+returns : tie.Need-returns
+unfolding extractedI32 extractedU32
+returns c = cc
+
+pub extract-pattern-spec : {M : Type 1} → statement M
+extract-pattern-spec =
+    tie.close (tie.spec
+    (λ c κs. search needs) (λ c κs. search needs) (λ c κs. search needs) (λ c κs. search needs) (λ c. search needs) returns)

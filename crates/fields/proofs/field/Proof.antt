@@ -1,0 +1,20 @@
+-- A shift and a mask cut out a field (`Words`).
+use mathlib.Core.Path.{refl}
+use Rattle.wgsl.proofs.Field.{field-bounded}
+use Rattle.fields.proofs.Words.{mask-fits, field-masked}
+use borrow.Author.Needs.{needs}
+use Rattle.fields.proofs.field.Statement.{statement}
+use Rattle.fields.proofs.field.Tie as tie
+
+sub-mask : tie.Need-sub-mask
+sub-mask c = mask-fits (c .args .c) (c .pre .1)
+
+returns : tie.Need-returns
+returns c =
+    let a = c .before .args in
+    let is = field-masked (a .e) (a .o) (a .c) (c .before .pre .1) in
+    rw (c .wide .ensures .0, is) (refl, field-bounded (a .e) (a .o) (a .c))
+
+pub field-spec : {M : Type 1} → statement M
+field-spec =
+    tie.close (tie.spec (λ c. search needs) sub-mask (λ c κs. search needs) (λ c. search needs) returns)
