@@ -4,13 +4,14 @@
 -- Assumes nothing.
 use Prim.Native.Nat.{ℕ, zero, suc, _+_, _-_, _*_, _/_, _%_, _^_, _<_, _≤_}
 use mathlib.Core.Bool.{Bool, true, false, cond}
-use mathlib.Core.Path.{_≡_, refl, ap, sym, _∙_}
+use mathlib.Core.Path.{_≡_, refl, sym}
 use native.Mathlib.Omega.{arith}
-use native.Mathlib.Nat.{mod-eq-of-lt, mul-div-mul-right, div-one, lt-of-lt-of-le, lt-of-le-of-lt, pow-suc}
+use native.Mathlib.Nat.{mod-eq-of-lt, mul-div-mul-right, div-one, pow-suc}
 use lib.Bits.{bitAnd, and-mask}
 use lib.Pow.{pow-pos, pow-mono, pow-add, shl-exact, shr-lt, split, mod-pow-add}
 use Rattle.wgsl.specs.Field.{bitAt, fieldAt, repeatedTop, putAt}
-use Rattle.wgsl.proofs.Field.{digit-told, field-bounded, repeated-word, put-word}
+use Rattle.wgsl.proofs.Bit.{digit-told}
+use Rattle.wgsl.proofs.Field.{field-bounded, put-word}
 
 -- one bit, shifted
 one-shifted : (c : ℕ) → c ≤ 32 → 1 * 2 ^ c % 2 ^ 64 ≡ 2 ^ c

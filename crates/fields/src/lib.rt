@@ -35,7 +35,7 @@ fn bits_of(offset: u32, count: u32) -> u32
 // The c bits of `e` from bit o on, as a number.
 fn field(e: u32, o: u32, c: u32) -> u64
     requires { ⌜ (o ≤ 32) × (c ≤ 32) ⌝ }
-    ensures { λ r. ⌜ (r ≡ fieldAt e o c) × (r < 2 ^ c) ⌝ }
+    ensures { λ r. ⌜ (r ≡ fieldAt e o c) × (r < 2 ^ c) × (r < 4294967296) ⌝ }
 {
     let mask = (1u64 << c) - 1;
     (wide(e) >> o) & mask
@@ -85,6 +85,7 @@ pub fn extract_pattern(e: u32, offset: u32, count: u32) -> u32
     repeated(c, field(e, start_of(offset), c)) as u32
 }
 
+// The same of an i32, as a signed number.
 pub fn extract_bits_i32(e: i32, offset: u32, count: u32) -> i32
     ensures { λ r. ⌜ r ≡ signedOf (extractedI32 (patternOf e) offset count) ⌝ }
 {
@@ -102,6 +103,7 @@ pub fn insert_bits_u32(e: u32, newbits: u32, offset: u32, count: u32) -> u32
     (wide(e) - (old << o) + (new << o)) as u32
 }
 
+// The same of an i32.
 pub fn insert_bits_i32(e: i32, newbits: i32, offset: u32, count: u32) -> i32
     ensures { λ r. ⌜ r ≡ signedOf (inserted (patternOf e) (patternOf newbits) offset count) ⌝ }
 {

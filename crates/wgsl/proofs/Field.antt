@@ -1,74 +1,28 @@
 -- Laws of bit fields (specs/Field).
 --
--- In order: one bit of a number; extraction bit by bit; extraction as a number; insertion bit by bit; a word is told by its bits; extraction
--- after insertion; the whole word and no bit; two's complement; the cases.
--- Each law is stated over o and c first (`field-`, `top-`, `put-`), and then for an offset and a count.
+-- In order: extraction bit by bit; extraction as a number; insertion bit by bit; no other word has these bits; extraction after insertion;
+-- the whole word, and no bit; two's complement.
+-- Each is stated over o and c first (`field-`, `repeated-`, `put-`), and then for an offset and a count.
+-- Not here: one bit of any number (`Bit`), 02's cases (`FieldCase`).
 -- Assumes nothing.
 use Prim.Native.Nat.{ℕ, zero, suc, _+_, _-_, _*_, _/_, _%_, _^_, _<_, _≤_}
-use mathlib.Core.Bool.{Bool, true, false, cond, _&&_}
+use mathlib.Core.Bool.{Bool, true, false, cond}
 use mathlib.Core.Path.{_≡_, refl, ap, sym, _∙_}
-use mathlib.Core.Logic.{_⊎_, inl, inr, ⊎-elim}
+use mathlib.Core.Logic.{⊎-elim}
 use native.Mathlib.Omega.{arith}
-use native.Mathlib.Nat.{mod-lt, mod-one, mod-eq-of-lt, div-one, div-eq-of-lt, lt-of-lt-of-le, lt-of-not-le, add-zero, pow-suc}
-use native.Mathlib.Decide.{decLe}
-use borrow.Author.Tests.{lt-ltb, le-ltb, le-leb, lt-leb, eqb-true, eqb-false}
-use lib.Dec.{T, eqb, ltb, leb}
+use native.Mathlib.Nat.{mod-lt, mod-one, mod-eq-of-lt, div-one, lt-of-lt-of-le, add-zero, pow-suc}
+use borrow.Author.Tests.{lt-ltb, le-ltb, le-leb, lt-leb}
 use lib.IntN.{ℤ, pos, negsuc, _-ℤ_}
 use lib.Signed.{mag}
-use lib.Pow.{pow-pos, pow-mono, pow-add, shr-shr, shr-lt, split, high, low, field, mod-mod-pow, ones-lt, ones-split, high-ones, mod-pow-add}
+use lib.Pow.{pow-pos, pow-mono, pow-add, shr-lt, split, high, low, high-ones}
 use lib.Arith.{digits-lt}
 use Rattle.wgsl.specs.Field.{startOf, bitsOf, bitAt, fieldAt, repeatedTop, extractedU32, extractedI32, putAt, inserted, patternOf, signedOf, isInside, bitExtracted, bitInserted}
-use Rattle.wgsl.specs.Case.{allPass}
-use Rattle.wgsl.specs.FieldCase.{isNumber, holds, reads, puts, fieldCases, fieldCasesPass}
-use Rattle.wgsl.proofs.Absent.{true-not-false}
+use Rattle.wgsl.proofs.Bit.{lt-or-le, bit-shift, bit-mod, bit-ones, bit-above, bit-low, bit-high, top-set, top-clear, bits-unique}
 
 -- A field lies within the word.
 pub field-within : (offset count : ℕ) → startOf offset + bitsOf offset count ≤ 32
 unfolding startOf bitsOf
 field-within offset count = omega arith
-
--- ---- one bit of a number
-
-bit-shift : (n k i : ℕ) → bitAt (n / 2 ^ k) i ≡ bitAt n (k + i)
-unfolding bitAt
-bit-shift n k i = rw (shr-shr n k i)
-
-digit-mod : (n m i : ℕ) → n % 2 ^ (m + 1 + i) / 2 ^ i % 2 ≡ n / 2 ^ i % 2
-digit-mod n m i = rw (field n (m + 1) i) (mod-mod-pow (n / 2 ^ i) m 1)
-
-digit-ones : (m i : ℕ) → (2 ^ (m + 1 + i) - 1) / 2 ^ i % 2 ≡ 1
-digit-ones m i =
-    rw (ones-split (m + 1) i, high (2 ^ (m + 1) - 1) i (ones-lt i), ones-split m 1) (low (2 ^ m - 1) 1 (omega arith))
-
--- below k a number has the bits of its k lowest,
-bit-mod : (n k i : ℕ) → i < k → bitAt (n % 2 ^ k) i ≡ bitAt n i
-unfolding bitAt
-bit-mod n k i h =
-    let e : k - suc i + 1 + i ≡ k = omega arith in
-    ap (λ (x : ℕ). eqb x 1) (rw e at (digit-mod n (k - suc i) i))
-
-bit-ones : (k i : ℕ) → i < k → bitAt (2 ^ k - 1) i ≡ true
-unfolding bitAt
-bit-ones k i h =
-    let e : k - suc i + 1 + i ≡ k = omega arith in
-    ap (λ (x : ℕ). eqb x 1) (rw e at (digit-ones (k - suc i) i))
-
--- and a number below 2 ^ k has none from k on.
-bit-above : (n k i : ℕ) → n < 2 ^ k → k ≤ i → bitAt n i ≡ false
-unfolding bitAt
-bit-above n k i h l = rw (div-eq-of-lt {n = n} {m = 2 ^ i} (lt-of-lt-of-le h (pow-mono l)))
-
--- A number put above another one of k bits has that one's bits below k, and its own from k on.
-bit-low : (hi k lo i : ℕ) → lo < 2 ^ k → i < k → bitAt (hi * 2 ^ k + lo) i ≡ bitAt lo i
-bit-low hi k lo i h l = sym (bit-mod (hi * 2 ^ k + lo) k i l) ∙ ap (λ (x : ℕ). bitAt x i) (low hi k h)
-
-bit-high : (hi k lo i : ℕ) → lo < 2 ^ k → k ≤ i → bitAt (hi * 2 ^ k + lo) i ≡ bitAt hi (i - k)
-bit-high hi k lo i h l =
-    let e : k + (i - k) ≡ i = omega arith in
-    rw e at (sym (bit-shift (hi * 2 ^ k + lo) k (i - k)) ∙ ap (λ (x : ℕ). bitAt x (i - k)) (high hi k h))
-
-lt-or-le : (a b : ℕ) → (a < b) ⊎ (b ≤ a)
-lt-or-le a b = elim (decLe b a) [ yes h ↦ inr h | no h ↦ inl (lt-of-not-le h) ]
 
 -- ---- extraction bit by bit
 
@@ -99,14 +53,6 @@ ones-above c v h =
     omega arith
 
 module _ (c v : ℕ) (short : c ≤ 32) (small : v < 2 ^ c) where
-  repeated-low : (j : ℕ) → j < c → bitAt (repeatedTop c v) j ≡ bitAt v j
-  unfolding repeatedTop
-  repeated-low j h = go (bitAt v (c - 1))
-    where
-      go : (b : Bool) → bitAt (cond b (v + (2 ^ 32 - 2 ^ c)) v) j ≡ bitAt v j
-      go true = rw (ones-above c v short) (bit-low (2 ^ (32 - c) - 1) c v j small h)
-      go false = refl
-
   repeated-high : (j : ℕ) → c ≤ j → j < 32 → bitAt (repeatedTop c v) j ≡ bitAt v (c - 1)
   unfolding repeatedTop
   repeated-high j h l = go (bitAt v (c - 1))
@@ -114,6 +60,14 @@ module _ (c v : ℕ) (short : c ≤ 32) (small : v < 2 ^ c) where
       go : (b : Bool) → bitAt (cond b (v + (2 ^ 32 - 2 ^ c)) v) j ≡ b
       go true = rw (ones-above c v short) (bit-high (2 ^ (32 - c) - 1) c v j small h ∙ bit-ones (32 - c) (j - c) (omega arith))
       go false = bit-above v c j small h
+
+  repeated-low : (j : ℕ) → j < c → bitAt (repeatedTop c v) j ≡ bitAt v j
+  unfolding repeatedTop
+  repeated-low j h = go (bitAt v (c - 1))
+    where
+      go : (b : Bool) → bitAt (cond b (v + (2 ^ 32 - 2 ^ c)) v) j ≡ bitAt v j
+      go true = rw (ones-above c v short) (bit-low (2 ^ (32 - c) - 1) c v j small h)
+      go false = refl
 
   pub repeated-word : repeatedTop c v < 2 ^ 32
   unfolding repeatedTop
@@ -126,9 +80,9 @@ module _ (c v : ℕ) (short : c ≤ 32) (small : v < 2 ^ c) where
       go true = omega (arith, p)
       go false = omega (arith, p)
 
-top-bit : (e o c j : ℕ) → 1 ≤ c → o + c ≤ 32 → j < 32 → bitAt (repeatedTop c (fieldAt e o c)) j ≡ bitExtracted (bitAt e (o + c - 1)) e o c j
+signed-bit : (e o c j : ℕ) → 1 ≤ c → o + c ≤ 32 → j < 32 → bitAt (repeatedTop c (fieldAt e o c)) j ≡ bitExtracted (bitAt e (o + c - 1)) e o c j
 unfolding bitExtracted
-top-bit e o c j some within word =
+signed-bit e o c j some within word =
     let v = fieldAt e o c in
     let short : c ≤ 32 = omega arith in
     let top : o + (c - 1) ≡ o + c - 1 = omega arith in
@@ -144,32 +98,18 @@ pub extract-signed-bit : (e offset count j : ℕ) → 1 ≤ bitsOf offset count 
     ≡ bitExtracted (bitAt e (startOf offset + bitsOf offset count - 1)) e (startOf offset) (bitsOf offset count) j
 unfolding extractedI32 extractedU32
 extract-signed-bit e offset count j some word =
-    top-bit e (startOf offset) (bitsOf offset count) j some (field-within offset count) word
+    signed-bit e (startOf offset) (bitsOf offset count) j some (field-within offset count) word
 
 -- ---- extraction as a number
-
-top-set : (d v : ℕ) → bitAt v d ≡ true → 2 ^ d ≤ v
-top-set d v t =
-    ⊎-elim (λ (h : v < 2 ^ d). true-not-false t (bit-above v d d h (omega arith))) (λ (h : 2 ^ d ≤ v). h) (lt-or-le v (2 ^ d))
-
-top-clear : (d v : ℕ) → v < 2 ^ suc d → bitAt v d ≡ false → v < 2 ^ d
-unfolding bitAt
-top-clear d v small t =
-    ⊎-elim (λ (h : v < 2 ^ d). h)
-    (λ (h : 2 ^ d ≤ v).
-    let e : 1 * 2 ^ d + (v - 2 ^ d) ≡ v = omega arith in
-    let one : v / 2 ^ d ≡ 1 = rw e at (high 1 d {lo = v - 2 ^ d} (omega (arith, pow-suc 2 d))) in
-    true-not-false (rw one) t)
-    (lt-or-le v (2 ^ d))
 
 less : (v m : ℕ) → v < m → pos v -ℤ pos m ≡ negsuc (m - suc v)
 less v zero h = absurd (omega arith)
 less v (suc m) h = rw (lt-ltb v (suc m) h)
 
-top-number : (c v : ℕ) → c ≤ 32 → v < 2 ^ c → signedOf (repeatedTop c v) ≡ cond (bitAt v (c - 1)) (pos v -ℤ pos (2 ^ c)) (pos v)
+repeated-number : (c v : ℕ) → c ≤ 32 → v < 2 ^ c → signedOf (repeatedTop c v) ≡ cond (bitAt v (c - 1)) (pos v -ℤ pos (2 ^ c)) (pos v)
 unfolding repeatedTop signedOf bitAt
-top-number zero v short small = let z : v ≡ 0 = omega arith in rw z refl
-top-number (suc d) v short small = go (bitAt v (suc d - 1)) refl
+repeated-number zero v short small = let z : v ≡ 0 = omega arith in rw z refl
+repeated-number (suc d) v short small = go (bitAt v (suc d - 1)) refl
   where
     e : suc d - 1 ≡ d
     e = omega arith
@@ -195,7 +135,7 @@ pub extract-number : (e offset count : ℕ)
 unfolding extractedI32 extractedU32
 extract-number e offset count =
     let within = field-within offset count in
-    top-number (bitsOf offset count) _ (omega arith) (field-bounded e (startOf offset) (bitsOf offset count))
+    repeated-number (bitsOf offset count) _ (omega arith) (field-bounded e (startOf offset) (bitsOf offset count))
 
 -- Both extractions give words.
 pub extracted-word : (e offset count : ℕ) → (extractedU32 e offset count < 2 ^ 32) × (extractedI32 e offset count < 2 ^ 32)
@@ -258,27 +198,7 @@ pub inserted-word : (e new offset count : ℕ) → e < 2 ^ 32 → inserted e new
 unfolding inserted
 inserted-word e new offset count h = put-word e new (startOf offset) (bitsOf offset count) (field-within offset count) h
 
--- ---- a word is told by its bits
-
-pub digit-told : (n : ℕ) → n < 2 → cond (eqb n 1) 1 0 ≡ n
-digit-told zero h = refl
-digit-told (suc zero) h = refl
-digit-told (suc (suc n)) h = absurd (omega arith)
-
-lowest : (a b : ℕ) → bitAt a 0 ≡ bitAt b 0 → a % 2 ≡ b % 2
-unfolding bitAt
-lowest a b e =
-    let f : eqb (a % 2) 1 ≡ eqb (b % 2) 1 = rw (div-one a, div-one b) at e in
-    sym (digit-told (a % 2) (omega arith)) ∙ ap (λ (t : Bool). cond t 1 0) f ∙ digit-told (b % 2) (omega arith)
-
-bits-unique : (k a b : ℕ) → a < 2 ^ k → b < 2 ^ k → ((j : ℕ) → j < k → bitAt a j ≡ bitAt b j) → a ≡ b
-bits-unique zero a b h l same = omega arith
-bits-unique (suc k) a b h l same =
-    let rest : a / 2 ≡ b / 2 =
-    bits-unique k (a / 2) (b / 2) (omega (arith, pow-suc 2 k)) (omega (arith, pow-suc 2 k))
-    (λ j m. bit-shift a 1 j ∙ same (1 + j) (omega arith) ∙ sym (bit-shift b 1 j)) in
-    let first : a % 2 ≡ b % 2 = lowest a b (same 0 (omega arith)) in
-    omega arith
+-- ---- no other word has these bits
 
 -- Two words with the same 32 bits are the same.
 pub word-unique : (a b : ℕ) → a < 2 ^ 32 → b < 2 ^ 32 → ((j : ℕ) → j < 32 → bitAt a j ≡ bitAt b j) → a ≡ b
@@ -361,10 +281,3 @@ pub pattern-word : (z : ℤ) → mag z < 2 ^ 31 → patternOf z < 2 ^ 32
 unfolding patternOf
 pattern-word (pos n) h = omega arith
 pattern-word (negsuc n) h = omega arith
-
--- ---- the cases
-
--- The cases of 02 come out: one test, which antt computes.
-pub field-cases-pass : T fieldCasesPass
-unfolding startOf bitsOf bitAt fieldAt repeatedTop extractedU32 extractedI32 putAt inserted signedOf isNumber holds reads puts fieldCases fieldCasesPass allPass
-field-cases-pass = tt

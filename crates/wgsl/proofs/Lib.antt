@@ -31,6 +31,8 @@ pub mod Demand
 pub mod OnePath
 pub mod Rank
 pub mod Case
+pub mod FieldCase
+pub mod Bit
 pub mod Field
 pub mod Claims
 pub mod Witness

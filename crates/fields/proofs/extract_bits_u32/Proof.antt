@@ -1,13 +1,8 @@
 -- The field at o and c.
-use native.Mathlib.Nat.{lt-of-lt-of-le}
-use lib.Pow.{pow-mono}
 use Rattle.wgsl.specs.Field.{extractedU32}
 use borrow.Author.Needs.{needs}
 use Rattle.fields.proofs.extract_bits_u32.Statement.{statement}
 use Rattle.fields.proofs.extract_bits_u32.Tie as tie
-
-cast-result : tie.Need-cast-result
-cast-result c = record { fits = lt-of-lt-of-le (c .field .ensures .1) (pow-mono (c .before .bits-of .ensures .1)) }
 
 returns : tie.Need-returns
 unfolding extractedU32
@@ -16,4 +11,4 @@ returns c = cc
 pub extract-bits-u32-spec : {M : Type 1} → statement M
 extract-bits-u32-spec =
     tie.close (tie.spec
-    (λ c κs. search needs) (λ c κs. search needs) (λ c κs. search needs) cast-result returns)
+    (λ c κs. search needs) (λ c κs. search needs) (λ c κs. search needs) (λ c. search needs) returns)

@@ -1,5 +1,7 @@
 -- A shift and a mask cut out a field (`Words`).
 use mathlib.Core.Path.{refl}
+use native.Mathlib.Nat.{lt-of-lt-of-le}
+use lib.Pow.{pow-mono}
 use Rattle.wgsl.proofs.Field.{field-bounded}
 use Rattle.fields.proofs.Words.{mask-fits, field-masked}
 use borrow.Author.Needs.{needs}
@@ -13,7 +15,8 @@ returns : tie.Need-returns
 returns c =
     let a = c .before .args in
     let is = field-masked (a .e) (a .o) (a .c) (c .before .pre .1) in
-    rw (c .wide .ensures .0, is) (refl, field-bounded (a .e) (a .o) (a .c))
+    let small = field-bounded (a .e) (a .o) (a .c) in
+    rw (c .wide .ensures .0, is) (refl, small, lt-of-lt-of-le small (pow-mono (c .before .pre .1)))
 
 pub field-spec : {M : Type 1} → statement M
 field-spec =
