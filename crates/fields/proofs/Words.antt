@@ -13,13 +13,13 @@ use Rattle.wgsl.specs.Field.{bitAt, fieldAt, repeatedTop, putAt}
 use Rattle.wgsl.proofs.Bit.{digit-told}
 use Rattle.wgsl.proofs.Field.{field-bounded, put-word}
 
--- one bit, shifted
 one-shifted : (c : ℕ) → c ≤ 32 → 1 * 2 ^ c % 2 ^ 64 ≡ 2 ^ c
 one-shifted c h =
     let e : 1 * 2 ^ c ≡ 2 ^ c = omega arith in
     let l : 2 ^ c ≤ 2 ^ 32 = pow-mono h in
     rw e (mod-eq-of-lt (omega arith))
 
+-- One bit shifted by c is not 0, so a mask can be made of it.
 pub mask-fits : (c : ℕ) → c ≤ 32 → 1 ≤ 1 * 2 ^ c % 2 ^ 64
 mask-fits c h = rw (one-shifted c h) (pow-pos c)
 
@@ -40,6 +40,7 @@ top-is (suc d) v h small =
     rw (mod-eq-of-lt {n = v * 2} {m = 2 ^ 64} (omega arith), pow-suc 2 d, mul-div-mul-right {m = 2} v (2 ^ d) (omega arith), e, one)
     (sym (digit-told (v / 2 ^ d) digit))
 
+-- what the sum with a top bit is
 pub record Repeated (c v top : ℕ) : Type 0 where
   pub fits : v + top * 2 ^ 32 % 2 ^ 64 < 2 ^ 64
   pub below : top * 2 ^ c % 2 ^ 64 ≤ v + top * 2 ^ 32 % 2 ^ 64
@@ -64,6 +65,7 @@ word-split e o c =
     let f : c + o ≡ o + c = omega arith in
     omega (arith, split e (o + c), rw f at (mod-pow-add e c o))
 
+-- what the sum with an old and a new field is
 pub record Put (e new o c old fresh : ℕ) : Type 0 where
   pub below : old * 2 ^ o % 2 ^ 64 ≤ e
   pub is : e - old * 2 ^ o % 2 ^ 64 + fresh * 2 ^ o % 2 ^ 64 ≡ putAt e new o c

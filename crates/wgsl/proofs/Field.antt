@@ -26,6 +26,7 @@ field-within offset count = omega arith
 
 -- ---- extraction bit by bit
 
+-- A field of c bits is below 2 ^ c.
 pub field-bounded : (e o c : ℕ) → fieldAt e o c < 2 ^ c
 unfolding fieldAt
 field-bounded e o c = mod-lt (e / 2 ^ o) (pow-pos c)
@@ -69,6 +70,7 @@ module _ (c v : ℕ) (short : c ≤ 32) (small : v < 2 ^ c) where
       go true = rw (ones-above c v short) (bit-low (2 ^ (32 - c) - 1) c v j small h)
       go false = refl
 
+  -- With its top bit repeated it is a word.
   pub repeated-word : repeatedTop c v < 2 ^ 32
   unfolding repeatedTop
   repeated-word = go (bitAt v (c - 1))
@@ -187,13 +189,14 @@ put-bounded k e new o c h =
     rw (put-is e new o c)
     (rw q at (digits-lt (digits-lt (shr-lt k (o + c) h) (mod-lt new (pow-pos c))) (mod-lt e (pow-pos o))))
 
+-- Putting a field into a word gives a word.
 pub put-word : (e new o c : ℕ) → o + c ≤ 32 → e < 2 ^ 32 → putAt e new o c < 2 ^ 32
 put-word e new o c within h =
     let q : 32 - (o + c) + (o + c) ≡ 32 = omega arith in
     let r : 2 ^ (32 - (o + c) + (o + c)) ≡ 2 ^ 32 = ap (λ (x : ℕ). 2 ^ x) q in
     rw r at (put-bounded (32 - (o + c)) e new o c (rw r h))
 
--- Insertion into a word gives a word.
+-- So insertion into a word gives a word.
 pub inserted-word : (e new offset count : ℕ) → e < 2 ^ 32 → inserted e new offset count < 2 ^ 32
 unfolding inserted
 inserted-word e new offset count h = put-word e new (startOf offset) (bitsOf offset count) (field-within offset count) h

@@ -6,7 +6,7 @@ use Rattle.fields.proofs.extract_bits_u32.Tie as tie
 
 returns : tie.Need-returns
 unfolding extractedU32
-returns c = cc
+returns c = rw (c .field .ensures .0, c .before .bits-of .ensures .0, c .before .before .start-of .ensures .0)
 
 pub extract-bits-u32-spec : {M : Type 1} → statement M
 extract-bits-u32-spec =

@@ -6,7 +6,13 @@ use Rattle.fields.proofs.extract_pattern.Tie as tie
 
 returns : tie.Need-returns
 unfolding extractedI32 extractedU32
-returns c = cc
+returns c =
+    rw (
+      c .repeated .ensures .0,
+      c .before .field .ensures .0,
+      c .before .before .start-of .ensures .0,
+      c .before .before .before .bits-of .ensures .0,
+    )
 
 pub extract-pattern-spec : {M : Type 1} → statement M
 extract-pattern-spec =

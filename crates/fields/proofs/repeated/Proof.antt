@@ -1,6 +1,6 @@
 -- The top bit is repeated by a sum and a difference (`Words`).
 use Rattle.wgsl.proofs.Field.{repeated-word}
-use Rattle.fields.proofs.Words.{Repeated, repeated-sum}
+use Rattle.fields.proofs.Words.{repeated-sum}
 use borrow.Author.Needs.{needs}
 use mathlib.Core.Path.{refl}
 use Rattle.fields.proofs.repeated.Statement.{statement}
