@@ -1,4 +1,4 @@
--- Laws of one bit of a number (specs/Field).
+-- Laws of one bit of a number (specs/BitField).
 --
 -- In order: after a shift; of the k lowest; of a number put above another; the top one; a number is told by its bits.
 -- Assumes nothing.
@@ -11,7 +11,7 @@ use native.Mathlib.Nat.{div-one, div-eq-of-lt, lt-of-lt-of-le, lt-of-not-le, pow
 use native.Mathlib.Decide.{decLe}
 use lib.Dec.{eqb}
 use lib.Pow.{pow-mono, shr-shr, high, low, field, mod-mod-pow, ones-lt, ones-split}
-use Rattle.wgsl.specs.Field.{bitAt}
+use Rattle.wgsl.specs.BitField.{bitAt}
 use Rattle.wgsl.proofs.Absent.{true-not-false}
 
 -- Of two numbers the first is below the second or not.

@@ -31,8 +31,8 @@ pub mod Demand
 pub mod OnePath
 pub mod Rank
 pub mod Case
-pub mod FieldCase
+pub mod BitFieldCase
 pub mod Bit
-pub mod Field
+pub mod BitField
 pub mod Claims
 pub mod Witness

@@ -11,8 +11,9 @@ pub mod Path
 pub mod Rank
 pub mod Call
 pub mod Listing
-pub mod Field
-pub mod FieldCase
+pub mod BitField
+pub mod BitFieldCase
 pub mod Claim
 pub mod Demand
+pub mod BitFieldCall
 pub mod Case

@@ -1,0 +1,90 @@
+-- Bit fields at a path: the two calls of 02, E2.
+--
+-- In order: which scalars have fields; extraction; insertion; when the calls are good.
+-- "Then a call that does it at a path to one i32 or u32 of a storable entry. Refusals: as for set; 14 also for a scalar of another type."
+-- Definitions only. Assumes nothing.
+use Prim.Native.Nat.{ℕ, _+_}
+use mathlib.Core.Bool.{Bool, true, false, cond, not}
+use mathlib.Core.List.{List, [], _∷_, map}
+use mathlib.Core.Path.{_≡_}
+use lib.ListN.{length}
+use Rattle.wgsl.specs.Number.{load}
+use Rattle.wgsl.specs.Types.{Scalar, bool, i32, u32, f32, f16, abstractInt, abstractFloat, Ty}
+use Rattle.wgsl.specs.Size.{present, widthOf}
+use Rattle.wgsl.specs.Said.{Said, good, _>>=_, _>>_, refuse, orRefuse}
+use Rattle.wgsl.specs.Place.{elementsIn, one, shapeOf, wordPlaces, storeWords}
+use Rattle.wgsl.specs.Path.{stepOf}
+use Rattle.wgsl.specs.Call.{Done, storedEntry, targetIn, scalarAt}
+use Rattle.wgsl.specs.BitField.{extractedU32, extractedI32, inserted}
+use Rattle.wgsl.specs.Claim.{Leads, Stored, HasRoom}
+
+-- ---- which scalars have fields
+
+-- "one i32 or u32" (an atomic counts as the scalar that it refers to)
+unfoldable pub isInteger : Scalar → Bool
+isInteger bool = false
+isInteger i32 = true
+isInteger u32 = true
+isInteger f32 = false
+isInteger f16 = false
+isInteger abstractInt = false
+isInteger abstractFloat = false
+
+unfoldable pub isSigned : Scalar → Bool
+isSigned bool = false
+isSigned i32 = true
+isSigned u32 = false
+isSigned f32 = false
+isSigned f16 = false
+isSigned abstractInt = false
+isSigned abstractFloat = false
+
+-- where the one i32 or u32 lies that a path leads to, and which of the two it is
+pub record Found : Type 0 where
+  pub offset : ℕ
+  pub scalar : Scalar
+
+-- "as for set; 14 also for a scalar of another type"
+unfoldable pub integerAt : List ℕ → ℕ → List ℕ → List ℕ → Said Found
+integerAt f e path b = do
+  t ← storedEntry f e b
+  target ← targetIn t path b
+  s ← orRefuse 14 0 (scalarAt (target .shape))
+  refuse 14 0 (not (isInteger s))
+  good (record { offset = target .offset; scalar = s })
+
+-- its word
+unfoldable pub wordOf : Found → List ℕ → ℕ
+wordOf x b = load (present (widthOf (x .scalar))) b (x .offset)
+
+-- ---- extraction
+
+-- the field of a word: "and a signed field repeats its top bit above"
+unfoldable pub extractedAs : Scalar → ℕ → ℕ → ℕ → ℕ
+extractedAs s w offset count = cond (isSigned s) (extractedI32 w offset count) (extractedU32 w offset count)
+
+-- The answer is the field as a word; of an i32, as its pattern.
+unfoldable pub extractCall : List ℕ → ℕ → List ℕ → ℕ → ℕ → List ℕ → Said ℕ
+extractCall f e path offset count b = do
+  x ← integerAt f e path b
+  good (extractedAs (x .scalar) (wordOf x b) offset count)
+
+-- ---- insertion
+
+-- It answers the scalar's offset, as a set does.
+unfoldable pub insertCall : List ℕ → ℕ → List ℕ → ℕ → ℕ → ℕ → List ℕ → Said Done
+insertCall f e path new offset count b = do
+  x ← integerAt f e path b
+  good (record { value = x .offset; contents = storeWords (wordPlaces (x .scalar) (x .offset)) (inserted (wordOf x b) new offset count ∷ []) b })
+
+-- ---- when the calls are good
+
+-- The entry is stored, the buffer has room, and the steps lead to one i32 or u32.
+pub record CanField (f : List ℕ) (e : ℕ) (steps b : List ℕ) : Type 0 where
+  pub type : Ty
+  pub stored : Stored f e b type
+  pub room : HasRoom type b
+  pub offset : ℕ
+  pub scalar-there : Scalar
+  pub valid : Leads 0 (shapeOf (elementsIn (length b) type) type) (map stepOf steps) offset (one scalar-there)
+  pub integer : isInteger scalar-there ≡ true
