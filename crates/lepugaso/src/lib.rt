@@ -1,6 +1,7 @@
 // The public calls, in one place. None has a `requires`: any bytes of any length and any numbers are answered. Each answers a number or a
 // refusal (`layout::ask::Number`), but for `layout`, which answers all three numbers of an entry (`layout::ask::Answer`), `view_at`, which
-// answers a target (`walker::walk::Walked`), and the two views, which hand back a part of the buffer that they were lent.
+// answers a target (`walker::walk::Walked`), the two views, which hand back a part of the buffer that they were lent, and the four calls on
+// numbers alone, which answer a number.
 
 // How many entries an accepted file has; else 1 to 7.
 pub use layout::ask::check;
@@ -23,3 +24,11 @@ pub use paths::view::view_at;
 pub use paths::view::view_mut;
 // One scalar at a path (its offset); else 1 to 17.
 pub use paths::set::set;
+// WGSL's extractBits and insertBits, on any numbers.
+pub use bits::extract_bits_i32;
+pub use bits::extract_bits_u32;
+pub use bits::insert_bits_i32;
+pub use bits::insert_bits_u32;
+// The same of one i32 or u32 at a path: its field as a word, and its offset; else 1 to 15, 17.
+pub use paths::field::extract_bits;
+pub use paths::field::insert_bits;

@@ -6,3 +6,4 @@ pub mod Plants
 pub mod Rooms
 pub mod Settings
 pub mod Single
+pub mod Integers

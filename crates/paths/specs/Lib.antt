@@ -1,3 +1,4 @@
 pub mod Locate
 pub mod View
 pub mod Set
+pub mod Field

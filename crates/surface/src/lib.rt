@@ -8,6 +8,8 @@ use layout::ask::Number;
 use walker::walk::Walked;
 ghost use mathlib.Core.Path.{_≡_};
 ghost use Rattle.wgsl.specs.Call.{checkOf, sizeCall, alignCall, minSizeCall, layoutCall, rankCall, commonCall, answerOf, contentsOf, readCall, writeCall, offsetOf, viewCall, setCall};
+ghost use Rattle.wgsl.specs.BitField.{extractedU32, extractedI32, inserted, patternOf, signedOf};
+ghost use Rattle.wgsl.specs.BitFieldCall.{extractCall, insertCall};
 ghost use Rattle.layout.specs.Answer.{saidNumber, maybeOf};
 ghost use Rattle.surface.specs.Crossing.{crossed, crossedMaybe, told, laidOut, sizeOut};
 
@@ -170,4 +172,72 @@ pub extern "C" fn lepugaso_surface_set(
     ensures buffer { λ r. ⌜ now (buf .exit) ≡ contentsOf (now (buf .entry)) (setCall (now (file .entry)) entry (now (path .entry)) word (now (buf .entry))) ⌝ }
 {
     cross(lepugaso::set(file, entry, path, word, buf))
+}
+
+#[no_mangle]
+pub extern "C" fn lepugaso_surface_extract_bits_i32(e: i32, offset: u32, count: u32) -> i32
+    ensures { λ r. ⌜ r ≡ signedOf (extractedI32 (patternOf e) offset count) ⌝ }
+{
+    lepugaso::extract_bits_i32(e, offset, count)
+}
+
+#[no_mangle]
+pub extern "C" fn lepugaso_surface_extract_bits_u32(e: u32, offset: u32, count: u32) -> u32
+    ensures { λ r. ⌜ r ≡ extractedU32 e offset count ⌝ }
+{
+    lepugaso::extract_bits_u32(e, offset, count)
+}
+
+#[no_mangle]
+pub extern "C" fn lepugaso_surface_insert_bits_i32(
+    e: i32,
+    newbits: i32,
+    offset: u32,
+    count: u32,
+) -> i32
+    ensures { λ r. ⌜ r ≡ signedOf (inserted (patternOf e) (patternOf newbits) offset count) ⌝ }
+{
+    lepugaso::insert_bits_i32(e, newbits, offset, count)
+}
+
+#[no_mangle]
+pub extern "C" fn lepugaso_surface_insert_bits_u32(
+    e: u32,
+    newbits: u32,
+    offset: u32,
+    count: u32,
+) -> u32
+    ensures { λ r. ⌜ r ≡ inserted e newbits offset count ⌝ }
+{
+    lepugaso::insert_bits_u32(e, newbits, offset, count)
+}
+
+#[no_mangle]
+pub extern "C" fn lepugaso_surface_extract_bits(
+    file: &[u8],
+    entry: u32,
+    path: &[u32],
+    buf: &[u8],
+    offset: u32,
+    count: u32,
+) -> Crossing
+    ensures { λ r. ⌜ r ≡ crossed (extractCall (now (file .entry)) entry (now (path .entry)) (now (buf .entry)) offset count) ⌝ }
+{
+    cross(lepugaso::extract_bits(file, entry, path, buf, offset, count))
+}
+
+#[no_mangle]
+pub extern "C" fn lepugaso_surface_insert_bits(
+    file: &[u8],
+    entry: u32,
+    path: &[u32],
+    newbits: u32,
+    offset: u32,
+    count: u32,
+    buf: &mut [u8],
+) -> Crossing
+    ensures answer { λ r. ⌜ r ≡ crossed (answerOf (insertCall (now (file .entry)) entry (now (path .entry)) newbits offset count (now (buf .entry)))) ⌝ }
+    ensures buffer { λ r. ⌜ now (buf .exit) ≡ contentsOf (now (buf .entry)) (insertCall (now (file .entry)) entry (now (path .entry)) newbits offset count (now (buf .entry))) ⌝ }
+{
+    cross(lepugaso::insert_bits(file, entry, path, newbits, offset, count, buf))
 }

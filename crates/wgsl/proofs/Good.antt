@@ -229,7 +229,8 @@ view-good-if f e steps b =
 
 -- ---- set
 
-one-scalar : (x : Shape) (s : Scalar) → scalarAt x ≡ some s → x ≡ one s
+-- What `scalarAt` finds is the whole of the shape.
+pub one-scalar : (x : Shape) (s : Scalar) → scalarAt x ≡ some s → x ≡ one s
 unfolding scalarAt
 one-scalar (one u) s e = ap one (Option·some-injective u s e)
 one-scalar (parts n stride x) s e = some-not-none e refl

@@ -3,7 +3,7 @@
 -- In order: which scalars have fields; extraction; insertion; when the calls are good.
 -- "Then a call that does it at a path to one i32 or u32 of a storable entry. Refusals: as for set; 14 also for a scalar of another type."
 -- Definitions only. Assumes nothing.
-use Prim.Native.Nat.{ℕ, _+_}
+use Prim.Native.Nat.{ℕ}
 use mathlib.Core.Bool.{Bool, true, false, cond, not}
 use mathlib.Core.List.{List, [], _∷_, map}
 use mathlib.Core.Path.{_≡_}
@@ -64,8 +64,8 @@ unfoldable pub extractedAs : Scalar → ℕ → ℕ → ℕ → ℕ
 extractedAs s w offset count = cond (isSigned s) (extractedI32 w offset count) (extractedU32 w offset count)
 
 -- The answer is the field as a word; of an i32, as its pattern.
-unfoldable pub extractCall : List ℕ → ℕ → List ℕ → ℕ → ℕ → List ℕ → Said ℕ
-extractCall f e path offset count b = do
+unfoldable pub extractCall : List ℕ → ℕ → List ℕ → List ℕ → ℕ → ℕ → Said ℕ
+extractCall f e path b offset count = do
   x ← integerAt f e path b
   good (extractedAs (x .scalar) (wordOf x b) offset count)
 

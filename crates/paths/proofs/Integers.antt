@@ -1,0 +1,219 @@
+-- Bit fields (specs/Field) by what the code finds: an i32, a u32 or none; and its word.
+--
+-- In order: once the target is found; 14, or one of the two; it lies inside the buffer; its field; the calls.
+-- Assumes nothing.
+use Prim.Native.Nat.{ℕ}
+use mathlib.Core.Bool.{true, false}
+use mathlib.Core.List.{List, [], _∷_}
+use mathlib.Core.Path.{_≡_, refl, ap, sym, _∙_}
+use native.Mathlib.Omega.{arith}
+use borrow.Author.Tests.{not-false}
+use lib.ListN.{length}
+use Rattle.wgsl.specs.Number.{load, store}
+use Rattle.wgsl.specs.Types.{Scalar, bool, i32, u32, f32, f16, abstractInt, abstractFloat}
+use Rattle.wgsl.specs.Size.{present, widthOf}
+use Rattle.wgsl.specs.Said.{Said, good, refused, _>>=_, _>>_, refuse, orRefuse}
+use Rattle.wgsl.specs.Rank.{kindOf}
+use Rattle.wgsl.specs.Place.{Shape, one, parts, field, whole, spanOf, wordPlaces, storeWords}
+use Rattle.wgsl.specs.Path as path
+use Rattle.wgsl.specs.Call.{storedEntry, scalarAt}
+use Rattle.wgsl.specs.BitField.{extractedU32, extractedI32, inserted}
+use Rattle.wgsl.specs.BitFieldCall.{isInteger, isSigned, Found, integerAt, wordOf, extractedAs, extractCall, insertCall}
+use Rattle.wgsl.proofs.Absent.{true-not-false}
+use Rattle.wgsl.proofs.Said.{good-not-refused, then-good, then-cases, then-is, then-refused, refuse-good, orRefuse-good}
+use Rattle.walker.specs.declared.walk.Target.{Target}
+use Rattle.walker.specs.Walk.{scalarIn, targetIs}
+use Rattle.paths.specs.Locate.{targetCall}
+use Rattle.paths.specs.Field.{integerOf, foundIs, foundIn, Integer}
+use Rattle.wgsl.proofs.Good.{one-scalar}
+use Rattle.paths.proofs.Rooms.{target-room}
+
+-- ---- once the target is found
+
+module _ (f : List ℕ) (e : ℕ) (steps b : List ℕ) where
+  pub integer-refused : {number place : ℕ} → targetCall true f e steps b ≡ refused number place → integerAt f e steps b ≡ refused number place
+  unfolding targetCall integerAt
+  integer-refused h =
+      then-cases (storedEntry f e b) _ h (λ q. then-refused _ q) (λ s. then-is _ (s .first) ∙ then-refused _ (s .after))
+
+  pub integer-found : {u : path.Target} → targetCall true f e steps b ≡ good u → integerAt f e steps b ≡ integerOf u
+  unfolding targetCall integerAt integerOf
+  integer-found h =
+      let s = then-good (storedEntry f e b) _ h in
+      then-is _ (s .first) ∙ then-is _ (s .after)
+
+-- ---- 14, or one of the two
+
+-- The kinds of i32 and u32 are no other scalar's.
+pub kind-one : (s : Scalar) → kindOf s ≡ 1 → s ≡ i32
+unfolding kindOf
+kind-one bool e = absurd (omega arith)
+kind-one i32 e = refl
+kind-one u32 e = absurd (omega arith)
+kind-one f32 e = absurd (omega arith)
+kind-one f16 e = absurd (omega arith)
+kind-one abstractInt e = absurd (omega arith)
+kind-one abstractFloat e = absurd (omega arith)
+
+pub kind-two : (s : Scalar) → kindOf s ≡ 2 → s ≡ u32
+unfolding kindOf
+kind-two bool e = absurd (omega arith)
+kind-two i32 e = absurd (omega arith)
+kind-two u32 e = refl
+kind-two f32 e = absurd (omega arith)
+kind-two f16 e = absurd (omega arith)
+kind-two abstractInt e = absurd (omega arith)
+kind-two abstractFloat e = absurd (omega arith)
+
+no-integer : (s : Scalar) → (kindOf s ≡ 1 → ⊥) → (kindOf s ≡ 2 → ⊥) → isInteger s ≡ false
+unfolding kindOf isInteger
+no-integer bool h k = refl
+no-integer i32 h k = absurd (h refl)
+no-integer u32 h k = absurd (k refl)
+no-integer f32 h k = refl
+no-integer f16 h k = refl
+no-integer abstractInt h k = refl
+no-integer abstractFloat h k = refl
+
+-- An i32 or u32 has one of the two kinds, and four bytes.
+pub integer-kinds : (s : Scalar) → isInteger s ≡ true → (kindOf s ≡ 1 → ⊥) → s ≡ u32
+unfolding isInteger kindOf
+integer-kinds bool e h = true-not-false e refl
+integer-kinds i32 e h = absurd (h refl)
+integer-kinds u32 e h = refl
+integer-kinds f32 e h = true-not-false e refl
+integer-kinds f16 e h = true-not-false e refl
+integer-kinds abstractInt e h = true-not-false e refl
+integer-kinds abstractFloat e h = true-not-false e refl
+
+pub integer-width : (s : Scalar) → isInteger s ≡ true → present (widthOf s) ≡ 4
+unfolding isInteger present widthOf
+integer-width bool e = true-not-false e refl
+integer-width i32 e = refl
+integer-width u32 e = refl
+integer-width f32 e = true-not-false e refl
+integer-width f16 e = true-not-false e refl
+integer-width abstractInt e = true-not-false e refl
+integer-width abstractFloat e = true-not-false e refl
+
+-- A target whose kind is 1 or 2 is an i32 or a u32, and any other is refused.
+module _ (u : path.Target) where
+  scalar-found : (s : Scalar) → u .shape ≡ one s → isInteger s ≡ true → good (targetIs u) ≡ foundIn (integerOf u)
+  unfolding integerOf scalarAt orRefuse _>>=_ _>>_ refuse scalarIn spanOf
+  scalar-found s is e = rw (is, e) refl
+
+  pub found-one : scalarIn (u .shape) ≡ 1 → good (targetIs u) ≡ foundIn (integerOf u)
+  unfolding scalarIn isInteger
+  found-one h = go (u .shape) refl h
+    where
+      go : (x : Shape) → u .shape ≡ x → scalarIn x ≡ 1 → good (targetIs u) ≡ foundIn (integerOf u)
+      go (one s) is k = scalar-found i32 (is ∙ ap one (kind-one s k)) refl
+      go (parts n stride x) is k = absurd (omega arith)
+      go (field offset x rest) is k = absurd (omega arith)
+      go (whole z) is k = absurd (omega arith)
+
+  pub found-two : scalarIn (u .shape) ≡ 2 → good (targetIs u) ≡ foundIn (integerOf u)
+  unfolding scalarIn isInteger
+  found-two h = go (u .shape) refl h
+    where
+      go : (x : Shape) → u .shape ≡ x → scalarIn x ≡ 2 → good (targetIs u) ≡ foundIn (integerOf u)
+      go (one s) is k = scalar-found u32 (is ∙ ap one (kind-two s k)) refl
+      go (parts n stride x) is k = absurd (omega arith)
+      go (field offset x rest) is k = absurd (omega arith)
+      go (whole z) is k = absurd (omega arith)
+
+  pub found-none : (scalarIn (u .shape) ≡ 1 → ⊥) → (scalarIn (u .shape) ≡ 2 → ⊥) → integerOf u ≡ refused 14 0
+  unfolding scalarIn integerOf scalarAt orRefuse _>>=_ _>>_ refuse
+  found-none h k = go (u .shape) refl h k
+    where
+      go : (x : Shape) → u .shape ≡ x → (scalarIn x ≡ 1 → ⊥) → (scalarIn x ≡ 2 → ⊥) → integerOf u ≡ refused 14 0
+      go (one s) is a b = rw (is, no-integer s a b)
+      go (parts n stride x) is a b = rw is
+      go (field offset x rest) is a b = rw is
+      go (whole z) is a b = rw is
+
+-- ---- it lies inside the buffer
+
+-- What is found is an i32 or a u32 inside the buffer.
+pub integer-inside : (f : List ℕ) (e : ℕ) (steps b : List ℕ) (x : Found) → integerAt f e steps b ≡ good x → Integer (foundIs x) x (length b)
+unfolding integerAt targetCall scalarAt spanOf
+integer-inside f e steps b x h =
+    let s = then-good _ _ h in
+    let t = then-good _ _ (s .after) in
+    let u = t .value in
+    let one-there = then-good _ _ (t .after) in
+    let k = one-there .value in
+    let kept = refuse-good _ _ _ _ (one-there .after) in
+    let is = one-scalar (u .shape) k (orRefuse-good _ _ _ (one-there .first)) in
+    let integer = not-false (isInteger k) (kept .0) in
+    let room = target-room true f e steps b refl (then-is _ (s .first) ∙ t .first) in
+    let same : record { offset = u .offset; scalar = k } ≡ x = cc (kept .1) in
+    rw (← same) (record {
+      is = refl;
+      integer = integer;
+      inside = omega (arith, room .inside, ap spanOf is, integer-width k integer);
+      within = room .within;
+    })
+
+-- What the code has of an answer is there.
+pub found-good : {t : Target} (said : Said Found) → good t ≡ foundIn said → (x : Found) × (said ≡ good x) × (t ≡ foundIs x)
+found-good (good x) e = (x, refl, cc)
+found-good (refused number place) e = good-not-refused refl e
+
+pub found-refused : {number place : ℕ} (said : Said Found) → refused number place ≡ foundIn said → said ≡ refused number place
+found-refused (good x) e = good-not-refused e refl
+found-refused (refused number place) e = cc
+
+-- ---- its field
+
+module _ {t : Target} {x : Found} {bytes : ℕ} (i : Integer t x bytes) where
+  pub at-offset : t .offset ≡ x .offset
+  at-offset = ap (λ (u : Target). u .offset) (i .is)
+
+  kind-is : t .scalar ≡ kindOf (x .scalar)
+  kind-is = ap (λ (u : Target). u .scalar) (i .is)
+
+  pub word-at : (b : List ℕ) → wordOf x b ≡ load 4 b (t .offset)
+  unfolding wordOf
+  word-at b = rw (integer-width (x .scalar) (i .integer), at-offset)
+
+  -- the field of an i32 is signed, that of a u32 is not
+  pub field-signed : (w offset count : ℕ) → t .scalar ≡ 1 → extractedAs (x .scalar) w offset count ≡ extractedI32 w offset count
+  unfolding extractedAs isSigned
+  field-signed w offset count e = rw (kind-one (x .scalar) (sym kind-is ∙ e))
+
+  pub field-plain : (w offset count : ℕ) → (t .scalar ≡ 1 → ⊥) → extractedAs (x .scalar) w offset count ≡ extractedU32 w offset count
+  unfolding extractedAs isSigned
+  field-plain w offset count h = rw (integer-kinds (x .scalar) (i .integer) (λ q. h (kind-is ∙ q)))
+
+  -- a word stored in it is stored in its four bytes
+  pub stored-four : (w : ℕ) (b : List ℕ) → storeWords (wordPlaces (x .scalar) (x .offset)) (w ∷ []) b ≡ store 4 b (t .offset) w
+  unfolding storeWords wordPlaces
+  stored-four w b = rw (integer-width (x .scalar) (i .integer), at-offset)
+
+-- ---- the calls, once it is found
+
+module _ (f : List ℕ) (e : ℕ) (steps b : List ℕ) where
+  -- what the code has of the scalar, from its answer
+  pub integer-there : {t : Target} → good t ≡ foundIn (integerAt f e steps b) → (x : Found) × (integerAt f e steps b ≡ good x) × Integer t x (length b)
+  integer-there h =
+      let (x, is, same) = found-good (integerAt f e steps b) h in
+      let i = integer-inside f e steps b x is in
+      (x, is, record { is = same; integer = i .integer; inside = i .inside; within = i .within })
+
+  module _ (offset count : ℕ) where
+    pub extract-refused : {number place : ℕ} → refused number place ≡ foundIn (integerAt f e steps b) → extractCall f e steps b offset count ≡ refused number place
+    unfolding extractCall
+    extract-refused h = then-refused _ (found-refused (integerAt f e steps b) h)
+
+    pub extract-found : {x : Found} → integerAt f e steps b ≡ good x → extractCall f e steps b offset count ≡ good (extractedAs (x .scalar) (wordOf x b) offset count)
+    unfolding extractCall
+    extract-found h = then-is _ h
+
+    pub insert-refused : {number place : ℕ} (new : ℕ) → refused number place ≡ foundIn (integerAt f e steps b) → insertCall f e steps new offset count b ≡ refused number place
+    unfolding insertCall
+    insert-refused new h = then-refused _ (found-refused (integerAt f e steps b) h)
+
+    pub insert-found : {x : Found} (new : ℕ) → integerAt f e steps b ≡ good x → insertCall f e steps new offset count b ≡ good (record { value = x .offset; contents = storeWords (wordPlaces (x .scalar) (x .offset)) (inserted (wordOf x b) new offset count ∷ []) b })
+    unfolding insertCall
+    insert-found new h = then-is _ h
