@@ -7,11 +7,9 @@ use mathlib.Core.Bool.{true, false}
 use mathlib.Core.List.{List, [], _∷_}
 use mathlib.Core.Path.{_≡_, refl, ap, sym, _∙_}
 use native.Mathlib.Omega.{arith}
-use borrow.Author.Tests.{not-false}
 use lib.ListN.{length}
 use Rattle.wgsl.specs.Number.{load, store}
 use Rattle.wgsl.specs.Types.{Scalar, bool, i32, u32, f32, f16, abstractInt, abstractFloat}
-use Rattle.wgsl.specs.Size.{present, widthOf}
 use Rattle.wgsl.specs.Said.{Said, good, refused, _>>=_, _>>_, refuse, orRefuse}
 use Rattle.wgsl.specs.Rank.{kindOf}
 use Rattle.wgsl.specs.Place.{Shape, one, parts, field, whole, spanOf, wordPlaces, storeWords}
@@ -20,13 +18,12 @@ use Rattle.wgsl.specs.Call.{storedEntry, scalarAt}
 use Rattle.wgsl.specs.BitField.{extractedU32, extractedI32, inserted}
 use Rattle.wgsl.specs.BitFieldCall.{isInteger, isSigned, Found, integerAt, wordOf, extractedAs, extractCall, insertCall}
 use Rattle.wgsl.proofs.Absent.{true-not-false}
-use Rattle.wgsl.proofs.Said.{good-not-refused, then-good, then-cases, then-is, then-refused, refuse-good, orRefuse-good}
+use Rattle.wgsl.proofs.Said.{good-not-refused, then-good, then-cases, then-is, then-refused}
 use Rattle.walker.specs.declared.walk.Target.{Target}
 use Rattle.walker.specs.Walk.{scalarIn, targetIs}
 use Rattle.paths.specs.Locate.{targetCall}
 use Rattle.paths.specs.Field.{integerOf, foundIs, foundIn, Integer}
-use Rattle.wgsl.proofs.Good.{one-scalar}
-use Rattle.paths.proofs.Rooms.{target-room}
+use Rattle.wgsl.proofs.BitFieldCall.{integer-width, integer-room}
 
 -- ---- once the target is found
 
@@ -75,7 +72,7 @@ no-integer f16 h k = refl
 no-integer abstractInt h k = refl
 no-integer abstractFloat h k = refl
 
--- An i32 or u32 has one of the two kinds, and four bytes.
+-- An i32 or u32 has one of the two kinds.
 pub integer-kinds : (s : Scalar) → isInteger s ≡ true → (kindOf s ≡ 1 → ⊥) → s ≡ u32
 unfolding isInteger kindOf
 integer-kinds bool e h = true-not-false e refl
@@ -85,16 +82,6 @@ integer-kinds f32 e h = true-not-false e refl
 integer-kinds f16 e h = true-not-false e refl
 integer-kinds abstractInt e h = true-not-false e refl
 integer-kinds abstractFloat e h = true-not-false e refl
-
-pub integer-width : (s : Scalar) → isInteger s ≡ true → present (widthOf s) ≡ 4
-unfolding isInteger present widthOf
-integer-width bool e = true-not-false e refl
-integer-width i32 e = refl
-integer-width u32 e = refl
-integer-width f32 e = true-not-false e refl
-integer-width f16 e = true-not-false e refl
-integer-width abstractInt e = true-not-false e refl
-integer-width abstractFloat e = true-not-false e refl
 
 -- A target whose kind is 1 or 2 is an i32 or a u32, and any other is refused.
 module _ (u : path.Target) where
@@ -136,24 +123,9 @@ module _ (u : path.Target) where
 
 -- What is found is an i32 or a u32 inside the buffer.
 pub integer-inside : (f : List ℕ) (e : ℕ) (steps b : List ℕ) (x : Found) → integerAt f e steps b ≡ good x → Integer (foundIs x) x (length b)
-unfolding integerAt targetCall scalarAt spanOf
 integer-inside f e steps b x h =
-    let s = then-good _ _ h in
-    let t = then-good _ _ (s .after) in
-    let u = t .value in
-    let one-there = then-good _ _ (t .after) in
-    let k = one-there .value in
-    let kept = refuse-good _ _ _ _ (one-there .after) in
-    let is = one-scalar (u .shape) k (orRefuse-good _ _ _ (one-there .first)) in
-    let integer = not-false (isInteger k) (kept .0) in
-    let room = target-room true f e steps b refl (then-is _ (s .first) ∙ t .first) in
-    let same : record { offset = u .offset; scalar = k } ≡ x = cc (kept .1) in
-    rw (← same) (record {
-      is = refl;
-      integer = integer;
-      inside = omega (arith, room .inside, ap spanOf is, integer-width k integer);
-      within = room .within;
-    })
+    let (integer, inside, within) = integer-room f e steps b x h in
+    record { is = refl; integer = integer; inside = inside; within = within }
 
 -- What the code has of an answer is there.
 pub found-good : {t : Target} (said : Said Found) → good t ≡ foundIn said → (x : Found) × (said ≡ good x) × (t ≡ foundIs x)

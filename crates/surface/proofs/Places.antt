@@ -46,6 +46,8 @@ all-cross f =
       write = λ e ws b. whole _ (answer-fits _ (fits .write e ws b));
       view = λ e steps b. whole _ (offset-fits _ (fits .view e steps b));
       set = λ e steps w b. whole _ (answer-fits _ (fits .set e steps w b));
+      extract = λ e steps b offset count. whole _ (fits .extract e steps b offset count);
+      insert = λ e steps new offset count b. whole _ (answer-fits _ (fits .insert e steps new offset count b));
       rank = λ x y. whole _ (fits .rank x y);
       common = λ es. whole _ (fits .common es);
     }

@@ -10,6 +10,7 @@ use Rattle.wgsl.specs.Said.{Said, good, refused}
 use Rattle.wgsl.specs.Place.{spanOf}
 use Rattle.wgsl.specs.Path.{Target}
 use Rattle.wgsl.specs.Call.{Layout, answerOf, offsetOf, checkOf, sizeCall, alignCall, minSizeCall, layoutCall, readCall, writeCall, viewCall, setCall, rankCall, commonCall}
+use Rattle.wgsl.specs.BitFieldCall.{extractCall, insertCall}
 use Rattle.surface.specs.declared.Crossing.{Crossing}
 
 -- 0 and the value, or the refusal's number and place
@@ -55,5 +56,7 @@ pub record AllCross (f : List ℕ) : Type 0 where
   pub write : (e : ℕ) (ws b : List ℕ) → CrossesWhole (answerOf (writeCall f e ws b))
   pub view : (e : ℕ) (steps b : List ℕ) → CrossesWhole (offsetOf (viewCall f e steps b))
   pub set : (e : ℕ) (steps : List ℕ) (w : ℕ) (b : List ℕ) → CrossesWhole (answerOf (setCall f e steps w b))
+  pub extract : (e : ℕ) (steps b : List ℕ) (offset count : ℕ) → CrossesWhole (extractCall f e steps b offset count)
+  pub insert : (e : ℕ) (steps : List ℕ) (new offset count : ℕ) (b : List ℕ) → CrossesWhole (answerOf (insertCall f e steps new offset count b))
   pub rank : (x y : ℕ) → CrossesWhole (rankCall f x y)
   pub common : (es : List ℕ) → CrossesWhole (commonCall f es)

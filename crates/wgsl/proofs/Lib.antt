@@ -34,5 +34,7 @@ pub mod Case
 pub mod BitFieldCase
 pub mod Bit
 pub mod BitField
+pub mod BitFieldCall
 pub mod Claims
+pub mod Requests
 pub mod Witness

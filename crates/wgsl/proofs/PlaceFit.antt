@@ -23,6 +23,7 @@ use Rattle.wgsl.specs.Path as path
 use Rattle.wgsl.specs.Path.{Step, index, Target, enter, walk, stepOf}
 use Rattle.wgsl.specs.Call.{checkOf, entryOf, sizeCall, alignCall, minSizeCall, layoutCall, laidEntry, storedEntry, elementsFor, readCall, writeCall, targetIn, viewCall, scalarAt, setCall, rankCall, entriesOf, commonCall}
 use Rattle.wgsl.specs.Rank.{commonOfAll}
+use Rattle.wgsl.specs.BitFieldCall.{integerAt, extractCall, insertCall}
 use Rattle.wgsl.specs.Claim.{PlaceFits, PlacesFit}
 use Rattle.wgsl.proofs.Absent.{some-not-none}
 use Rattle.wgsl.proofs.Said.{good-not-refused, then-good, then-cases, refuse-cases, orRefuse-good, orRefuse-refused, when-some, andThen-some}
@@ -216,6 +217,14 @@ fits-set f e steps w b =
     fits-then (orRefuse 14 0 (scalarAt (u .shape))) _ (fits-or _ _ _ (omega arith)) (λ s g.
     fits-check (wordPlaces s (u .offset)) (w ∷ []) _ (omega arith))))
 
+fits-integer : (f : List ℕ) (e : ℕ) (steps b : List ℕ) → PlaceFits (integerAt f e steps b)
+unfolding integerAt
+fits-integer f e steps b =
+    fits-then (storedEntry f e b) _ (fits-stored f e b) (λ t q.
+    fits-then (targetIn t steps b) _ (fits-target f e t steps b (stored-good q .entry)) (λ u h.
+    fits-then (orRefuse 14 0 (scalarAt (u .shape))) _ (fits-or _ _ _ (omega arith)) (λ s g.
+    fits-refuse _ _ _ _ (omega arith) (λ ok. fits-good _))))
+
 fits-entries : (ts : List Ty) (es : List ℕ) → PlaceFits (entriesOf ts es)
 unfolding entriesOf
 fits-entries ts [] = fits-good _
@@ -229,7 +238,7 @@ fits-asked f e answer h = fits-then (entryOf f e) answer (fits-entry f e) (λ t 
 
 -- The place of every refusal of every call has 32 bits.
 pub places-fit : (f : List ℕ) → PlacesFit f
-unfolding checkOf sizeCall alignCall minSizeCall layoutCall viewCall rankCall commonCall
+unfolding checkOf sizeCall alignCall minSizeCall layoutCall viewCall extractCall insertCall rankCall commonCall
 places-fit f =
     let zero-fits : 0 < 2 ^ 32 = omega arith in
     record {
@@ -243,6 +252,10 @@ places-fit f =
       view = λ e steps b.
           fits-then (laidEntry f e b) _ (fits-laid f e b) (λ t q. fits-target f e t steps b (laid-good q .entry));
       set = fits-set f;
+      extract = λ e steps b offset count.
+          fits-then (integerAt f e steps b) _ (fits-integer f e steps b) (λ x q. fits-good _);
+      insert = λ e steps new offset count b.
+          fits-then (integerAt f e steps b) _ (fits-integer f e steps b) (λ x q. fits-good _);
       rank = λ x y. fits-asked f x _ (λ s. fits-asked f y _ (λ t. fits-or _ _ _ zero-fits));
       common = λ es.
           fits-then (typesOf f) _ (fits-types f) (λ ts q.

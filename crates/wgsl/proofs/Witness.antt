@@ -1,10 +1,10 @@
--- Each law of Claims that has hypotheses, at a file or at numbers that meet them: antt computes that they do. A law that nothing meets
+-- Each law of Claims and Requests that has hypotheses, at a file or at numbers that meet them: antt computes that they do. A law that nothing meets
 -- would have no line here.
 --
 -- The files are those of specs/Case: a matrix (P11), a struct with a given size (P7), an open struct (P10), an array too large (P9); and
 -- two entries that break 5 and 6, and 6 and 7.
 -- Assumes nothing.
-use Prim.Native.Nat.{ℕ, _+_, _^_, _<_, _≤_}
+use Prim.Native.Nat.{ℕ, zero, suc, _+_, _^_, _<_, _≤_}
 use mathlib.Core.Bool.{true}
 use mathlib.Core.List.{List, [], _∷_, _++_, List·Memᴰ·head}
 use mathlib.Core.Logic.{inr}
@@ -22,11 +22,14 @@ use Rattle.wgsl.specs.Rule.{when, andThen, unused, scalarOfKind, scalarI
 use Rattle.wgsl.specs.Place.{tailAt, membersTail, tailOf, extentBy, extentOf, elementsBy, elementsIn, one, column, shapeOf, fieldsOf, spanOf, wordPlaces, repeated, placesOf, places, wordCount, storeWords, written, wordsRead, canHold, checkWords}
 use Rattle.wgsl.specs.Path.{stepOf, enter, walk}
 use Rattle.wgsl.specs.Call.{Done, checkOf, entryOf, laidEntry, storedEntry, isShort, readCall, elementsFor, isWrongCount, writeCall, targetIn, viewCall, scalarAt, setCall}
-use Rattle.wgsl.specs.Claim.{Lowest, Ordered, typesIn, memberStep, CanRead, CanWrite, CanView, CanSet, Wrote, Read}
+use Rattle.wgsl.specs.Claim.{Lowest, Ordered, typesIn, memberStep, CanRead, CanWrite, CanView, CanSet, CanField, Wrote, Read}
+use Rattle.wgsl.specs.BitField.{startOf, bitsOf, bitAt, fieldAt, repeatedTop, extractedU32, extractedI32, putAt, inserted, isInside, bitExtracted, bitInserted}
+use Rattle.wgsl.specs.BitFieldCall.{isInteger, isSigned, integerAt, wordOf, extractedAs, extractCall, insertCall}
 use Rattle.wgsl.specs.Demand.{Given, Leading, SetThenRead, OnePath}
 use Rattle.wgsl.specs.Case.{typeEntry, memberGiven, memberEntry, trailer, arrayOfU32, openStruct, matrixOfF32, structWithSize}
 use Rattle.wgsl.proofs.Absent.{true-not-false}
 use Rattle.wgsl.proofs.Claims as claims
+use Rattle.wgsl.proofs.Requests as requests
 
 -- ---- what is asked
 
@@ -61,6 +64,12 @@ inMatrix = 2 ∷ 1 ∷ []
 
 unfoldable pub inStruct : List ℕ
 inStruct = memberStep 1 ∷ []
+
+-- its bytes are bytes
+rubbish-byte : (n i : ℕ) → getD (replicate n 7) i 0 < 256
+rubbish-byte zero i = omega arith
+rubbish-byte (suc n) zero = omega arith
+rubbish-byte (suc n) (suc i) = rubbish-byte n i
 
 -- ---- the laws
 
@@ -100,9 +109,21 @@ pub record Witnesses : Type 0 where
   pub struct-given : Given structWithSize 1 rubbish
   pub struct-leading : Leading structWithSize 1 rubbish inStruct 20 u32
   pub struct-demand : SetThenRead struct-given inStruct 20 u32 5 nine
+  -- E2
+  pub extract-signed-bit : bitAt (extractedI32 2_048 0 12) 31 ≡ true
+  pub insert-only : 4_080 ≡ inserted 0 255 4 8
+  pub extract-whole : (extractedU32 7 0 32 ≡ 7) × (extractedI32 7 0 32 ≡ 7)
+  pub extract-none : (extractedU32 7 32 1 ≡ 0) × (extractedI32 7 32 1 ≡ 0)
+  pub insert-none : inserted 7 1 32 1 ≡ 7
+  pub can-field : CanField structWithSize 1 inStruct rubbish
+  pub insertion-is-set : insertCall structWithSize 1 inStruct 255 4 8 rubbish ≡ setCall structWithSize 1 inStruct (inserted (load 4 rubbish 20) 255 4 8) rubbish
+  pub insertion-alone : SetThenRead struct-given inStruct 20 u32 (inserted (load 4 rubbish 20) 255 4 8) nine
+  pub insertion : Done
+  pub insert-good : insertCall structWithSize 1 inStruct 255 4 8 rubbish ≡ good insertion
+  pub extraction-after-insertion : extractCall structWithSize 1 inStruct (insertion .contents) 4 8 ≡ good 255
 
 pub witnesses : Witnesses
-unfolding load bytesOf up powerBelow isPower limit withinLimit isRuntime endsInRuntime isOpen everywhere everyMember both givenOr isPresent present widthOf vec3Align vectorSize vectorAlign startAfter endAfter sizeOf alignOf membersAlign membersEnd strideOf minSizeOf offsetsOf innerNumbersOf numbersOf withinLimits fitsLimit hasLayout isStored isPlain isStorable _>>=_ _>>_ refuse orRefuse trailerLength typeEntryLength memberEntryLength trailerOf lengthBy typeEntryFrom typeEntryAt memberEntryFrom memberEntryAt sizeIsGiven alignIsGiven givenSize givenAlign restIsZero between checkTrailer when andThen unused scalarOfKind scalarIn lower membersFrom scalarMade vectorMade matrixMade arrayMade runtimeMade atomicMade structMade overMade typeMade typeOfEntry isMatrixScalar isAtomicScalar isLast countOf memberAllowed membersAllowed isAllowed atLeast givenSizeFits isMultiple givenAlignFits membersGivenFit givenFits judged typesBelow typesOf tailAt membersTail tailOf extentBy extentOf elementsBy elementsIn column shapeOf fieldsOf spanOf wordPlaces repeated placesOf places wordCount wordsRead stepOf enter walk entryOf laidEntry storedEntry isShort readCall targetIn viewCall typeEntry memberGiven memberEntry trailer arrayOfU32 openStruct matrixOfF32 structWithSize memberStart memberEnd memberStep store storeWords written canHold checkWords elementsFor isWrongCount writeCall scalarAt setCall typesIn isWellFormed checkOf fiveAndSix sixAndSeven matrixTypes nine rubbish inMatrix inStruct
+unfolding load bytesOf up powerBelow isPower limit withinLimit isRuntime endsInRuntime isOpen everywhere everyMember both givenOr isPresent present widthOf vec3Align vectorSize vectorAlign startAfter endAfter sizeOf alignOf membersAlign membersEnd strideOf minSizeOf offsetsOf innerNumbersOf numbersOf withinLimits fitsLimit hasLayout isStored isPlain isStorable _>>=_ _>>_ refuse orRefuse trailerLength typeEntryLength memberEntryLength trailerOf lengthBy typeEntryFrom typeEntryAt memberEntryFrom memberEntryAt sizeIsGiven alignIsGiven givenSize givenAlign restIsZero between checkTrailer when andThen unused scalarOfKind scalarIn lower membersFrom scalarMade vectorMade matrixMade arrayMade runtimeMade atomicMade structMade overMade typeMade typeOfEntry isMatrixScalar isAtomicScalar isLast countOf memberAllowed membersAllowed isAllowed atLeast givenSizeFits isMultiple givenAlignFits membersGivenFit givenFits judged typesBelow typesOf tailAt membersTail tailOf extentBy extentOf elementsBy elementsIn column shapeOf fieldsOf spanOf wordPlaces repeated placesOf places wordCount wordsRead stepOf enter walk entryOf laidEntry storedEntry isShort readCall targetIn viewCall typeEntry memberGiven memberEntry trailer arrayOfU32 openStruct matrixOfF32 structWithSize memberStart memberEnd memberStep store storeWords written canHold checkWords elementsFor isWrongCount writeCall scalarAt setCall typesIn isWellFormed checkOf startOf bitsOf bitAt fieldAt repeatedTop extractedU32 extractedI32 putAt inserted isInside bitExtracted bitInserted isInteger isSigned integerAt wordOf extractedAs extractCall insertCall fiveAndSix sixAndSeven matrixTypes nine rubbish inMatrix inStruct
 witnesses =
     let types : typesBelow matrixOfF32 2 ≡ good matrixTypes = refl in
     let entry : entryOf matrixOfF32 1 ≡ good (matrix 3 3 f32) = refl in
@@ -126,6 +147,7 @@ witnesses =
       within = omega arith;
     } in
     let second : Leading structWithSize 1 rubbish inStruct 20 u32 = record { leads = refl } in
+    let bytes : (i : ℕ) → getD rubbish i 0 < 256 = λ i. rubbish-byte 50 i in
     record {
       stored-is-read = claims.stored-is-read 2 (replicate 4 0) 1 258 (omega arith) (omega arith);
       store-stays-inside = claims.store-stays-inside 2 (replicate 4 7) 1 258 3 (inr (omega arith));
@@ -163,5 +185,17 @@ witnesses =
       matrix-path = claims.place-has-one-path given (record { at = 36; width = 4 }) (claims.path-has-place given leading);
       struct-given = sized;
       struct-leading = second;
+      extract-signed-bit = requests.extract-signed-bit 2_048 0 12 31 (omega arith) (omega arith);
+      insert-only = requests.insert-only 0 255 4 8 4_080 (omega arith) (omega arith) (λ j low. requests.insert-bit 0 255 4 8 j);
+      extract-whole = requests.extract-whole 7 0 32 (omega arith) refl refl;
+      extract-none = requests.extract-none 7 32 1 refl;
+      insert-none = requests.insert-none 7 1 32 1 refl;
+      can-field = requests.inserting-good-if structWithSize 1 inStruct rubbish 255 4 8 .only-if _ refl;
+      insertion-is-set = requests.insertion-is-set second refl bytes 255 4 8;
+      insertion-alone = requests.insertion-alone sized second refl bytes 255 4 8 nine (omega arith) .0;
+      insertion = _;
+      insert-good = refl;
+      extraction-after-insertion =
+          requests.extraction-after-insertion structWithSize 1 inStruct rubbish bytes 255 4 8 (record { offset = 20; scalar = u32 }) refl _ refl;
       struct-demand = claims.demand-3 sized .set-read inStruct 20 u32 second 5 (omega arith) nine (omega arith);
     }

@@ -1,22 +1,18 @@
 -- Bit fields at a path: the two calls of 02, E2.
 --
--- In order: which scalars have fields; extraction; insertion; when the calls are good.
+-- In order: which scalars have fields; extraction; insertion.
 -- "Then a call that does it at a path to one i32 or u32 of a storable entry. Refusals: as for set; 14 also for a scalar of another type."
 -- Definitions only. Assumes nothing.
 use Prim.Native.Nat.{ℕ}
 use mathlib.Core.Bool.{Bool, true, false, cond, not}
-use mathlib.Core.List.{List, [], _∷_, map}
-use mathlib.Core.Path.{_≡_}
-use lib.ListN.{length}
+use mathlib.Core.List.{List, [], _∷_}
 use Rattle.wgsl.specs.Number.{load}
-use Rattle.wgsl.specs.Types.{Scalar, bool, i32, u32, f32, f16, abstractInt, abstractFloat, Ty}
+use Rattle.wgsl.specs.Types.{Scalar, bool, i32, u32, f32, f16, abstractInt, abstractFloat}
 use Rattle.wgsl.specs.Size.{present, widthOf}
 use Rattle.wgsl.specs.Said.{Said, good, _>>=_, _>>_, refuse, orRefuse}
-use Rattle.wgsl.specs.Place.{elementsIn, one, shapeOf, wordPlaces, storeWords}
-use Rattle.wgsl.specs.Path.{stepOf}
+use Rattle.wgsl.specs.Place.{wordPlaces, storeWords}
 use Rattle.wgsl.specs.Call.{Done, storedEntry, targetIn, scalarAt}
 use Rattle.wgsl.specs.BitField.{extractedU32, extractedI32, inserted}
-use Rattle.wgsl.specs.Claim.{Leads, Stored, HasRoom}
 
 -- ---- which scalars have fields
 
@@ -76,15 +72,3 @@ unfoldable pub insertCall : List ℕ → ℕ → List ℕ → ℕ → ℕ → �
 insertCall f e path new offset count b = do
   x ← integerAt f e path b
   good (record { value = x .offset; contents = storeWords (wordPlaces (x .scalar) (x .offset)) (inserted (wordOf x b) new offset count ∷ []) b })
-
--- ---- when the calls are good
-
--- The entry is stored, the buffer has room, and the steps lead to one i32 or u32.
-pub record CanField (f : List ℕ) (e : ℕ) (steps b : List ℕ) : Type 0 where
-  pub type : Ty
-  pub stored : Stored f e b type
-  pub room : HasRoom type b
-  pub offset : ℕ
-  pub scalar-there : Scalar
-  pub valid : Leads 0 (shapeOf (elementsIn (length b) type) type) (map stepOf steps) offset (one scalar-there)
-  pub integer : isInteger scalar-there ≡ true

@@ -20,6 +20,7 @@ use Rattle.wgsl.specs.Place.{extentOf, elementsIn, Shape, one, parts, fi
 use Rattle.wgsl.specs.Path as path
 use Rattle.wgsl.specs.Path.{Step, stepOf}
 use Rattle.wgsl.specs.Call.{Done, checkOf, entryOf, sizeCall, alignCall, minSizeCall, layoutCall, readCall, writeCall, viewCall, setCall, rankCall, commonCall}
+use Rattle.wgsl.specs.BitFieldCall.{isInteger, extractCall, insertCall}
 
 -- ---- bytes
 
@@ -151,6 +152,16 @@ pub record CanSet (f : List ℕ) (e : ℕ) (steps : List ℕ) (w : ℕ) (b : Lis
   pub valid : Leads 0 (shapeOf (elementsIn (length b) type) type) (map stepOf steps) offset (one scalar-there)
   pub word-fits : w < 256 ^ present (widthOf scalar-there)
 
+-- To extract and to insert a field: the steps lead to one i32 or u32.
+pub record CanField (f : List ℕ) (e : ℕ) (steps b : List ℕ) : Type 0 where
+  pub type : Ty
+  pub stored : Stored f e b type
+  pub room : HasRoom type b
+  pub offset : ℕ
+  pub scalar-there : Scalar
+  pub valid : Leads 0 (shapeOf (elementsIn (length b) type) type) (map stepOf steps) offset (one scalar-there)
+  pub integer : isInteger scalar-there ≡ true
+
 -- ---- what a call leaves
 
 -- What a write that is not refused has done. An open type's array then has so many elements.
@@ -196,5 +207,7 @@ pub record PlacesFit (f : List ℕ) : Type 0 where
   pub write : (e : ℕ) (ws b : List ℕ) → PlaceFits (writeCall f e ws b)
   pub view : (e : ℕ) (steps b : List ℕ) → PlaceFits (viewCall f e steps b)
   pub set : (e : ℕ) (steps : List ℕ) (w : ℕ) (b : List ℕ) → PlaceFits (setCall f e steps w b)
+  pub extract : (e : ℕ) (steps b : List ℕ) (offset count : ℕ) → PlaceFits (extractCall f e steps b offset count)
+  pub insert : (e : ℕ) (steps : List ℕ) (new offset count : ℕ) (b : List ℕ) → PlaceFits (insertCall f e steps new offset count b)
   pub rank : (x y : ℕ) → PlaceFits (rankCall f x y)
   pub common : (es : List ℕ) → PlaceFits (commonCall f es)

@@ -1,4 +1,4 @@
--- What a reader must believe, in the order of document 01.
+-- What a reader must believe, in the order of document 01, then of 02; last what the laws and the demands say, and the cases.
 pub mod Number
 pub mod Round
 pub mod Types
@@ -13,7 +13,7 @@ pub mod Call
 pub mod Listing
 pub mod BitField
 pub mod BitFieldCase
+pub mod BitFieldCall
 pub mod Claim
 pub mod Demand
-pub mod BitFieldCall
 pub mod Case

@@ -1,0 +1,95 @@
+-- What is claimed of the definitions of document 02, request by request. Each proof is one citation: read the statements.
+--
+-- Here: E2, bit fields. That the places of refusals fit and what the calls have in common with those of 01 stands in Claims.
+-- Assumes nothing.
+use Prim.Native.Nat.{ℕ, _+_, _-_, _%_, _^_, _<_, _≤_}
+use mathlib.Core.Bool.{true, false, cond}
+use mathlib.Core.List.{List}
+use mathlib.Core.Path.{_≡_}
+use lib.Dec.{T}
+use lib.IntN.{pos, _-ℤ_}
+use lib.ListN.{length, getD}
+use Rattle.wgsl.specs.Number.{load}
+use Rattle.wgsl.specs.Types.{Scalar}
+use Rattle.wgsl.specs.Said.{good}
+use Rattle.wgsl.specs.Place.{wordCount}
+use Rattle.wgsl.specs.Call.{Done, setCall}
+use Rattle.wgsl.specs.BitField.{startOf, bitsOf, bitAt, extractedU32, extractedI32, repeatedTop, inserted, signedOf, bitExtracted, bitInserted}
+use Rattle.wgsl.specs.BitFieldCase.{fieldCasesPass}
+use Rattle.wgsl.specs.BitFieldCall.{isInteger, isSigned, Found, integerAt, extractCall, insertCall}
+use Rattle.wgsl.specs.Claim.{GoodIf, CanField}
+use Rattle.wgsl.specs.Demand.{Given, Leading, SetThenRead}
+use Rattle.wgsl.proofs.BitField as field
+use Rattle.wgsl.proofs.BitFieldCase.{field-cases-pass}
+use Rattle.wgsl.proofs.BitFieldCall as calls
+
+-- ---- E2: bits
+
+-- "With o = min(offset, 32) and c = min(count, 32 - o)": a field lies inside the word.
+pub field-within : (offset count : ℕ) → startOf offset + bitsOf offset count ≤ 32
+field-within = field.field-within
+
+-- "the c bits from o": bit j of the result is bit o + j of e below c, and 0 above;
+pub extract-bit : (e offset count j : ℕ) → bitAt (extractedU32 e offset count) j ≡ bitExtracted false e (startOf offset) (bitsOf offset count) j
+extract-bit = field.extract-bit
+
+-- "a signed field repeats its top bit above", which is bit o + c - 1 of e.
+pub extract-signed-bit : (e offset count j : ℕ) → 1 ≤ bitsOf offset count → j < 32 → bitAt (extractedI32 e offset count) j ≡ bitExtracted (bitAt e (startOf offset + bitsOf offset count - 1)) e (startOf offset) (bitsOf offset count) j
+extract-signed-bit = field.extract-signed-bit
+
+-- As a number a signed field is what its bits say, less 2 ^ c where the top one is set.
+pub extract-number : (e offset count : ℕ) → signedOf (extractedI32 e offset count) ≡ cond (bitAt (extractedU32 e offset count) (bitsOf offset count - 1)) (pos (extractedU32 e offset count) -ℤ pos (2 ^ bitsOf offset count)) (pos (extractedU32 e offset count))
+extract-number = field.extract-number
+
+-- "Insertion puts the new value's low c bits at those places and changes no other bit", and no other word has these bits.
+pub insert-bit : (e new offset count j : ℕ) → bitAt (inserted e new offset count) j ≡ bitInserted e new (startOf offset) (bitsOf offset count) j
+insert-bit = field.insert-bit
+
+pub insert-only : (e new offset count r : ℕ) → e < 2 ^ 32 → r < 2 ^ 32 → ((j : ℕ) → j < 32 → bitAt r j ≡ bitInserted e new (startOf offset) (bitsOf offset count) j) → r ≡ inserted e new offset count
+insert-only = field.insert-only
+
+-- Two words with the same bits are the same: what is said of every bit leaves no choice.
+pub word-unique : (a b : ℕ) → a < 2 ^ 32 → b < 2 ^ 32 → ((j : ℕ) → j < 32 → bitAt a j ≡ bitAt b j) → a ≡ b
+word-unique = field.word-unique
+
+-- "Extracting a freshly inserted field gives it back, cut to c bits, and for i32 with the top one of them repeated above."
+pub extract-inserted : (e new offset count : ℕ) → extractedU32 (inserted e new offset count) offset count ≡ new % 2 ^ bitsOf offset count
+extract-inserted = field.extract-inserted
+
+pub extract-inserted-signed : (e new offset count : ℕ) → extractedI32 (inserted e new offset count) offset count ≡ repeatedTop (bitsOf offset count) (new % 2 ^ bitsOf offset count)
+extract-inserted-signed = field.extract-inserted-signed
+
+-- All 32 bits are the word itself; no bit at all is 0, and inserts nothing.
+pub extract-whole : (e offset count : ℕ) → e < 2 ^ 32 → startOf offset ≡ 0 → bitsOf offset count ≡ 32 → (extractedU32 e offset count ≡ e) × (extractedI32 e offset count ≡ e)
+extract-whole = field.extract-whole
+
+pub extract-none : (e offset count : ℕ) → bitsOf offset count ≡ 0 → (extractedU32 e offset count ≡ 0) × (extractedI32 e offset count ≡ 0)
+extract-none = field.extract-none
+
+pub insert-none : (e new offset count : ℕ) → bitsOf offset count ≡ 0 → inserted e new offset count ≡ e
+insert-none = field.insert-none
+
+-- The request's own numbers, and those on each side of an edge.
+pub field-cases : T fieldCasesPass
+field-cases = field-cases-pass
+
+-- ---- E2: at a path
+
+-- Both calls are good exactly if the entry is stored, the buffer has room and the steps lead to one i32 or u32.
+pub extracting-good-if : (f : List ℕ) (e : ℕ) (steps b : List ℕ) (offset count : ℕ) → GoodIf (extractCall f e steps b offset count) (CanField f e steps b)
+extracting-good-if = calls.extract-good-if
+
+pub inserting-good-if : (f : List ℕ) (e : ℕ) (steps b : List ℕ) (new offset count : ℕ) → GoodIf (insertCall f e steps new offset count b) (CanField f e steps b)
+inserting-good-if = calls.insert-good-if
+
+-- An insertion at a path is a set with the word that has the field in it,
+pub insertion-is-set : {f : List ℕ} {e : ℕ} {b path : List ℕ} {a : ℕ} {s : Scalar} → Leading f e b path a s → isInteger s ≡ true → ((i : ℕ) → getD b i 0 < 256) → (new offset count : ℕ) → insertCall f e path new offset count b ≡ setCall f e path (inserted (load 4 b a) new offset count) b
+insertion-is-set = calls.insertion-is-set
+
+-- so demand 3 holds of it: the bytes outside its scalar stay, and of all words that are read that one changes.
+pub insertion-alone : {f : List ℕ} {e : ℕ} {b path : List ℕ} {a : ℕ} {s : Scalar} (g : Given f e b) → Leading f e b path a s → isInteger s ≡ true → ((i : ℕ) → getD b i 0 < 256) → (new offset count : ℕ) (ws : List ℕ) → wordCount 0 (g .type) ≤ length ws → (x : SetThenRead g path a s (inserted (load 4 b a) new offset count) ws) × (insertCall f e path new offset count b ≡ good (record { value = a; contents = x .b′ }))
+insertion-alone = calls.insertion-alone
+
+-- What is extracted after an insertion is the field that was inserted.
+pub extraction-after-insertion : (f : List ℕ) (e : ℕ) (path b : List ℕ) → ((i : ℕ) → getD b i 0 < 256) → (new offset count : ℕ) (x : Found) → integerAt f e path b ≡ good x → (d : Done) → insertCall f e path new offset count b ≡ good d → extractCall f e path (d .contents) offset count ≡ good (cond (isSigned (x .scalar)) (repeatedTop (bitsOf offset count) (new % 2 ^ bitsOf offset count)) (new % 2 ^ bitsOf offset count))
+extraction-after-insertion = calls.extraction-after-insertion
