@@ -1,9 +1,9 @@
 /* Lepugaso: lays out, fills and reads the buffers that WGSL shaders share with a host.
  *
- * A layout file describes types as numbered entries; every call takes one, as bytes, and asks something of it. Nothing is kept between
- * calls, nothing is allocated, and any bytes and any numbers may be passed: what cannot be answered is refused with a number. Threads may
- * call at the same time. No call takes more than LEPUGASO_STACK bytes of stack: 130 KiB to write or read types that nest 256 deep, 63 KiB to
- * view or set along such a path, 33 KiB to ask anything else.
+ * A layout file describes types as numbered entries; every call takes one, as bytes, and asks something of it, but for the four on bit
+ * fields of a number. Nothing is kept between calls, nothing is allocated, and any bytes and any numbers may be passed: what cannot be
+ * answered is refused with a number. Threads may call at the same time. No call takes more than LEPUGASO_STACK bytes of stack: 130 KiB to
+ * write or read types that nest 256 deep, 63 KiB to view, set or use bit fields along such a path, 33 KiB to ask anything else.
  *
  * For x86-64 Linux. Link liblepugaso.a, which needs nothing but memcpy, memmove and memset, or liblepugaso.so.
  *
@@ -70,13 +70,14 @@ typedef struct lepugaso_layout {
  * end of the address space; a region to be written that shares a byte with another. Nothing is touched, place and value are 0. */
 #define LEPUGASO_BAD_POINTER 65535u
 
-/* The file is refused as a whole. Every call gives these, in this order. */
+/* The file is refused as a whole. Every call that takes one gives these, in this order. */
 #define LEPUGASO_REFUSED_SHORT_FILE 1u /* fewer than 10 bytes */
 #define LEPUGASO_REFUSED_FORM 2u       /* the form is not 1 */
 #define LEPUGASO_REFUSED_COUNTS 3u     /* not 1 to 256 types, or more than 1,024 members */
 #define LEPUGASO_REFUSED_LENGTH 4u     /* the length is not what the trailer says */
 
-/* An entry of the file is bad: place is the lowest such entry, the number the first of these that holds of it. Every call gives these. */
+/* An entry of the file is bad: place is the lowest such entry, the number the first of these that holds of it. Every call that takes a
+ * file gives these. */
 #define LEPUGASO_REFUSED_RULE 5u      /* a rule for entries or their members is broken, but the two under 6 */
 #define LEPUGASO_REFUSED_GIVEN 6u     /* a member's given size or align does not suit its type */
 #define LEPUGASO_REFUSED_TOO_LARGE 7u /* a size, offset or other number is above 4,294,967,295 */
@@ -89,7 +90,7 @@ typedef struct lepugaso_layout {
 #define LEPUGASO_REFUSED_MEMBER_STEP 11u  /* a member step outside a struct, or no such member; place is the step */
 #define LEPUGASO_REFUSED_INDEX 12u        /* an index not below the count; place is the step */
 #define LEPUGASO_REFUSED_INDEX_STEP 13u   /* an index step on a struct, scalar or atomic; place is the step */
-#define LEPUGASO_REFUSED_WORDS 14u        /* the wrong number of words, or too few to read into, or one for what is no single scalar */
+#define LEPUGASO_REFUSED_WORDS 14u        /* the wrong number of words, too few to read into, no single scalar, or for bits no i32 or u32 */
 #define LEPUGASO_REFUSED_SHORT_BUFFER 15u /* the buffer is below the size, or holds no whole element of a runtime array */
 #define LEPUGASO_REFUSED_F16_WORD 16u     /* a word above 65,535 for an f16; place is the word */
 #define LEPUGASO_REFUSED_LONG_BUFFER 17u  /* the buffer is above 4,294,967,295 bytes */
@@ -153,6 +154,31 @@ lepugaso_answer lepugaso_view(const uint8_t *file, size_t file_len, uint32_t ent
  * scalar), 16 (the word is above 65,535 for an f16; place is 0), and leaves `buf` as it was. */
 lepugaso_answer lepugaso_set(const uint8_t *file, size_t file_len, uint32_t entry, const uint32_t *path, size_t path_len, uint32_t word,
                              uint8_t *buf, size_t buf_len);
+
+/* Bit fields of a number, which no file and no pointer goes with: WGSL's extractBits and insertBits, their arguments in WGSL's order. Any
+ * numbers may be passed and nothing is refused. The field is the `count` bits from bit `offset` on, bit 0 the lowest, as far as there are
+ * such bits: with o = min(offset, 32) and c = min(count, 32 - o), it is the c bits from bit o on.
+ *
+ * The field as a number, 0 where c is 0. Of an i32 its top bit is repeated above it: 12 bits of 4,095 are -1, of 2,048 they are -2,048, of
+ * 2,047 they are 2,047. Of a u32 there is 0 above it. */
+int32_t lepugaso_extract_bits_i32(int32_t e, uint32_t offset, uint32_t count);
+uint32_t lepugaso_extract_bits_u32(uint32_t e, uint32_t offset, uint32_t count);
+
+/* `e` with the low c bits of `newbits` as the field; no other bit of `e` changes, and higher bits of `newbits` are not looked at. */
+int32_t lepugaso_insert_bits_i32(int32_t e, int32_t newbits, uint32_t offset, uint32_t count);
+uint32_t lepugaso_insert_bits_u32(uint32_t e, uint32_t newbits, uint32_t offset, uint32_t count);
+
+/* The field of the one i32 or u32, or atomic of one, that `path` leads to from entry `entry` at the front of `buf`. Whether it is signed is
+ * said by that type, not by the caller. The value is the field in 32 bits, of an i32 its two's complement: -1 is 4,294,967,295, and
+ * `(int32_t)(uint32_t)value` is the number.
+ * Refuses 1 to 7, then 8, 17, 9, 10, 15, 11 to 13 as setting does, 14 (the path leads to no single scalar, or to an f32 or f16). */
+lepugaso_answer lepugaso_extract_bits(const uint8_t *file, size_t file_len, uint32_t entry, const uint32_t *path, size_t path_len,
+                                      const uint8_t *buf, size_t buf_len, uint32_t offset, uint32_t count);
+
+/* Puts the low c bits of `newbits` there as the field. The value is the offset of the scalar. Every other bit of it and every other byte of
+ * `buf` stay. Refuses as extracting does, and leaves `buf` as it was. */
+lepugaso_answer lepugaso_insert_bits(const uint8_t *file, size_t file_len, uint32_t entry, const uint32_t *path, size_t path_len,
+                                     uint32_t newbits, uint32_t offset, uint32_t count, uint8_t *buf, size_t buf_len);
 
 #ifdef __cplusplus
 }

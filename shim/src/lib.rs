@@ -299,3 +299,112 @@ pub unsafe extern "C" fn lepugaso_set(
         _ => BAD_POINTER,
     }
 }
+
+/// WGSL's `extractBits` of an `i32`.
+#[no_mangle]
+pub extern "C" fn lepugaso_extract_bits_i32(e: i32, offset: u32, count: u32) -> i32 {
+    // SAFETY: of this and the next three: nothing is lent, and any numbers may be passed.
+    unsafe { lepugaso_surface_extract_bits_i32(e, offset, count) }
+}
+
+/// WGSL's `extractBits` of a `u32`.
+#[no_mangle]
+pub extern "C" fn lepugaso_extract_bits_u32(e: u32, offset: u32, count: u32) -> u32 {
+    // SAFETY: as above.
+    unsafe { lepugaso_surface_extract_bits_u32(e, offset, count) }
+}
+
+/// WGSL's `insertBits` of an `i32`.
+#[no_mangle]
+pub extern "C" fn lepugaso_insert_bits_i32(e: i32, newbits: i32, offset: u32, count: u32) -> i32 {
+    // SAFETY: as above.
+    unsafe { lepugaso_surface_insert_bits_i32(e, newbits, offset, count) }
+}
+
+/// WGSL's `insertBits` of a `u32`.
+#[no_mangle]
+pub extern "C" fn lepugaso_insert_bits_u32(e: u32, newbits: u32, offset: u32, count: u32) -> u32 {
+    // SAFETY: as above.
+    unsafe { lepugaso_surface_insert_bits_u32(e, newbits, offset, count) }
+}
+
+/// A bit field of the one `i32` or `u32` that a path leads to from an entry's type at the front of `buf`.
+///
+/// # Safety
+/// As `lepugaso_check`.
+#[no_mangle]
+pub unsafe extern "C" fn lepugaso_extract_bits(
+    file: *const u8,
+    file_len: usize,
+    entry: u32,
+    path: *const u32,
+    path_len: usize,
+    buf: *const u8,
+    buf_len: usize,
+    offset: u32,
+    count: u32,
+) -> Crossing {
+    match (
+        Lent::new(file, file_len),
+        Lent::new(path, path_len),
+        Lent::new(buf, buf_len),
+    ) {
+        // SAFETY: the caller lends all three, and their pointers have passed the tests of a slice's. They are only read, so they may
+        // overlap.
+        (Some(file), Some(path), Some(buf)) => unsafe {
+            lepugaso_surface_extract_bits(
+                file.start(),
+                file.count(),
+                entry,
+                path.start(),
+                path.count(),
+                buf.start(),
+                buf.count(),
+                offset,
+                count,
+            )
+        },
+        _ => BAD_POINTER,
+    }
+}
+
+/// New bits into a bit field of the one `i32` or `u32` that a path leads to from an entry's type at the front of `buf`.
+///
+/// # Safety
+/// As `lepugaso_check`.
+#[no_mangle]
+pub unsafe extern "C" fn lepugaso_insert_bits(
+    file: *const u8,
+    file_len: usize,
+    entry: u32,
+    path: *const u32,
+    path_len: usize,
+    newbits: u32,
+    offset: u32,
+    count: u32,
+    buf: *mut u8,
+    buf_len: usize,
+) -> Crossing {
+    match (
+        Lent::new(file, file_len),
+        Lent::new(path, path_len),
+        Lent::new(buf, buf_len),
+    ) {
+        // SAFETY: as for setting.
+        (Some(file), Some(path), Some(buf)) if buf.is_apart_from(&file) && buf.is_apart_from(&path) => unsafe {
+            lepugaso_surface_insert_bits(
+                file.start(),
+                file.count(),
+                entry,
+                path.start(),
+                path.count(),
+                newbits,
+                offset,
+                count,
+                buf.start(),
+                buf.count(),
+            )
+        },
+        _ => BAD_POINTER,
+    }
+}

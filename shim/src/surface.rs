@@ -60,4 +60,31 @@ extern "C" {
         buf: *mut u8,
         buf_len: usize,
     ) -> Crossing;
+    pub fn lepugaso_surface_extract_bits_i32(e: i32, offset: u32, count: u32) -> i32;
+    pub fn lepugaso_surface_extract_bits_u32(e: u32, offset: u32, count: u32) -> u32;
+    pub fn lepugaso_surface_insert_bits_i32(e: i32, newbits: i32, offset: u32, count: u32) -> i32;
+    pub fn lepugaso_surface_insert_bits_u32(e: u32, newbits: u32, offset: u32, count: u32) -> u32;
+    pub fn lepugaso_surface_extract_bits(
+        file: *const u8,
+        file_len: usize,
+        entry: u32,
+        path: *const u32,
+        path_len: usize,
+        buf: *const u8,
+        buf_len: usize,
+        offset: u32,
+        count: u32,
+    ) -> Crossing;
+    pub fn lepugaso_surface_insert_bits(
+        file: *const u8,
+        file_len: usize,
+        entry: u32,
+        path: *const u32,
+        path_len: usize,
+        newbits: u32,
+        offset: u32,
+        count: u32,
+        buf: *mut u8,
+        buf_len: usize,
+    ) -> Crossing;
 }

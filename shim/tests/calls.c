@@ -1,5 +1,5 @@
-/* Every call on a good file, and every refusal of document 01 that it can give. What is lent stands at the end of a page after which
- * nothing can be touched, and what is lent to be read cannot be written. */
+/* Every call on a good file, and every refusal of document 01 that it can give; bit fields are in fields.c. What is lent stands at the end
+ * of a page after which nothing can be touched, and what is lent to be read cannot be written. */
 #include "pages.h"
 #include "test.h"
 
@@ -63,6 +63,8 @@ static void refused_files(void) {
         EXPECT(lepugaso_view(file, length, 0, NULL, 0, bytes, sizeof bytes, &part, &part_len), refusal, place, 0);
         HOLDS(part == bytes && part_len == 0);
         EXPECT(lepugaso_set(file, length, 0, NULL, 0, 1, buf, sizeof buf), refusal, place, 0);
+        EXPECT(lepugaso_extract_bits(file, length, 0, NULL, 0, bytes, sizeof bytes, 0, 12), refusal, place, 0);
+        EXPECT(lepugaso_insert_bits(file, length, 0, NULL, 0, 1, 0, 12, buf, sizeof buf), refusal, place, 0);
         HOLDS(buf[0] == 6 && buf[1] == 7 && buf[2] == 8 && buf[3] == 9);
     }
 }

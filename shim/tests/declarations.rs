@@ -44,15 +44,22 @@ fn named_in_c(declaration: &str) -> Named {
         (2, Some(ty)) => ("*mut *const ", ty),
         _ => ("", ty),
     };
-    let ty = match ty {
+    let ty = format!("{}{}", pointer, type_in_rust(ty));
+    (name.trim_start_matches('*').to_string(), ty)
+}
+
+/// A type of C that is no pointer, in Rust's words.
+fn type_in_rust(ty: &str) -> &str {
+    match ty {
         "uint8_t" => "u8",
         "uint32_t" => "u32",
+        "int32_t" => "i32",
         "uint64_t" => "u64",
         "size_t" => "usize",
         "lepugaso_layout" => "Layout",
+        "lepugaso_answer" => "Crossing",
         other => panic!("a type of C that nothing here knows: {}", other),
-    };
-    (name.trim_start_matches('*').to_string(), format!("{}{}", pointer, ty))
+    }
 }
 
 /// A parameter of Rattle as it crosses: a slice as a pointer and a count, an array or a number lent as a pointer, a number as it is.
@@ -84,12 +91,16 @@ fn functions(text: &str, start: &str) -> Vec<Signature> {
     found.collect()
 }
 
-/// The functions of the header.
+/// The functions of the header: where a line begins with a type, a space and a name of the library's before its first bracket.
 fn functions_in_c(text: &str) -> Vec<Signature> {
-    let found = text.split("\nlepugaso_answer ").skip(1).map(|function| {
-        let name = function.split_once('(').unwrap().0;
-        let parameters = parts(between(function, "(", ")"), ',').map(named_in_c);
-        (name.to_string(), parameters.collect(), "Crossing".to_string())
+    let lines = text.match_indices('\n').map(|(at, _)| &text[at + 1..]);
+    let found = lines.filter_map(|from| {
+        let (answer, name) = from.split_once('(')?.0.split_once(' ')?;
+        if !name.starts_with("lepugaso_") || name.contains(char::is_whitespace) {
+            return None;
+        }
+        let parameters = parts(between(from, "(", ")"), ',').map(named_in_c);
+        Some((name.to_string(), parameters.collect(), type_in_rust(answer).to_string()))
     });
     found.collect()
 }
@@ -108,7 +119,7 @@ fn fields_in_c(text: &str, structure: &str) -> Vec<Named> {
 
 #[test]
 fn exports_are_declared_as_they_are() {
-    let exports = functions(RATTLE, "pub extern \"C\" fn ").into_iter();
+    let exports = functions(RATTLE, "extern \"C\" fn ").into_iter();
     let crossed =
         exports.map(|(name, parameters, answer)| (name, parameters.into_iter().flat_map(crossing).collect(), answer));
     assert_eq!(crossed.collect::<Vec<Signature>>(), functions(SURFACE, "pub fn "));
@@ -117,7 +128,7 @@ fn exports_are_declared_as_they_are() {
 
 #[test]
 fn calls_are_in_the_header_as_they_are() {
-    assert_eq!(functions(SHIM, "pub unsafe extern \"C\" fn "), functions_in_c(HEADER));
+    assert_eq!(functions(SHIM, "extern \"C\" fn "), functions_in_c(HEADER));
     assert_eq!(fields(SURFACE, "Crossing"), fields_in_c(HEADER, "lepugaso_answer"));
     assert_eq!(fields(SHIM, "Layout"), fields_in_c(HEADER, "lepugaso_layout"));
 }
@@ -129,7 +140,7 @@ fn there_are_as_many_calls_as_exports() {
         RATTLE.matches("#[no_mangle]").count()
     );
     assert_eq!(
-        functions(SHIM, "pub unsafe extern \"C\" fn ").len(),
+        functions(SHIM, "extern \"C\" fn ").len(),
         RATTLE.matches("#[no_mangle]").count()
     );
     assert!(RATTLE.contains("#[no_mangle]"));

@@ -1,5 +1,6 @@
-/* Large numbers in every argument of every call: were one cut, to fewer bits or to some limit, an answer here would be another
- * (tools/wrong-shims). One file has as many types and members as there can be, and its last type more than 65,536 words. */
+/* Large numbers in every argument of every call that takes a file: were one cut, to fewer bits or to some limit, an answer here would be
+ * another (tools/wrong-shims). The numbers that say which bits of a word are in fields.c. One file has as many types and members as there
+ * can be, and its last type more than 65,536 words. */
 #include "pages.h"
 #include "test.h"
 
@@ -122,6 +123,11 @@ static void many_steps(const uint8_t *file, size_t length) {
     EXPECT(lepugaso_view(file, length, LAST, too_many, STEPS + 1, buf, SIZE, &part, &part_len), LEPUGASO_REFUSED_INDEX_STEP, STEPS, 0);
     HOLDS(part == buf && part_len == 0);
     EXPECT(lepugaso_set(file, length, LAST, too_many, STEPS + 1, 7, buf, SIZE), LEPUGASO_REFUSED_INDEX_STEP, STEPS, 0);
+    /* Where there are so many steps there is an f32 at the end of them, so no field. */
+    EXPECT(lepugaso_extract_bits(file, length, LAST, steps, STEPS, buf, SIZE, 0, 12), LEPUGASO_REFUSED_WORDS, 0, 0);
+    EXPECT(lepugaso_insert_bits(file, length, LAST, steps, STEPS, 7, 0, 12, buf, SIZE), LEPUGASO_REFUSED_WORDS, 0, 0);
+    EXPECT(lepugaso_extract_bits(file, length, LAST, too_many, STEPS + 1, buf, SIZE, 0, 12), LEPUGASO_REFUSED_INDEX_STEP, STEPS, 0);
+    EXPECT(lepugaso_insert_bits(file, length, LAST, too_many, STEPS + 1, 7, 0, 12, buf, SIZE), LEPUGASO_REFUSED_INDEX_STEP, STEPS, 0);
     HOLDS(memcmp(buf, rows, SIZE) == 0);
     EXPECT(lepugaso_set(file, length, LAST, steps, STEPS, 0x89ABCDEF, buf, SIZE), 0, 0, SIZE - 4);
     HOLDS(memcmp(buf, rows, SIZE - 4) == 0 && memcmp(buf + SIZE - 4, (const uint8_t[]){0xEF, 0xCD, 0xAB, 0x89}, 4) == 0);
@@ -153,6 +159,8 @@ static void no_entries(const uint8_t *file, size_t length) {
             NO_ENTRY(lepugaso_read(file, length, entry, buf, 4, word, 1));
             NO_ENTRY(lepugaso_view(file, length, entry, NULL, 0, buf, 4, &part, &part_len));
             NO_ENTRY(lepugaso_set(file, length, entry, NULL, 0, 7, buf, 4));
+            NO_ENTRY(lepugaso_extract_bits(file, length, entry, NULL, 0, buf, 4, 0, 12));
+            NO_ENTRY(lepugaso_insert_bits(file, length, entry, NULL, 0, 7, 0, 12, buf, 4));
 #undef NO_ENTRY
             HOLDS(part == buf && part_len == 0);
         }
@@ -163,7 +171,7 @@ static void no_entries(const uint8_t *file, size_t length) {
 
 static const uint8_t few[] = {
     ABSTRACT_INT,    /* 0 */
-    F32,             /* 1 */
+    I32,             /* 1 */
     ARRAY(1, 70000), /* 2 */
     TRAILER(3, 0),
 };
@@ -194,17 +202,24 @@ static void large_steps(const uint8_t *file, const uint8_t *large) {
         *step = 3 + (UINT32_C(1) << bit);
         EXPECT(lepugaso_view(file, sizeof few, 2, step, 1, buf, SIZE, &part, &part_len), LEPUGASO_REFUSED_INDEX, 0, 0);
         EXPECT(lepugaso_set(file, sizeof few, 2, step, 1, 7, buf, SIZE), LEPUGASO_REFUSED_INDEX, 0, 0);
+        EXPECT(lepugaso_extract_bits(file, sizeof few, 2, step, 1, buf, SIZE, 0, 12), LEPUGASO_REFUSED_INDEX, 0, 0);
+        EXPECT(lepugaso_insert_bits(file, sizeof few, 2, step, 1, 7, 0, 12, buf, SIZE), LEPUGASO_REFUSED_INDEX, 0, 0);
     }
     for (uint32_t bit = 10; bit < 31; bit++) {
         *step = M(3 + (UINT32_C(1) << bit));
         EXPECT(lepugaso_view(large, LENGTH, LAST, step, 1, buf, SIZE, &part, &part_len), LEPUGASO_REFUSED_MEMBER_STEP, 0, 0);
         EXPECT(lepugaso_set(large, LENGTH, LAST, step, 1, 7, buf, SIZE), LEPUGASO_REFUSED_MEMBER_STEP, 0, 0);
+        EXPECT(lepugaso_extract_bits(large, LENGTH, LAST, step, 1, buf, SIZE, 0, 12), LEPUGASO_REFUSED_MEMBER_STEP, 0, 0);
+        EXPECT(lepugaso_insert_bits(large, LENGTH, LAST, step, 1, 7, 0, 12, buf, SIZE), LEPUGASO_REFUSED_MEMBER_STEP, 0, 0);
     }
     *step = 65536 + 3;
     EXPECT(lepugaso_view(file, sizeof few, 2, step, 1, buf, SIZE, &part, &part_len), 0, 0, 4 * (65536 + 3));
     HOLDS(part == buf + 4 * (65536 + 3) && part_len == 4);
     EXPECT(lepugaso_set(file, sizeof few, 2, step, 1, 7, buf, SIZE), 0, 0, 4 * (65536 + 3));
     HOLDS(buf[4 * 3] == 0 && buf[4 * (65536 + 3)] == 7);
+    EXPECT(lepugaso_insert_bits(file, sizeof few, 2, step, 1, 4095, 8, 12, buf, SIZE), 0, 0, 4 * (65536 + 3));
+    HOLDS(buf[4 * 3 + 1] == 0 && buf[4 * (65536 + 3)] == 7 && buf[4 * (65536 + 3) + 1] == 255);
+    EXPECT(lepugaso_extract_bits(file, sizeof few, 2, step, 1, buf, SIZE, 8, 12), 0, 0, UINT32_MAX);
 }
 
 /* Lengths of which the low bits alone, up to the 32nd, would give another answer. */
@@ -221,12 +236,16 @@ static void long_lengths(const uint8_t *file, const uint8_t *large) {
         EXPECT(lepugaso_view(file, sizeof few, 1, NULL, 0, bytes, length, &part, &part_len), 0, 0, 0);
         HOLDS(part == bytes && part_len == 4);
         EXPECT(lepugaso_set(file, sizeof few, 1, NULL, 0, 7, bytes, length), 0, 0, 0);
+        EXPECT(lepugaso_insert_bits(file, sizeof few, 1, NULL, 0, 5, 2, 3, bytes, length), 0, 0, 0);
+        EXPECT(lepugaso_extract_bits(file, sizeof few, 1, NULL, 0, bytes, length, 0, 8), 0, 0, 0x17);
     }
     size_t length = ((size_t)1 << 32) + 4;
     EXPECT(lepugaso_write(file, sizeof few, 1, &word, 1, bytes, length), LEPUGASO_REFUSED_LONG_BUFFER, 0, 0);
     EXPECT(lepugaso_read(file, sizeof few, 1, bytes, length, &word, 1), LEPUGASO_REFUSED_LONG_BUFFER, 0, 0);
     EXPECT(lepugaso_view(file, sizeof few, 1, NULL, 0, bytes, length, &part, &part_len), LEPUGASO_REFUSED_LONG_BUFFER, 0, 0);
     EXPECT(lepugaso_set(file, sizeof few, 1, NULL, 0, 7, bytes, length), LEPUGASO_REFUSED_LONG_BUFFER, 0, 0);
+    EXPECT(lepugaso_insert_bits(file, sizeof few, 1, NULL, 0, 5, 2, 3, bytes, length), LEPUGASO_REFUSED_LONG_BUFFER, 0, 0);
+    EXPECT(lepugaso_extract_bits(file, sizeof few, 1, NULL, 0, bytes, length, 0, 8), LEPUGASO_REFUSED_LONG_BUFFER, 0, 0);
 
     memcpy(buf, "abcd", 4);
     for (uint32_t bit = 0; bit <= 32; bit++) {
@@ -241,6 +260,8 @@ static void long_lengths(const uint8_t *file, const uint8_t *large) {
         size_t count = STEPS + ((size_t)1 << bit);
         EXPECT(lepugaso_view(large, LENGTH, LAST, many, count, buf, SIZE, &part, &part_len), LEPUGASO_REFUSED_INDEX_STEP, STEPS, 0);
         EXPECT(lepugaso_set(large, LENGTH, LAST, many, count, 7, buf, SIZE), LEPUGASO_REFUSED_INDEX_STEP, STEPS, 0);
+        EXPECT(lepugaso_extract_bits(large, LENGTH, LAST, many, count, buf, SIZE, 0, 12), LEPUGASO_REFUSED_INDEX_STEP, STEPS, 0);
+        EXPECT(lepugaso_insert_bits(large, LENGTH, LAST, many, count, 7, 0, 12, buf, SIZE), LEPUGASO_REFUSED_INDEX_STEP, STEPS, 0);
     }
 }
 

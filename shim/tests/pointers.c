@@ -29,6 +29,8 @@ static void bad_file(const uint8_t *at, size_t length) {
     REFUSED(lepugaso_view(at, length, 0, NULL, 0, bytes, sizeof bytes, &part, &part_len));
     HOLDS(part == NULL && part_len == 5);
     REFUSED(lepugaso_set(at, length, 0, NULL, 0, 1, buf, sizeof buf));
+    REFUSED(lepugaso_extract_bits(at, length, 0, NULL, 0, bytes, sizeof bytes, 0, 12));
+    REFUSED(lepugaso_insert_bits(at, length, 0, NULL, 0, 1, 0, 12, buf, sizeof buf));
     HOLDS(buf[0] == 6 && buf[1] == 7 && buf[2] == 8 && buf[3] == 9);
 }
 
@@ -56,6 +58,8 @@ static void files(void) {
     EXPECT(lepugaso_read(NULL, 0, 0, buf, sizeof buf, &word, 1), LEPUGASO_REFUSED_SHORT_FILE, 0, 0);
     EXPECT(lepugaso_view(NULL, 0, 0, NULL, 0, buf, sizeof buf, &part, &part_len), LEPUGASO_REFUSED_SHORT_FILE, 0, 0);
     EXPECT(lepugaso_set(NULL, 0, 0, NULL, 0, 1, buf, sizeof buf), LEPUGASO_REFUSED_SHORT_FILE, 0, 0);
+    EXPECT(lepugaso_extract_bits(NULL, 0, 0, NULL, 0, buf, sizeof buf, 0, 12), LEPUGASO_REFUSED_SHORT_FILE, 0, 0);
+    EXPECT(lepugaso_insert_bits(NULL, 0, 0, NULL, 0, 1, 0, 12, buf, sizeof buf), LEPUGASO_REFUSED_SHORT_FILE, 0, 0);
     EXPECT(lepugaso_check(last, 0), LEPUGASO_REFUSED_SHORT_FILE, 0, 0);
 }
 
@@ -129,6 +133,10 @@ static void bad_words(uint32_t *at, size_t count) {
     HOLDS(part == NULL && part_len == 5);
     REFUSED(lepugaso_set(file, sizeof file, 0, at, count, 1, buf, sizeof buf));
     REFUSED(lepugaso_set(NULL, 0, 9, at, count, 1, NULL, 0));
+    REFUSED(lepugaso_extract_bits(file, sizeof file, 0, at, count, buf, sizeof buf, 0, 12));
+    REFUSED(lepugaso_extract_bits(NULL, 0, 9, at, count, NULL, 0, 0, 12));
+    REFUSED(lepugaso_insert_bits(file, sizeof file, 0, at, count, 1, 0, 12, buf, sizeof buf));
+    REFUSED(lepugaso_insert_bits(NULL, 0, 9, at, count, 1, 0, 12, NULL, 0));
     HOLDS(buf[0] == 6 && buf[1] == 7 && buf[2] == 8 && buf[3] == 9);
 }
 
@@ -147,6 +155,10 @@ static void bad_buffer(uint8_t *at, size_t length) {
     HOLDS(part == NULL && part_len == 5);
     REFUSED(lepugaso_set(file, sizeof file, 0, NULL, 0, 1, at, length));
     REFUSED(lepugaso_set(NULL, 0, 9, NULL, 0, 1, at, length));
+    REFUSED(lepugaso_extract_bits(file, sizeof file, 0, NULL, 0, at, length, 0, 12));
+    REFUSED(lepugaso_extract_bits(NULL, 0, 9, NULL, 0, at, length, 0, 12));
+    REFUSED(lepugaso_insert_bits(file, sizeof file, 0, NULL, 0, 1, 0, 12, at, length));
+    REFUSED(lepugaso_insert_bits(NULL, 0, 9, NULL, 0, 1, 0, 12, at, length));
 }
 
 /* Where a view's part goes: both places are tested, and neither is touched if one of them cannot be. */
@@ -213,18 +225,27 @@ static void words_and_buffers(void) {
     EXPECT(lepugaso_read(file, sizeof file, 0, NULL, 0, words, 1), LEPUGASO_REFUSED_SHORT_BUFFER, 0, 0);
     EXPECT(lepugaso_read(file, sizeof file, 0, buf, sizeof buf, NULL, 0), LEPUGASO_REFUSED_WORDS, 0, 0);
     EXPECT(lepugaso_read(file, sizeof file, 0, buf, sizeof buf, (uint32_t *)(UINTPTR_MAX - 3), 0), LEPUGASO_REFUSED_WORDS, 0, 0);
+    EXPECT(lepugaso_extract_bits(file, sizeof file, 0, NULL, 0, NULL, 0, 0, 12), LEPUGASO_REFUSED_SHORT_BUFFER, 0, 0);
+    EXPECT(lepugaso_insert_bits(file, sizeof file, 0, NULL, 0, 1, 0, 12, NULL, 0), LEPUGASO_REFUSED_SHORT_BUFFER, 0, 0);
+    EXPECT(lepugaso_extract_bits(file, sizeof file, 0, words, 0, (uint8_t *)UINTPTR_MAX, 0, 0, 12), LEPUGASO_REFUSED_SHORT_BUFFER, 0, 0);
+    EXPECT(lepugaso_insert_bits(file, sizeof file, 0, words, 0, 1, 0, 12, (uint8_t *)UINTPTR_MAX, 0), LEPUGASO_REFUSED_SHORT_BUFFER, 0, 0);
 
     /* A region that is empty shares no byte with the one that it lies in. */
     EXPECT(lepugaso_write(file, sizeof file, 0, words, 1, (uint8_t *)words + 2, 0), LEPUGASO_REFUSED_SHORT_BUFFER, 0, 0);
     EXPECT(lepugaso_write(file, sizeof file, 0, &words[1], 0, (uint8_t *)words, sizeof words), LEPUGASO_REFUSED_WORDS, 0, 0);
     EXPECT(lepugaso_read(file, sizeof file, 0, (uint8_t *)words + 2, 0, words, 1), LEPUGASO_REFUSED_SHORT_BUFFER, 0, 0);
     EXPECT(lepugaso_read((uint8_t *)words + 2, 0, 0, buf, sizeof buf, words, 1), LEPUGASO_REFUSED_SHORT_FILE, 0, 0);
+    EXPECT(lepugaso_insert_bits(file, sizeof file, 0, words, 1, 1, 0, 12, (uint8_t *)words + 2, 0), LEPUGASO_REFUSED_SHORT_BUFFER, 0, 0);
+    EXPECT(lepugaso_insert_bits((uint8_t *)words + 2, 0, 0, NULL, 0, 1, 0, 12, (uint8_t *)words, 4), LEPUGASO_REFUSED_SHORT_FILE, 0, 0);
 
     /* A buffer is of bytes, and may begin anywhere. */
     EXPECT(lepugaso_write(file, sizeof file, 0, words, 1, buf + 1, 4), 0, 0, 4);
     HOLDS(buf[0] == 6 && buf[1] == 1 && buf[4] == 0);
     EXPECT(lepugaso_read(file, sizeof file, 0, buf + 1, 4, &words[2], 1), 0, 0, 1);
     HOLDS(words[0] == 1 && words[1] == 2 && words[2] == 1);
+    EXPECT(lepugaso_insert_bits(file, sizeof file, 0, NULL, 0, 0xFFFFFFFF, 8, 24, buf + 1, 4), 0, 0, 0);
+    HOLDS(buf[0] == 6 && buf[1] == 1 && buf[2] == 255 && buf[4] == 255);
+    EXPECT(lepugaso_extract_bits(file, sizeof file, 0, NULL, 0, buf + 1, 4, 0, 12), 0, 0, 0xF01);
 }
 
 /* Regions within one piece of memory. A file of a u32 and of two of them; words, or a buffer, for the two, and some of each that are lent
@@ -272,7 +293,8 @@ static void writable_overlaps(void) {
     }
 }
 
-/* The same of a set, whose path of one step is read, and of each place for a view's part: with a path and a buffer behind the file. */
+/* The same of a set and an insertion, whose path of one step is read, and of each place for a view's part: with a path and a buffer behind
+ * the file. */
 static void path_overlaps(void) {
     enum { EIGHT = 8, BUF_AT = 108, OUT = 8 };
     for (size_t at = 0; at + EIGHT + 4 <= MEMORY; at++) {
@@ -282,6 +304,11 @@ static void path_overlaps(void) {
         int shared = shares(at, EIGHT + SPARE, FILE_AT, sizeof pair) || shares(at, EIGHT + SPARE, READ_AT, 4);
         if (!shared) memcpy(expected.bytes + at + 4, "\1\2\3\4", 4);
         EXPECT(lepugaso_set(m.bytes + FILE_AT, sizeof pair, 1, &m.words[READ_AT / 4], 1, 0x04030201, m.bytes + at, EIGHT + SPARE),
+               shared ? LEPUGASO_BAD_POINTER : 0, 0, shared ? 0 : 4);
+        HOLDS(memcmp(&m, &expected, sizeof m) == 0);
+        if (!shared) memcpy(expected.bytes + at + 5, "\6\7", 2);
+        EXPECT(lepugaso_insert_bits(m.bytes + FILE_AT, sizeof pair, 1, &m.words[READ_AT / 4], 1, 0x0706, 8, 16, m.bytes + at,
+                                    EIGHT + SPARE),
                shared ? LEPUGASO_BAD_POINTER : 0, 0, shared ? 0 : 4);
         HOLDS(memcmp(&m, &expected, sizeof m) == 0);
     }
@@ -322,6 +349,9 @@ static void read_only_overlaps(void) {
     EXPECT(lepugaso_view(m.bytes + FILE_AT, sizeof pair, 1, &m.words[FILE_AT / 4 + 1], 1, m.bytes + FILE_AT, sizeof pair, &part, &part_len),
            0, 0, 0);
     HOLDS(part == m.bytes + FILE_AT && part_len == 4);
+    /* And a field of the file itself, by a path in it: its first byte is U32's kind. */
+    EXPECT(lepugaso_extract_bits(m.bytes + FILE_AT, sizeof pair, 1, &m.words[FILE_AT / 4 + 1], 1, m.bytes + FILE_AT, sizeof pair, 1, 31), 0,
+           0, 1);
 }
 
 int main(void) {
