@@ -7,7 +7,7 @@ target/shim/liblepugaso.so: crates.txt tools/shim tools/shim-object \
     $(shell find crates shim/src -name '*.rt' -o -name '*.antt' -o -name '*.rs')
 	@tools/shim
 
-# The main job of a host program: lay out the limits block of a receiver board, in C.
+# The main job of a host program, in C: lay out the limits block of a receiver board; then unpack what its sensors say.
 example: shim
 	@tools/example
 
