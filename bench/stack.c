@@ -1,6 +1,6 @@
 /* How much stack each call takes at the most of three tables of 256 entries, each within the next: nested arrays, nested structs, and both
- * in turn; views and sets go by a path through all of them. The call runs in a thread whose stack was painted before; what is no longer
- * paint was used, the thread's own start included. Ends with 1 where a call takes more than the header says (LEPUGASO_STACK). */
+ * in turn; views, sets and bit fields go by a path through all of them. The call runs in a thread whose stack was painted before; what is
+ * no longer paint was used, the thread's own start included. Ends with 1 where a call takes more than the header says (LEPUGASO_STACK). */
 #include <pthread.h>
 #include <stdio.h>
 #include <stdlib.h>
@@ -14,8 +14,9 @@ static uint8_t file[12 * ENTRIES + 12 * ENTRIES + 10], buf[16];
 static size_t file_len;
 static uint32_t words[3] = {1, 2, 3};
 static uint32_t path[ENTRIES - 1];
-static enum { CHECK, SIZE, ALIGN, MIN_SIZE, LAYOUT_OF, RANK, COMMON, WRITE, READ, VIEW, SET, CALLS } way;
-static const char *const names[CALLS] = {"check", "size", "align", "min_size", "layout_of", "rank", "common", "write", "read", "view", "set"};
+static enum { CHECK, SIZE, ALIGN, MIN_SIZE, LAYOUT_OF, RANK, COMMON, WRITE, READ, VIEW, SET, INSERT, EXTRACT, CALLS } way;
+static const char *const names[CALLS] = {"check", "size", "align", "min_size", "layout_of",   "rank",        "common",
+                                         "write", "read", "view",  "set",      "insert_bits", "extract_bits"};
 enum { ARRAYS, STRUCTS, BOTH, TABLES };
 static lepugaso_answer answer;
 
@@ -23,12 +24,12 @@ static void put(uint8_t *at, uint8_t kind, uint8_t rows, uint8_t reference, uint
     at[0] = kind, at[2] = rows, at[4] = reference, at[8] = count;
 }
 
-/* An f32, a vec3 of it, a struct of that; then each entry an array of one, or a struct, of the one before. */
+/* An i32, a vec3 of it, a struct of that; then each entry an array of one, or a struct, of the one before. */
 static void nest(int table) {
     int members = 0;
     uint8_t types[ENTRIES];
     memset(file, 0, sizeof file);
-    put(file, 3, 0, 0, 0);
+    put(file, 1, 0, 0, 0);
     put(file + 12, 7, 3, 0, 0);
     for (int k = 2; k < ENTRIES; k++) {
         int is_struct = k == 2 || table == STRUCTS || (table == BOTH && k % 2 == 0);
@@ -38,7 +39,7 @@ static void nest(int table) {
         } else {
             put(file + 12 * k, 9, 0, (uint8_t)(k - 1), 1);
         }
-        /* A step into each entry but the first, an f32. */
+        /* A step into each entry but the first, an i32. */
         path[ENTRIES - 1 - k] = is_struct ? LEPUGASO_MEMBER(0) : 0;
     }
     path[ENTRIES - 2] = 2;
@@ -64,7 +65,9 @@ static void *call(void *unused) {
     case WRITE: answer = lepugaso_write(file, file_len, last, words, 3, buf, sizeof buf); break;
     case READ: answer = lepugaso_read(file, file_len, last, buf, sizeof buf, words, 3); break;
     case VIEW: answer = lepugaso_view(file, file_len, last, path, ENTRIES - 1, buf, sizeof buf, &part, &part_len); break;
-    default: answer = lepugaso_set(file, file_len, last, path, ENTRIES - 1, 7, buf, sizeof buf);
+    case SET: answer = lepugaso_set(file, file_len, last, path, ENTRIES - 1, 7, buf, sizeof buf); break;
+    case INSERT: answer = lepugaso_insert_bits(file, file_len, last, path, ENTRIES - 1, 1, 3, 12, buf, sizeof buf); break;
+    default: answer = lepugaso_extract_bits(file, file_len, last, path, ENTRIES - 1, buf, sizeof buf, 0, 12);
     }
     return unused;
 }
@@ -82,19 +85,20 @@ static size_t used(int table) {
     if (pthread_create(&thread, &attributes, call, NULL) || pthread_join(thread, NULL)) exit(2);
     while (clean < STACK && stack[clean] == PAINT) clean++;
     free(stack);
-    if (answer.refusal || (way >= VIEW && answer.value != 8)) exit(1);
+    /* What a path leads to lies at 8; the field is what the set before put there, 7, and a bit inserted. */
+    if (answer.refusal || (way >= VIEW && answer.value != (way == EXTRACT ? 15 : 8))) exit(1);
     return STACK - clean;
 }
 
 int main(void) {
-    printf("%-10s %8s %8s %8s %8s\n", "stack of", "arrays", "structs", "both", "most");
+    printf("%-12s %8s %8s %8s %8s\n", "stack of", "arrays", "structs", "both", "most");
     for (way = CHECK; way < CALLS; way++) {
         size_t most = 0, each[TABLES];
         for (int table = 0; table < TABLES; table++) {
             each[table] = used(table);
             if (each[table] > most) most = each[table];
         }
-        printf("%-10s %8zu %8zu %8zu %8zu\n", names[way], each[ARRAYS], each[STRUCTS], each[BOTH], most);
+        printf("%-12s %8zu %8zu %8zu %8zu\n", names[way], each[ARRAYS], each[STRUCTS], each[BOTH], most);
         if (most > LEPUGASO_STACK) return 1;
     }
     return 0;
