@@ -12,10 +12,33 @@ use crate::types;
 /// What the answering program reads at most.
 const ROOM: usize = 1_048_576;
 
-const PLAN: Plan =
-    Plan { small: 3, edges: 1, long: 7, nested: 3000, random: 60_000, limits: 120, large: 120, damaged: 40_000 };
+const PLAN: Plan = Plan {
+    small: 3,
+    edges: 1,
+    long: 7,
+    nested: 3000,
+    random: 60_000,
+    limits: 120,
+    large: 120,
+    damaged: 40_000,
+    rounds: 40,
+    fields: 121,
+    packed: 2000,
+};
 
-const RECORDED: Plan = Plan { small: 2, edges: 4, long: 0, nested: 40, random: 60, limits: 20, large: 0, damaged: 300 };
+const RECORDED: Plan = Plan {
+    small: 2,
+    edges: 4,
+    long: 0,
+    nested: 40,
+    random: 60,
+    limits: 20,
+    large: 0,
+    damaged: 300,
+    rounds: 1,
+    fields: 1,
+    packed: 1,
+};
 
 fn read(path: &str) -> String {
     fs::read_to_string(path).unwrap_or_else(|e| panic!("{path}: {e}"))
@@ -48,14 +71,16 @@ pub fn ask(seed: u64, document: &str, folder: &str) -> bool {
         PLAN.small
     );
     let mut files = 0;
-    generate::blocks(seed, &PLAN, |block| {
+    let mut put = |block: Block| {
         files += 1;
         let lines = block.lines();
         if text.len() + lines.len() > ROOM {
             flush(&mut text);
         }
         text += &lines;
-    });
+    };
+    generate::blocks(seed, &PLAN, &mut put);
+    generate::field_blocks(seed, &PLAN, &mut put);
     flush(&mut text);
     println!("{files:9} files in all, seed {seed}");
     true
@@ -180,6 +205,7 @@ pub fn judge(document: &str, folder: &str) -> bool {
 pub fn record(document: &str, folder: &str) -> bool {
     let mut blocks: Vec<Block> = examples(document).into_iter().map(|e| e.block).collect();
     generate::blocks(1, &RECORDED, |b| blocks.push(b));
+    generate::field_blocks(1, &RECORDED, |b| blocks.push(b));
     let questions = blocks.iter().fold(format!("{HEAD}\n"), |s, b| s + &b.lines());
     let rust = answer(&questions);
     let mut rust = rust.lines();

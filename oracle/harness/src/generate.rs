@@ -2,7 +2,7 @@
 //! asked, buffers and words on each side of their edges.
 use crate::file::{Entry, Member, Table};
 use crate::model::{self, Good, Laid, Stand};
-use crate::question::{Block, Question};
+use crate::question::{Block, Field, Question};
 use crate::rows;
 
 /// splitmix64: a seed gives the same questions everywhere.
@@ -380,6 +380,141 @@ pub fn some(r: &mut Random, t: &Table, n: usize) -> Vec<Question> {
     qs
 }
 
+/// Offsets and counts of fields, on each side of an edge.
+const PLACES: [u32; 11] = [0, 1, 4, 11, 12, 20, 31, 32, 33, 1 << 31, u32::MAX];
+
+/// Every field whose offset and count are of these, those of one offset together.
+fn all_fields() -> Vec<Field> {
+    PLACES.iter().flat_map(|offset| PLACES.iter().map(|count| Field { offset: *offset, count: *count })).collect()
+}
+
+/// A field of which each number is one of these, or any within a word.
+fn any_field(r: &mut Random) -> Field {
+    let mut number = || if r.one_in(2) { r.of(&PLACES) } else { r.below(34) as u32 };
+    Field { offset: number(), count: number() }
+}
+
+/// Any word; often one whose bits are mostly alike, or with a field of document 02's.
+fn packed_word(r: &mut Random) -> u32 {
+    let special = [0, 1, 0x7fff_ffff, 0x8000_0000, u32::MAX, 2047, 2048, 4095, 0x0008_0000, !0x0008_0000];
+    if r.one_in(2) { r.of(&special) } else { r.next() as u32 }
+}
+
+/// Such words one after another.
+fn packed_bytes(r: &mut Random, length: u64) -> Vec<u8> {
+    (0..length.div_ceil(4)).flat_map(|_| packed_word(r).to_le_bytes()).take(length as usize).collect()
+}
+
+/// An extraction and an insertion of a field at a path.
+fn both(r: &mut Random, entry: u32, field: Field, path: &[u32], buffer: &[u8]) -> [Question; 2] {
+    [
+        Question::Extract(entry, field, path.to_vec(), buffer.to_vec()),
+        Question::Insert(entry, packed_word(r), field, path.to_vec(), buffer.to_vec()),
+    ]
+}
+
+/// Every path to a scalar of entry `e` with `n` elements, but of what has many parts the first, the second and the last alone.
+fn scalar_paths(good: &Good, e: usize, n: u64, path: &[u32]) -> Vec<Vec<u32>> {
+    let stand = good.walk(e, n, path).expect("a good path").stand;
+    let steps: Vec<u32> = match (good.member_count(stand), good.parts(stand, n)) {
+        (Some(count), _) => (0..count as u32).map(|k| MEMBER | k).collect(),
+        (_, Some(count)) if count > 4 => vec![0, 1, count as u32 - 1],
+        (_, Some(count)) => (0..count as u32).collect(),
+        _ => return vec![path.to_vec()],
+    };
+    steps.iter().flat_map(|s| scalar_paths(good, e, n, &[path, &[*s]].concat())).collect()
+}
+
+/// Fields of entry `e` with `n` elements: these at every path to an i32 or a u32, one at that to another scalar; one of the whole, at paths
+/// that may be bad, and on each side of the edge of the bytes.
+fn field_edges(r: &mut Random, good: &Good, e: usize, n: u64, fields: &[Field]) -> Vec<Question> {
+    let (extent, entry) = (good.extent(e, n), e as u32);
+    if extent > MOST_BYTES - 12 || !good.has_layout(e) {
+        let (path, field, buffer) = (good_path(r, good, e, n, 2), any_field(r), packed_bytes(r, 9));
+        return both(r, entry, field, &path, &buffer).to_vec();
+    }
+    let more = 1 + r.below(9);
+    let room = packed_bytes(r, extent + more);
+    let mut qs = Vec::new();
+    for path in scalar_paths(good, e, n, &[]) {
+        let integer = good.extract(e, &path, fields[0], &room).is_ok();
+        for field in &fields[..if integer { fields.len() } else { 1 }] {
+            qs.extend(both(r, entry, *field, &path, &room));
+        }
+    }
+    for _ in 0..4 {
+        let (path, field) = (any_path(r, good, e, n), any_field(r));
+        qs.extend(both(r, entry, field, &path, &room));
+    }
+    let field = any_field(r);
+    qs.extend(both(r, entry, field, &[], &room));
+    for length in [extent, extent.saturating_sub(1)] {
+        let (path, field) = (good_path(r, good, e, n, 300), any_field(r));
+        qs.extend(both(r, entry, field, &path, &room[..length as usize]));
+    }
+    qs
+}
+
+/// An extraction or an insertion at a path that may be bad, of a buffer that may be short; of a small value mostly.
+fn faulty_field(r: &mut Random, good: Option<&Good>, entry: u32) -> Question {
+    let (field, new) = (any_field(r), packed_word(r));
+    let (path, length) = match faulty_path(r, good, entry) {
+        Question::View(_, path, buffer) | Question::Set(_, _, path, buffer) => (path, buffer.len() as u64),
+        _ => unreachable!("a view or a set"),
+    };
+    let buffer = packed_bytes(r, length);
+    if r.one_in(2) {
+        return Question::Extract(entry, field, path, buffer);
+    }
+    Question::Insert(entry, new, field, path, buffer)
+}
+
+/// `n` questions about fields; now and then an entry that is not there, and now and then a field of a word.
+fn some_fields(r: &mut Random, t: &Table, n: usize) -> Vec<Question> {
+    let types = t.entries.len().max(1) as u64;
+    let good = model::check(&t.write(&[])).ok();
+    let mut one = || {
+        let past = r.of(&[types, 255, 4_294_967_295]) as u32;
+        let any = r.below(types) as u32;
+        let (field, word) = (any_field(r), packed_word(r));
+        match r.below(16) {
+            0 => Question::ExtractU32(word, field),
+            1 => Question::InsertU32(word, packed_word(r), field),
+            2 => faulty_field(r, good.as_ref(), past),
+            3..=8 => faulty_field(r, good.as_ref(), types as u32 - 1),
+            _ => faulty_field(r, good.as_ref(), any),
+        }
+    };
+    (0..n).map(|_| one()).collect()
+}
+
+/// Document 02's fields of 12 bits at some offsets, of an i32 and a u32 that are the whole buffer.
+fn worked_fields(signed: u32, unsigned: u32) -> Vec<Question> {
+    let mut qs = Vec::new();
+    for offset in [0, 4, 20] {
+        for word in [4095u32, 2048, 2047] {
+            let (field, buffer) = (Field { offset, count: 12 }, (word << offset).to_le_bytes().to_vec());
+            qs.extend([signed, unsigned].map(|e| Question::Extract(e, field, vec![], buffer.clone())));
+            qs.push(Question::Insert(signed, !word, field, vec![], buffer));
+        }
+    }
+    qs
+}
+
+/// Every edge of offset and count: of a word, and of an i32 that is the whole buffer.
+fn every_field(r: &mut Random, signed: u32) -> Vec<Question> {
+    let mut qs = Vec::new();
+    for of_one_offset in all_fields().chunks(PLACES.len()) {
+        let word = packed_word(r);
+        let new = if r.one_in(2) { !word } else { packed_word(r) };
+        for field in of_one_offset {
+            qs.extend([Question::ExtractU32(word, *field), Question::InsertU32(word, new, *field)]);
+            qs.push(Question::Extract(signed, *field, vec![], word.to_le_bytes().to_vec()));
+        }
+    }
+    qs
+}
+
 /// A number for a count: small, or such that `count * stride` comes near 2^32.
 fn count(r: &mut Random, laid: Option<&Laid>) -> u32 {
     let stride = laid.and_then(|l| Some(l.size?.div_ceil(l.align?) * l.align?)).unwrap_or(4).max(1);
@@ -540,6 +675,41 @@ fn nested(r: &mut Random) -> Table {
         }
     }
     t
+}
+
+/// Scalars of every kind, an i32 first and a u32 next, alone and within each other.
+fn packed() -> Table {
+    let over = |kind, columns, rows, reference, count| (entry(kind, columns, rows, reference, count), vec![]);
+    let of = |ms: Vec<Member>| (entry(12, 0, 0, 0, 0), ms);
+    let plain = |ty| member(ty, None, None);
+    table(&[
+        scalar(1),
+        scalar(2),
+        scalar(3),
+        scalar(4),
+        scalar(0),
+        scalar(5),
+        over(11, 0, 0, 0, 0),
+        over(11, 0, 0, 1, 0),
+        over(7, 0, 3, 0, 0),
+        over(8, 2, 2, 3, 0),
+        over(9, 0, 0, 1, 2),
+        of(vec![
+            plain(3),
+            plain(0),
+            member(1, Some(20), None),
+            plain(6),
+            plain(7),
+            plain(2),
+            plain(8),
+            plain(9),
+            plain(10),
+        ]),
+        of(vec![plain(0), plain(3)]),
+        over(10, 0, 0, 12, 0),
+        of(vec![plain(1), plain(13)]),
+        of(vec![plain(4), plain(1)]),
+    ])
 }
 
 /// Values of many words.
@@ -719,6 +889,11 @@ pub struct Plan {
     pub large: usize,
     /// pairs of a damaged table and a damaged file
     pub damaged: usize,
+    /// how often every edge of offset and count is asked about, and how many of those fields at each path to an i32 or a u32
+    pub rounds: usize,
+    pub fields: usize,
+    /// tables of values with long paths, random and damaged ones, on which fields are asked about
+    pub packed: usize,
 }
 
 pub fn blocks(seed: u64, plan: &Plan, mut each: impl FnMut(Block)) {
@@ -776,5 +951,38 @@ pub fn blocks(seed: u64, plan: &Plan, mut each: impl FnMut(Block)) {
         each(Block { file: file(&mut r, &d), questions: some(&mut r, &d, 4) });
         let b = file(&mut r, &t);
         each(Block { file: damaged_file(&mut r, &b), questions: some(&mut r, &t, 3) });
+    }
+}
+
+/// The questions about fields. They have random numbers of their own, so that those above are the same with and without them.
+pub fn field_blocks(seed: u64, plan: &Plan, mut each: impl FnMut(Block)) {
+    let mut r = Random(!seed);
+    let t = packed();
+    let good = model::check(&t.write(&[])).ok().expect("an accepted table");
+    let mut questions = worked_fields(0, 1);
+    questions.extend((0..plan.rounds).flat_map(|_| every_field(&mut r, 0)));
+    each(Block { file: t.write(&[]), questions });
+    for e in 0..t.entries.len() {
+        let mut fields = all_fields();
+        while fields.len() > plan.fields {
+            fields.remove(r.below(fields.len() as u64) as usize);
+        }
+        let n = if good.laid[e].open { 2 } else { 0 };
+        each(Block { file: t.write(&[]), questions: field_edges(&mut r, &good, e, n, &fields) });
+    }
+    for _ in 0..plan.packed {
+        let t = nested(&mut r);
+        let good = model::check(&t.write(&[])).ok().expect("an accepted table");
+        let e = t.entries.len() - 1;
+        let n = if good.laid[e].open { 1 + r.below(3) } else { 0 };
+        let fields = [any_field(&mut r)];
+        each(Block { file: t.write(&[]), questions: field_edges(&mut r, &good, e, n, &fields) });
+        let types = 1 + r.below(9) as usize;
+        let t = random(&mut r, types, 60);
+        each(Block { file: file(&mut r, &t), questions: some_fields(&mut r, &t, 21) });
+        let d = damaged_table(&mut r, &t);
+        each(Block { file: file(&mut r, &d), questions: some_fields(&mut r, &d, 3) });
+        let b = file(&mut r, &t);
+        each(Block { file: damaged_file(&mut r, &b), questions: some_fields(&mut r, &t, 2) });
     }
 }

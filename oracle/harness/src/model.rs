@@ -1,8 +1,10 @@
-//! Document 01's rules, written from its text: which file is refused, with what number and place, and what the calls answer. It decides
-//! where Lepugaso and the Rust may differ (the rows of docs/DIFFERENCES.md), and what Lepugaso has to say there.
+//! Document 01's rules, written from its text: which file is refused, with what number and place, and what the calls answer; and document
+//! 02's on bit fields. It decides where Lepugaso and the Rust may differ (the rows of docs/DIFFERENCES.md), and what Lepugaso has to say
+//! there.
 use crate::file::{Entry, Member, Table};
-use crate::question::{Answer, Question, with_buffer, with_part, with_words};
+use crate::question::{self, Answer, Field, Question, with_buffer, with_part, with_words};
 use crate::rows::{self, Row};
+use crate::types::NOTHING;
 
 const LIMIT: u64 = 4_294_967_295;
 
@@ -475,6 +477,34 @@ impl Good {
         Ok(t.offset)
     }
 
+    /// The scalar of a field at a path, its offset and whether it is signed: as for setting, with 14 for what is not one i32 or u32, or
+    /// an atomic of one.
+    fn integer(&self, e: usize, path: &[u32], length: u64) -> Result<(u64, bool), (u32, u64)> {
+        self.stored(e, length)?;
+        let (t, _) = self.target(e, path, length)?;
+        let Stand::Entry(at) = t.stand else { return Err((14, 0)) };
+        let x = self.table.entries[at];
+        match if x.kind == 11 { self.table.entries[x.reference as usize].kind } else { x.kind } {
+            1 => Ok((t.offset, true)),
+            2 => Ok((t.offset, false)),
+            _ => Err((14, 0)),
+        }
+    }
+
+    /// Extraction at a path: the field as a word.
+    pub fn extract(&self, e: usize, path: &[u32], field: Field, buffer: &[u8]) -> Answer {
+        let (at, signed) = self.integer(e, path, buffer.len() as u64)?;
+        Ok(extracted(word_at(buffer, at as usize), field, signed) as u64)
+    }
+
+    /// Insertion at a path: the scalar's offset.
+    pub fn insert(&self, e: usize, path: &[u32], new: u32, field: Field, buffer: &mut [u8]) -> Answer {
+        let (at, _) = self.integer(e, path, buffer.len() as u64)?;
+        let word = inserted(word_at(buffer, at as usize), new, field);
+        buffer[at as usize..][..4].copy_from_slice(&word.to_le_bytes());
+        Ok(at)
+    }
+
     /// Writing words: then 14, 15, 16.
     pub fn write(&self, e: usize, words: &[u32], buffer: &mut [u8]) -> Answer {
         self.stored(e, buffer.len() as u64)?;
@@ -518,6 +548,42 @@ impl Good {
         }
         Ok(count)
     }
+}
+
+fn word_at(buffer: &[u8], at: usize) -> u32 {
+    u32::from_le_bytes(buffer[at..at + 4].try_into().expect("four bytes"))
+}
+
+/// The bits of a word, the lowest first.
+fn bits(word: u32) -> [bool; 32] {
+    std::array::from_fn(|k| (word >> k) & 1 == 1)
+}
+
+/// The word of these bits.
+fn word(bits: [bool; 32]) -> u32 {
+    bits.iter().rev().fold(0, |n, bit| 2 * n + *bit as u32)
+}
+
+/// Which bits of a word are a field's, in order: from bit `offset` on, `count` of them, as far as there are so many.
+fn places(field: Field) -> Vec<usize> {
+    let (first, end) = (field.offset as u64, field.offset as u64 + field.count as u64);
+    (0..32).filter(|k| first <= *k as u64 && (*k as u64) < end).collect()
+}
+
+/// "Extraction gives 0 for c = 0, else the c bits from o, and a signed field repeats its top bit above."
+fn extracted(e: u32, field: Field, signed: bool) -> u32 {
+    let (from, places) = (bits(e), places(field));
+    let above = signed && places.last().is_some_and(|top| from[*top]);
+    word(std::array::from_fn(|k| places.get(k).map_or(above, |p| from[*p])))
+}
+
+/// "Insertion puts the new value's low c bits at those places and changes no other bit."
+fn inserted(e: u32, new: u32, field: Field) -> u32 {
+    let (mut to, from) = (bits(e), bits(new));
+    for (k, p) in places(field).into_iter().enumerate() {
+        to[p] = from[k];
+    }
+    word(to)
 }
 
 fn scalar_rank(a: u8, b: u8) -> Option<u32> {
@@ -567,13 +633,27 @@ pub struct Due {
 /// What a call with a buffer answers where the file or the entry is refused: what was lent is as it was.
 fn unchanged(q: &Question, number: u32, place: u64) -> String {
     match q {
-        Question::Write(_, _, buffer) | Question::Set(_, _, _, buffer) => with_buffer(Err((number, place)), buffer),
+        Question::Write(_, _, buffer) | Question::Set(_, _, _, buffer) | Question::Insert(_, _, _, _, buffer) => {
+            with_buffer(Err((number, place)), buffer)
+        }
         Question::Read(_, words, _) => with_words(Err((number, place)), words),
         _ => format!("refused {number} at {place}"),
     }
 }
 
+/// What 02 answers of a field of a word, whatever the file is.
+fn of_word(q: &Question) -> Option<u32> {
+    match q {
+        Question::ExtractU32(word, field) => Some(extracted(*word, *field, false)),
+        Question::InsertU32(word, new, field) => Some(inserted(*word, *new, *field)),
+        _ => None,
+    }
+}
+
 pub fn answer(checked: &Result<Good, Refusal>, nodes: &[u64], q: &Question) -> Due {
+    if let Some(word) = of_word(q) {
+        return Due { says: word.to_string(), row: Some(Row::BitFields), rust: Some(NOTHING.into()) };
+    }
     let good = match checked {
         Ok(good) => good,
         Err(r) => return Due { says: unchanged(q, r.number, r.place as u64), row: Some(r.row), rust: None },
@@ -612,6 +692,12 @@ pub fn answer(checked: &Result<Good, Refusal>, nodes: &[u64], q: &Question) -> D
             let mut buffer = buffer.clone();
             with_buffer(good.set(*e as usize, path, *word, &mut buffer), &buffer)
         }
+        Question::Extract(e, field, path, buffer) => question::told(good.extract(*e as usize, path, *field, buffer)),
+        Question::Insert(e, new, field, path, buffer) => {
+            let mut buffer = buffer.clone();
+            with_buffer(good.insert(*e as usize, path, *new, *field, &mut buffer), &buffer)
+        }
+        Question::ExtractU32(..) | Question::InsertU32(..) => unreachable!("answered before"),
     };
     let deep = |e: &u32| nodes[*e as usize] > crate::types::MOST;
     let asked_deep = match q {

@@ -1,7 +1,7 @@
-//! Questions, their lines and those of their answers (oracle/README.md, version 3).
+//! Questions, their lines and those of their answers (oracle/README.md, version 4).
 
-pub const HEAD: &str = "questions 3";
-pub const ANSWERS_HEAD: &str = "answers 3";
+pub const HEAD: &str = "questions 4";
+pub const ANSWERS_HEAD: &str = "answers 4";
 
 #[derive(Clone)]
 pub enum Question {
@@ -20,6 +20,27 @@ pub enum Question {
     View(u32, Vec<u32>, Vec<u8>),
     /// an entry, the word, the steps, and what the buffer holds before
     Set(u32, u32, Vec<u32>, Vec<u8>),
+    /// an entry, the field, the steps, and the buffer
+    Extract(u32, Field, Vec<u32>, Vec<u8>),
+    /// an entry, the new value, the field, the steps, and what the buffer holds before
+    Insert(u32, u32, Field, Vec<u32>, Vec<u8>),
+    /// a word and the field
+    ExtractU32(u32, Field),
+    /// a word, the new value and the field
+    InsertU32(u32, u32, Field),
+}
+
+/// A bit field as it is asked for.
+#[derive(Clone, Copy)]
+pub struct Field {
+    pub offset: u32,
+    pub count: u32,
+}
+
+impl Field {
+    fn line(self) -> String {
+        format!("{} {}", self.offset, self.count)
+    }
 }
 
 /// A file and what is asked of it.
@@ -54,6 +75,10 @@ impl Question {
             Question::Read(e, words, _) => listed(format!("read {e}"), words),
             Question::View(e, path, _) => listed(format!("view {e}"), path),
             Question::Set(e, word, path, _) => listed(format!("set {e} {word}"), path),
+            Question::Extract(e, field, path, _) => listed(format!("extract {e} {}", field.line()), path),
+            Question::Insert(e, new, field, path, _) => listed(format!("insert {e} {new} {}", field.line()), path),
+            Question::ExtractU32(word, field) => format!("extract_u32 {word} {}", field.line()),
+            Question::InsertU32(word, new, field) => format!("insert_u32 {word} {new} {}", field.line()),
         }
     }
 
@@ -62,6 +87,7 @@ impl Question {
         let mut parts = line.split(' ');
         let word = parts.next().unwrap_or("");
         let n: Vec<u32> = parts.map(|p| p.parse().expect("a number")).collect();
+        let field = |offset: &u32, count: &u32| Field { offset: *offset, count: *count };
         match (word, n.as_slice()) {
             ("check", []) => Question::Check,
             ("size", [e]) => Question::Size(*e),
@@ -74,6 +100,12 @@ impl Question {
             ("read", [e, words @ ..]) => Question::Read(*e, words.to_vec(), buffer.to_vec()),
             ("view", [e, path @ ..]) => Question::View(*e, path.to_vec(), buffer.to_vec()),
             ("set", [e, word, path @ ..]) => Question::Set(*e, *word, path.to_vec(), buffer.to_vec()),
+            ("extract", [e, o, c, path @ ..]) => Question::Extract(*e, field(o, c), path.to_vec(), buffer.to_vec()),
+            ("insert", [e, new, o, c, path @ ..]) => {
+                Question::Insert(*e, *new, field(o, c), path.to_vec(), buffer.to_vec())
+            }
+            ("extract_u32", [word, o, c]) => Question::ExtractU32(*word, field(o, c)),
+            ("insert_u32", [word, new, o, c]) => Question::InsertU32(*word, *new, field(o, c)),
             _ => panic!("not a question: {line}"),
         }
     }
@@ -81,10 +113,11 @@ impl Question {
     /// The entries that the question names.
     pub fn entries(&self) -> Vec<u32> {
         match self {
-            Question::Check => vec![],
+            Question::Check | Question::ExtractU32(..) | Question::InsertU32(..) => vec![],
             Question::Size(e) | Question::Align(e) | Question::MinSize(e) | Question::Layout(e) => vec![*e],
             Question::Write(e, _, _) | Question::Read(e, _, _) => vec![*e],
             Question::View(e, _, _) | Question::Set(e, _, _, _) => vec![*e],
+            Question::Extract(e, _, _, _) | Question::Insert(e, _, _, _, _) => vec![*e],
             Question::Rank(a, b) => vec![*a, *b],
             Question::Common(list) => list.clone(),
         }
@@ -95,6 +128,7 @@ impl Question {
         match self {
             Question::Write(_, _, buffer) | Question::Read(_, _, buffer) => Some(buffer),
             Question::View(_, _, buffer) | Question::Set(_, _, _, buffer) => Some(buffer),
+            Question::Extract(_, _, _, buffer) | Question::Insert(_, _, _, _, buffer) => Some(buffer),
             _ => None,
         }
     }
@@ -146,14 +180,15 @@ pub fn parse(text: &str) -> Vec<Block> {
     blocks
 }
 
-fn told(answer: Answer) -> String {
+/// What is said of a number that is asked for alone.
+pub fn told(answer: Answer) -> String {
     match answer {
         Ok(n) => n.to_string(),
         Err((number, place)) => format!("refused {number} at {place}"),
     }
 }
 
-/// What is said of a write or of a set: its answer, and what the buffer holds after it.
+/// What is said of a write, of a set or of an insertion: its answer, and what the buffer holds after it.
 pub fn with_buffer(answer: Answer, buffer: &[u8]) -> String {
     format!("{} {}", told(answer), hex(buffer)).trim_end().into()
 }

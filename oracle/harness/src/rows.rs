@@ -52,6 +52,7 @@ rows! {
     ViewGaps = "view-gaps",
     SetAtomic = "set-atomic",
     SetGaps = "set-gaps",
+    BitFields = "bit-fields",
 }
 
 /// The Rust writes into a vector of its own: a longer one is not asked for.
@@ -300,6 +301,7 @@ pub fn departure(good: &Good, q: &Question, says: &str) -> Option<(Row, String)>
         }
         Question::View(e, path, buffer) => viewed(good, *e as usize, path, buffer),
         Question::Set(e, word, path, buffer) => changed(good, *e as usize, path, *word, buffer),
+        Question::Extract(..) | Question::Insert(..) => (Row::BitFields, NOTHING.into()),
         _ => return None,
     };
     (said != says).then_some((row, said))

@@ -385,6 +385,8 @@ pub fn answer(types: &[Option<Type>], checked: &Result<Good, Refusal>, q: &Quest
             let (_, ty) = checked.as_ref().ok().zip(of(e))?;
             set(ty, path, *word, buffer)
         }
+        // The six files have no such function.
+        Question::Extract(..) | Question::Insert(..) | Question::ExtractU32(..) | Question::InsertU32(..) => None,
     };
     ASKING.set(true);
     let said = catch_unwind(AssertUnwindSafe(ask));
