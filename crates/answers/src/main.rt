@@ -1,4 +1,4 @@
-// Answers questions about layout files: reads them on standard input and writes a line for each (oracle/README.md, version 3).
+// Answers questions about layout files: reads them on standard input and writes a line for each (oracle/README.md, version 4).
 use file::refusal::Refusal;
 use file::refusal::number;
 use file::refusal::place;
@@ -8,6 +8,10 @@ use layout::ask::Number;
 use lepugaso::align;
 use lepugaso::check;
 use lepugaso::common;
+use lepugaso::extract_bits;
+use lepugaso::extract_bits_u32;
+use lepugaso::insert_bits;
+use lepugaso::insert_bits_u32;
 use lepugaso::layout;
 use lepugaso::min_size;
 use lepugaso::rank;
@@ -185,6 +189,29 @@ fn answer_set(file: &[u8], entry: u32, word: u32, path: &[u32], held: &[u8]) {
     say(b"\n");
 }
 
+// Says the field of a scalar in the buffer.
+fn answer_extract(file: &[u8], entry: u32, offset: u32, count: u32, path: &[u32], held: &[u8]) {
+    say_number(extract_bits(file, entry, path, held, offset, count));
+}
+
+// Inserts a field of a scalar in a copy of the buffer, and says what the copy holds then.
+fn answer_insert(
+    file: &[u8],
+    entry: u32,
+    newbits: u32,
+    offset: u32,
+    count: u32,
+    path: &[u32],
+    held: &[u8],
+) {
+    let mut buffer = io::buffer();
+    let p = copy(held, &mut buffer);
+    let n = p.count;
+    say_plain(insert_bits(file, entry, path, newbits, offset, count, &mut buffer[..n]));
+    say_bytes(&buffer[..n]);
+    say(b"\n");
+}
+
 // The questions with one entry.
 fn answer_entry(file: &[u8], word: &[u8], entry: u32) {
     if same(word, b"size") {
@@ -217,6 +244,16 @@ fn answer(file: &[u8], word: &[u8], ns: &[u32]) {
     if ns.len() == 2 {
         if same(word, b"rank") {
             return say_number(rank(file, ns[0], ns[1]));
+        }
+    }
+    if ns.len() == 3 {
+        if same(word, b"extract_u32") {
+            return say_number(Number::Is(extract_bits_u32(ns[0], ns[1], ns[2])));
+        }
+    }
+    if ns.len() == 4 {
+        if same(word, b"insert_u32") {
+            return say_number(Number::Is(insert_bits_u32(ns[0], ns[1], ns[2], ns[3])));
         }
     }
     say(b"not a question\n");
@@ -256,6 +293,16 @@ fn answer_line(file: &[u8], held: &[u8], line: &[u8], word: usize)
     if 1 < n {
         if same(&line[..word], b"set") {
             return answer_set(file, ns[0], ns[1], &ns[2..n], held);
+        }
+    }
+    if 2 < n {
+        if same(&line[..word], b"extract") {
+            return answer_extract(file, ns[0], ns[1], ns[2], &ns[3..n], held);
+        }
+    }
+    if 3 < n {
+        if same(&line[..word], b"insert") {
+            return answer_insert(file, ns[0], ns[1], ns[2], ns[3], &ns[4..n], held);
         }
     }
     answer(file, &line[..word], &ns[..n]);
@@ -299,9 +346,9 @@ fn main() {
     let n = io::read_full(STDIN_FILENO, &mut input);
     let text = &input[..n];
     let first = next(text, 0, 10);
-    if !same(&text[..first], b"questions 3") {
-        return say(b"not questions 3\n");
+    if !same(&text[..first], b"questions 4") {
+        return say(b"not questions 4\n");
     }
-    say(b"answers 3\n");
+    say(b"answers 4\n");
     answer_all(text, first + 1, &mut file, &mut buffer);
 }
