@@ -6,6 +6,7 @@ use Prim.Native.Nat.{ℕ}
 use mathlib.Core.Bool.{true, false}
 use mathlib.Core.List.{List, [], _∷_}
 use mathlib.Core.Path.{_≡_, refl, ap, sym, _∙_}
+use mathlib.Core.Logic.{_⊎_, inl, inr, ⊎-elim}
 use native.Mathlib.Omega.{arith}
 use lib.ListN.{length}
 use Rattle.wgsl.specs.Number.{load, store}
@@ -41,7 +42,7 @@ module _ (f : List ℕ) (e : ℕ) (steps b : List ℕ) where
 
 -- ---- 14, or one of the two
 
--- The kinds of i32 and u32 are no other scalar's.
+-- The kind of i32 is no other scalar's.
 pub kind-one : (s : Scalar) → kindOf s ≡ 1 → s ≡ i32
 unfolding kindOf
 kind-one bool e = absurd (omega arith)
@@ -52,15 +53,21 @@ kind-one f16 e = absurd (omega arith)
 kind-one abstractInt e = absurd (omega arith)
 kind-one abstractFloat e = absurd (omega arith)
 
-pub kind-two : (s : Scalar) → kindOf s ≡ 2 → s ≡ u32
-unfolding kindOf
-kind-two bool e = absurd (omega arith)
-kind-two i32 e = absurd (omega arith)
-kind-two u32 e = refl
-kind-two f32 e = absurd (omega arith)
-kind-two f16 e = absurd (omega arith)
-kind-two abstractInt e = absurd (omega arith)
-kind-two abstractFloat e = absurd (omega arith)
+-- The kinds of i32 and u32 are those of integers.
+kinds-integer : (s : Scalar) → (kindOf s ≡ 1) ⊎ (kindOf s ≡ 2) → isInteger s ≡ true
+unfolding kindOf isInteger
+kinds-integer bool (inl e) = absurd (omega arith)
+kinds-integer bool (inr e) = absurd (omega arith)
+kinds-integer i32 k = refl
+kinds-integer u32 k = refl
+kinds-integer f32 (inl e) = absurd (omega arith)
+kinds-integer f32 (inr e) = absurd (omega arith)
+kinds-integer f16 (inl e) = absurd (omega arith)
+kinds-integer f16 (inr e) = absurd (omega arith)
+kinds-integer abstractInt (inl e) = absurd (omega arith)
+kinds-integer abstractInt (inr e) = absurd (omega arith)
+kinds-integer abstractFloat (inl e) = absurd (omega arith)
+kinds-integer abstractFloat (inr e) = absurd (omega arith)
 
 no-integer : (s : Scalar) → (kindOf s ≡ 1 → ⊥) → (kindOf s ≡ 2 → ⊥) → isInteger s ≡ false
 unfolding kindOf isInteger
@@ -89,25 +96,15 @@ module _ (u : path.Target) where
   unfolding integerOf scalarAt orRefuse _>>=_ _>>_ refuse scalarIn spanOf
   scalar-found s is e = rw (is, e) refl
 
-  pub found-one : scalarIn (u .shape) ≡ 1 → good (targetIs u) ≡ foundIn (integerOf u)
-  unfolding scalarIn isInteger
-  found-one h = go (u .shape) refl h
+  pub found-integer : (scalarIn (u .shape) ≡ 1) ⊎ (scalarIn (u .shape) ≡ 2) → good (targetIs u) ≡ foundIn (integerOf u)
+  unfolding scalarIn
+  found-integer h = go (u .shape) refl h
     where
-      go : (x : Shape) → u .shape ≡ x → scalarIn x ≡ 1 → good (targetIs u) ≡ foundIn (integerOf u)
-      go (one s) is k = scalar-found i32 (is ∙ ap one (kind-one s k)) refl
-      go (parts n stride x) is k = absurd (omega arith)
-      go (field offset x rest) is k = absurd (omega arith)
-      go (whole z) is k = absurd (omega arith)
-
-  pub found-two : scalarIn (u .shape) ≡ 2 → good (targetIs u) ≡ foundIn (integerOf u)
-  unfolding scalarIn isInteger
-  found-two h = go (u .shape) refl h
-    where
-      go : (x : Shape) → u .shape ≡ x → scalarIn x ≡ 2 → good (targetIs u) ≡ foundIn (integerOf u)
-      go (one s) is k = scalar-found u32 (is ∙ ap one (kind-two s k)) refl
-      go (parts n stride x) is k = absurd (omega arith)
-      go (field offset x rest) is k = absurd (omega arith)
-      go (whole z) is k = absurd (omega arith)
+      go : (x : Shape) → u .shape ≡ x → (scalarIn x ≡ 1) ⊎ (scalarIn x ≡ 2) → good (targetIs u) ≡ foundIn (integerOf u)
+      go (one s) is k = scalar-found s is (kinds-integer s k)
+      go (parts n stride x) is k = absurd (⊎-elim (λ e. omega arith) (λ e. omega arith) k)
+      go (field offset x rest) is k = absurd (⊎-elim (λ e. omega arith) (λ e. omega arith) k)
+      go (whole z) is k = absurd (⊎-elim (λ e. omega arith) (λ e. omega arith) k)
 
   pub found-none : (scalarIn (u .shape) ≡ 1 → ⊥) → (scalarIn (u .shape) ≡ 2 → ⊥) → integerOf u ≡ refused 14 0
   unfolding scalarIn integerOf scalarAt orRefuse _>>=_ _>>_ refuse

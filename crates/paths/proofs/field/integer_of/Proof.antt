@@ -1,11 +1,12 @@
 -- An i32, a u32 or neither, by the kind (proofs/Integers). Assumes nothing.
+use mathlib.Core.Logic.{inl, inr}
 use mathlib.Core.Path.{_≡_, ap, sym, _∙_}
 use Rattle.wgsl.specs.Said.{good}
 use Rattle.wgsl.specs.Path as path
 use Rattle.walker.specs.declared.walk.Target.{Target}
 use Rattle.walker.specs.Walk.{targetIs}
 use Rattle.paths.specs.Field.{foundIn}
-use Rattle.paths.proofs.Integers.{found-one, found-two, found-none}
+use Rattle.paths.proofs.Integers.{found-integer, found-none}
 use Rattle.paths.proofs.field.integer_of.Statement.{statement}
 use Rattle.paths.proofs.field.integer_of.Tie as tie
 
@@ -14,10 +15,10 @@ kind : {t : Target} (u : path.Target) → t ≡ targetIs u → targetIs u .scala
 kind u is = sym (ap (λ (t : Target). t .scalar) is)
 
 returns : tie.Need-returns
-returns c = λ u is. ap good is ∙ found-one u (kind u is ∙ c .if1 .taken)
+returns c = λ u is. ap good is ∙ found-integer u (inl (kind u is ∙ c .if1 .taken))
 
 returns-2 : tie.Need-returns-2
-returns-2 c = λ u is. ap good is ∙ found-two u (kind u is ∙ c .if2 .taken)
+returns-2 c = λ u is. ap good is ∙ found-integer u (inr (kind u is ∙ c .if2 .taken))
 
 returns-3 : tie.Need-returns-3
 returns-3 c = λ u is.
