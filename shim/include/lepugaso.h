@@ -3,7 +3,7 @@
  * A layout file describes types as numbered entries; every call takes one, as bytes, and asks something of it, but for the four on bit
  * fields of a number. Nothing is kept between calls, nothing is allocated, and any bytes and any numbers may be passed: what cannot be
  * answered is refused with a number. Threads may call at the same time. No call takes more than LEPUGASO_STACK bytes of stack: 130 KiB to
- * write or read types that nest 256 deep, 63 KiB to view, set or use bit fields along such a path, 33 KiB to ask anything else.
+ * write or read types that nest 256 deep, 62 KiB to view, set or use bit fields along such a path, 32 KiB to ask anything else.
  *
  * For x86-64 Linux. Link liblepugaso.a, which needs nothing but memcpy, memmove and memset, or liblepugaso.so.
  *

@@ -1,4 +1,4 @@
--- The laws about specs/, by subject. What is claimed stands in Claims; read that first.
+-- The laws about specs/, by subject. What is claimed stands in Claims, and of document 02 in Requests; read these first.
 pub mod Number
 pub mod Round
 pub mod Absent
