@@ -4,23 +4,20 @@
 -- Not here: vectors of them (`Align`).
 -- Assumes nothing.
 use Prim.Native.Nat.{ℕ, zero, suc, _<_, _≤_}
-use mathlib.Core.Bool.{Bool, true, false}
+use mathlib.Core.Bool.{true, false, cond}
 use mathlib.Core.List.{[], _∷_}
 use mathlib.Core.Option.{some}
 use mathlib.Core.Path.{_≡_, refl, sym, _∙_}
-use native.Mathlib.Nat.{pos-of-ne-zero}
 use native.Mathlib.Omega.{arith}
-use lib.Dec.{leb}
-use Rattle.wgsl.specs.Types.{Scalar, bool, i32, u32, f32, f16, abstractInt, abstractFloat, Ty, scalar, vector, matrix, array, runtime, atomic, struct, isOpen, everywhere}
-use Rattle.wgsl.specs.Size.{isPresent, present, widthOf, sizeOf, alignOf, minSizeOf, innerNumbersOf, hasLayout, isStored, isPlain, isStorable}
+use lib.Dec.{eqb}
+use Rattle.wgsl.specs.Types.{Scalar, bool, i32, u32, f32, f16, abstractInt, abstractFloat, Ty, scalar, vector, matrix, array, runtime, atomic, struct, isOpen}
+use Rattle.wgsl.specs.Size.{isPresent, present, widthOf, sizeOf, alignOf, minSizeOf, innerNumbersOf, hasLayout, isStored}
 use Rattle.wgsl.specs.File.{TypeEntry}
 use Rattle.wgsl.specs.Rule.{unused, scalarOfKind, scalarIn, scalarMade, isAllowed, givenFits}
-use Rattle.wgsl.specs.Place.{tailOf}
 use Rattle.wgsl.specs.Rank.{kindOf}
 use Rattle.wgsl.proofs.Absent.{some-not-none}
-use Rattle.wgsl.proofs.Count.{wordCount-scalar}
-use Rattle.kinds.proofs.Verdict.{present-positive, fits-small, layout-closed, layout-none, words-laid, words-none, storable-none, value-is, verdict-laid, made-used, made-over}
-use Rattle.kinds.specs.Value.{kindOfType, tailOffset, elementStride, valueOf, madeOf}
+use Rattle.kinds.proofs.Verdict.{present-positive, fits-small, layout-closed, layout-none, value-is, unit-laid, unit-none, verdict-laid, made-used, made-over}
+use Rattle.kinds.specs.Value.{kindOfType, storedWidth, narrowOf, partsOf, partWords, partStride, valueOf, madeOf}
 use Rattle.kinds.specs.declared.value.Layout.{Layout}
 use Rattle.kinds.specs.declared.value.Made.the-variants.{Laid, Rule}
 
@@ -82,8 +79,8 @@ width-absent abstractFloat h = refl
 
 -- ---- which are stored
 
-pub stored-bool : (s : Scalar) → kindOf s < 1 → isStored s ≡ false
-unfolding kindOf isStored
+pub stored-bool : (s : Scalar) → kindOf s < 1 → storedWidth s ≡ 0
+unfolding kindOf storedWidth isStored
 stored-bool bool h = refl
 stored-bool i32 h = absurd (omega arith)
 stored-bool u32 h = absurd (omega arith)
@@ -92,28 +89,17 @@ stored-bool f16 h = absurd (omega arith)
 stored-bool abstractInt h = refl
 stored-bool abstractFloat h = refl
 
-pub stored-number : (s : Scalar) (k : ℕ) → kindOf s ≡ k → 1 ≤ k → isStored s ≡ leb k 4
-unfolding kindOf isStored
-stored-number bool k e h = absurd (omega arith)
-stored-number i32 k e h = rw (← e)
-stored-number u32 k e h = rw (← e)
-stored-number f32 k e h = rw (← e)
-stored-number f16 k e h = rw (← e)
-stored-number abstractInt k e h = rw (← e)
-stored-number abstractFloat k e h = rw (← e)
+pub stored-number : (s : Scalar) → 1 ≤ kindOf s → storedWidth s ≡ present (widthOf s)
+unfolding kindOf storedWidth isStored widthOf present
+stored-number bool h = absurd (omega arith)
+stored-number i32 h = refl
+stored-number u32 h = refl
+stored-number f32 h = refl
+stored-number f16 h = refl
+stored-number abstractInt h = refl
+stored-number abstractFloat h = refl
 
 -- ---- the type that a layout is of
-
--- a scalar that is stored has a layout
-pub storable-scalar : (s : Scalar) → isStorable (scalar s) ≡ isStored s
-unfolding isStorable hasLayout alignOf sizeOf isOpen everywhere isPlain widthOf isPresent isStored
-storable-scalar bool = refl
-storable-scalar i32 = refl
-storable-scalar u32 = refl
-storable-scalar f32 = refl
-storable-scalar f16 = refl
-storable-scalar abstractInt = refl
-storable-scalar abstractFloat = refl
 
 pub kind-bounded : (s : Scalar) → kindOf s ≤ 6
 unfolding kindOf
@@ -130,13 +116,13 @@ pub record ScalarOf (t : Ty) (l : Layout) : Type 0 where
   pub scalar : Scalar
   pub found : scalarIn t ≡ some scalar
   pub kind-is : kindOf scalar ≡ l .kind
-  pub stored : l .storable ≡ isStored scalar
+  pub narrow-is : l .narrow ≡ storedWidth scalar
 
 -- A layout of a kind 0 to 6 is a scalar's,
-pub scalar-known : (t : Ty) (l : Layout) → l ≡ valueOf t → l .kind ≤ 6 → ScalarOf t l
-unfolding valueOf kindOfType scalarIn
+pub scalar-known : (t : Ty) (l : Layout) → l ≡ valueOf (l .reference) t → l .kind ≤ 6 → ScalarOf t l
+unfolding valueOf kindOfType narrowOf scalarIn
 scalar-known (scalar s) l e h =
-    record { scalar = s; found = refl; kind-is = rw e; stored = rw e (storable-scalar s) }
+    record { scalar = s; found = refl; kind-is = rw e; narrow-is = rw e }
 scalar-known (vector n s) l e h = let k : 7 ≡ l .kind = rw e in absurd (omega arith)
 scalar-known (matrix c r s) l e h = let k : 8 ≡ l .kind = rw e in absurd (omega arith)
 scalar-known (array n t) l e h = let k : 9 ≡ l .kind = rw e in absurd (omega arith)
@@ -145,7 +131,7 @@ scalar-known (atomic s) l e h = let k : 11 ≡ l .kind = rw e in absurd (omega a
 scalar-known (struct n ms) l e h = let k : 12 ≡ l .kind = rw e in absurd (omega arith)
 
 -- and a scalar's is of a kind 0 to 6, the scalar's own.
-pub scalar-kind : (t : Ty) (l : Layout) (s : Scalar) → l ≡ valueOf t → scalarIn t ≡ some s → (kindOf s ≡ l .kind) × (l .kind ≤ 6)
+pub scalar-kind : (t : Ty) (l : Layout) (s : Scalar) → l ≡ valueOf (l .reference) t → scalarIn t ≡ some s → (kindOf s ≡ l .kind) × (l .kind ≤ 6)
 unfolding valueOf kindOfType scalarIn
 scalar-kind (scalar x) l s e h =
     let same : x ≡ s = cc in
@@ -172,35 +158,30 @@ scalar-of-kind (suc (suc (suc (suc (suc (suc zero)))))) h = (abstractFloat, refl
 scalar-of-kind (suc (suc (suc (suc (suc (suc (suc k))))))) h = absurd (omega arith)
 
 module _ (e : TypeEntry) where
-  pub scalar-used : unused (e .columns ∷ e .rows ∷ e .reference ∷ e .count ∷ []) ≡ false → madeOf (scalarMade e) ≡ Rule
+  pub scalar-used : unused (e .columns ∷ e .rows ∷ e .reference ∷ e .count ∷ []) ≡ false → madeOf (e .reference) (scalarMade e) ≡ Rule
   unfolding scalarMade
-  scalar-used h = made-used _ h
+  scalar-used h = made-used _ _ h
 
   module _ (zeros : unused (e .columns ∷ e .rows ∷ e .reference ∷ e .count ∷ []) ≡ true) (scalars : e .kind ≤ 6) where
-    scalar-verdict : (l : Layout) → ((s : Scalar) → kindOf s ≡ e .kind → l ≡ valueOf (scalar s)) → madeOf (scalarMade e) ≡ Laid l
+    scalar-verdict : (l : Layout) → l .reference ≡ e .reference → ((s : Scalar) → kindOf s ≡ e .kind → l ≡ valueOf (l .reference) (scalar s)) → madeOf (e .reference) (scalarMade e) ≡ Laid l
     unfolding scalarMade isAllowed givenFits sizeOf alignOf minSizeOf innerNumbersOf
-    scalar-verdict l h =
+    scalar-verdict l q h =
         let (s, k, f) = scalar-of-kind (e .kind) scalars in
         let small = width-bounded s in
-        made-over scalar zeros f
-        ∙ verdict-laid (scalar s) l refl refl (fits-small (scalar s) refl (omega arith) (omega arith) refl) (h s k)
+        made-over _ scalar zeros f
+        ∙ rw (← q) (verdict-laid (scalar s) l refl refl (fits-small (scalar s) refl (omega arith) (omega arith) refl) (h s k))
 
-    module _ (w : ℕ) (width : (s : Scalar) → kindOf s ≡ e .kind → w ≡ present (widthOf s)) where
-      pub scalar-absent : w ≡ 0 → madeOf (scalarMade e) ≡ Laid (record { kind = e .kind; size = 0; align = 0; stride = 0; offset = 0; words = 0; opens = false; storable = false })
-      unfolding kindOfType sizeOf alignOf elementStride present tailOf tailOffset isOpen
-      scalar-absent z =
-          scalar-verdict _
-          (λ s k. let size : present (widthOf s) ≡ 0 = omega (arith, width s k) in
-          let bare = layout-none (scalar s) (width-absent s size) in
-          value-is (scalar s) _ (sym k) (sym size) (sym size) refl refl (sym (words-none (scalar s) bare)) refl
-          (sym (storable-none (scalar s) bare)))
-
-      pub scalar-laid : (b : Bool) → ((s : Scalar) → kindOf s ≡ e .kind → b ≡ isStored s) → (w ≡ 0 → ⊥) → madeOf (scalarMade e) ≡ Laid (record { kind = e .kind; size = w; align = w; stride = 0; offset = 0; words = 1; opens = false; storable = b })
-      unfolding kindOfType sizeOf alignOf elementStride present tailOf tailOffset isOpen
-      scalar-laid b stored z =
-          scalar-verdict _
-          (λ s k. let size = width s k in
-          let has = present-positive (widthOf s) (rw (← size) (pos-of-ne-zero z)) in
-          let laid = layout-closed (scalar s) has has refl in
-          value-is (scalar s) _ (sym k) size size refl refl (sym (words-laid (scalar s) laid ∙ wordCount-scalar 0 s)) refl
-          (stored s k ∙ sym (storable-scalar s)))
+    -- The layout of a scalar.
+    pub scalar-laid : (w n : ℕ) → ((s : Scalar) → kindOf s ≡ e .kind → w ≡ present (widthOf s)) → ((s : Scalar) → kindOf s ≡ e .kind → n ≡ storedWidth s) → (u : ℕ) → u ≡ cond (eqb w 0) 0 1 → madeOf (e .reference) (scalarMade e) ≡ Laid (record { kind = e .kind; narrow = n; reference = e .reference; count = 1; unit = u; stride = w; size = w; align = w })
+    unfolding kindOfType narrowOf partsOf partWords partStride sizeOf alignOf isOpen
+    scalar-laid w n width narrow u unit =
+        scalar-verdict _ refl
+        (λ s k. let size = width s k in
+        value-is (scalar s) _ (sym k) (narrow s k) refl (unit ∙ units s w size) size size size)
+      where
+        units : (s : Scalar) (w : ℕ) → w ≡ present (widthOf s) → cond {A = ℕ} (eqb w 0) 0 1 ≡ cond (hasLayout (scalar s)) 1 0
+        units s zero size =
+            unit-none (scalar s) 0 1 (layout-none (scalar s) (width-absent s (sym size))) refl
+        units s (suc m) size =
+            let has = present-positive (widthOf s) (omega arith) in
+            unit-laid (scalar s) (suc m) 1 (layout-closed (scalar s) has has refl) (λ z. omega arith)

@@ -4,18 +4,18 @@
 -- over a scalar.
 -- Assumes nothing.
 use Prim.Native.Nat.{ℕ, _<_, _≤_}
-use mathlib.Core.Bool.{Bool, true, false}
+use mathlib.Core.Bool.{Bool, true, false, cond}
 use mathlib.Core.List.{List, [], _∷_}
 use mathlib.Core.Option.{Option, none, some}
 use mathlib.Core.Path.{_≡_, refl}
 use native.Mathlib.Omega.{arith}
-use borrow.Author.Tests.{le-leb}
-use Rattle.wgsl.specs.Types.{Scalar, Ty, isOpen, everywhere}
-use Rattle.wgsl.specs.Size.{isPresent, present, sizeOf, alignOf, minSizeOf, innerNumbersOf, numbersOf, withinLimits, fitsLimit, hasLayout, isPlain, isStorable}
+use borrow.Author.Tests.{le-leb, ne-eqb}
+use lib.Dec.{eqb}
+use Rattle.wgsl.specs.Types.{Scalar, Ty, isOpen}
+use Rattle.wgsl.specs.Size.{isPresent, present, sizeOf, alignOf, minSizeOf, innerNumbersOf, numbersOf, withinLimits, fitsLimit, hasLayout}
 use Rattle.wgsl.specs.Round.{limit, withinLimit}
 use Rattle.wgsl.specs.Rule.{when, andThen, isAllowed, givenFits}
-use Rattle.wgsl.specs.Place.{tailOf, wordCount}
-use Rattle.kinds.specs.Value.{kindOfType, tailOffset, elementStride, fixedWords, valueOf, verdictOn, madeOf}
+use Rattle.kinds.specs.Value.{kindOfType, narrowOf, partsOf, partWords, partStride, valueOf, verdictOn, madeOf}
 use Rattle.kinds.specs.declared.value.Layout.{Layout}
 use Rattle.kinds.specs.declared.value.Made.the-variants.{Laid, Rule}
 
@@ -54,53 +54,44 @@ pub layout-none : (t : Ty) → isPresent (alignOf t) ≡ false → hasLayout t �
 unfolding hasLayout
 layout-none t a = rw a
 
-pub words-laid : (t : Ty) → hasLayout t ≡ true → fixedWords t ≡ wordCount 0 t
-unfolding fixedWords
-words-laid t h = rw h
-
-pub words-none : (t : Ty) → hasLayout t ≡ false → fixedWords t ≡ 0
-unfolding fixedWords
-words-none t h = rw h
-
-pub storable-laid : (t : Ty) → hasLayout t ≡ true → isStorable t ≡ everywhere isPlain t
-unfolding isStorable
-storable-laid t h = rw h
-
-pub storable-none : (t : Ty) → hasLayout t ≡ false → isStorable t ≡ false
-unfolding isStorable
-storable-none t h = rw h
-
 -- ---- a layout's fields
 
-pub value-is : (t : Ty) (l : Layout) → l .kind ≡ kindOfType t → l .size ≡ present (sizeOf t) → l .align ≡ present (alignOf t) → l .stride ≡ present (elementStride t) → l .offset ≡ tailOffset (tailOf t) → l .words ≡ fixedWords t → l .opens ≡ isOpen t → l .storable ≡ isStorable t → l ≡ valueOf t
+pub value-is : (t : Ty) (l : Layout) → l .kind ≡ kindOfType t → l .narrow ≡ narrowOf t → l .count ≡ partsOf t → l .unit ≡ cond (hasLayout t) (partWords t) 0 → l .stride ≡ present (partStride t) → l .size ≡ present (sizeOf t) → l .align ≡ present (alignOf t) → l ≡ valueOf (l .reference) t
 unfolding valueOf
-value-is t l kind size align stride offset words opens storable =
-    rw (← kind, ← size, ← align, ← stride, ← offset, ← words, ← opens, ← storable)
+value-is t l kind narrow count unit stride size align =
+    rw (← kind, ← narrow, ← count, ← unit, ← stride, ← size, ← align)
+
+-- The words of a part, if there is an alignment, are those of a type that has a layout.
+pub unit-laid : (t : Ty) (a w : ℕ) → hasLayout t ≡ true → (a ≡ 0 → ⊥) → cond (eqb a 0) 0 w ≡ cond (hasLayout t) w 0
+unit-laid t a w h z = rw (h, ne-eqb a 0 z)
+
+pub unit-none : (t : Ty) (a w : ℕ) → hasLayout t ≡ false → a ≡ 0 → cond (eqb a 0) 0 w ≡ cond (hasLayout t) w 0
+unit-none t a w h z = rw (h, z)
 
 -- ---- the verdict
 
-verdict-rule : (t : Ty) → isAllowed t ≡ false → verdictOn t ≡ Rule
+verdict-rule : (r : ℕ) (t : Ty) → isAllowed t ≡ false → verdictOn r t ≡ Rule
 unfolding verdictOn
-verdict-rule t h = rw h
+verdict-rule r t h = rw h
 
-pub verdict-laid : (t : Ty) (l : Layout) → isAllowed t ≡ true → givenFits t ≡ true → fitsLimit t ≡ true → l ≡ valueOf t → verdictOn t ≡ Laid l
+pub verdict-laid : (t : Ty) (l : Layout) → isAllowed t ≡ true → givenFits t ≡ true → fitsLimit t ≡ true → l ≡ valueOf (l .reference) t → verdictOn (l .reference) t ≡ Laid l
 unfolding verdictOn
-verdict-laid t l a g f e = rw (a, g, f, e)
+verdict-laid t l a g f e = rw (a, g, f, ← e)
 
 -- ---- types that are made over a scalar
 
 -- A field that is not zero is refusal 5.
-pub made-used : {b : Bool} (x : Option Ty) → b ≡ false → madeOf (when b x) ≡ Rule
+pub made-used : (r : ℕ) {b : Bool} (x : Option Ty) → b ≡ false → madeOf r (when b x) ≡ Rule
 unfolding when madeOf
-made-used x h = rw h
+made-used r x h = rw h
 
 -- So is a type that is not allowed over the scalar, if there is one.
-pub made-rule : (b : Bool) (o : Option Scalar) (f : Scalar → Ty) → ((s : Scalar) → o ≡ some s → isAllowed (f s) ≡ false) → madeOf (when b (andThen o (λ s. some (f s)))) ≡ Rule
+pub made-rule : (r : ℕ) (b : Bool) (o : Option Scalar) (f : Scalar → Ty) → ((s : Scalar) → o ≡ some s → isAllowed (f s) ≡ false) → madeOf r (when b (andThen o (λ s. some (f s)))) ≡ Rule
 unfolding when andThen madeOf
-made-rule true (some s) f h = verdict-rule (f s) (h s refl)
-made-rule true none f h = refl
-made-rule false o f h = refl
+made-rule r true (some s) f h = verdict-rule r (f s) (h s refl)
+made-rule r true none f h = refl
+made-rule r false o f h = refl
 
-pub made-over : {b : Bool} {o : Option Scalar} (f : Scalar → Ty) {s : Scalar} → b ≡ true → o ≡ some s → madeOf (when b (andThen o (λ s. some (f s)))) ≡ verdictOn (f s)
+pub made-over : (r : ℕ) {b : Bool} {o : Option Scalar} (f : Scalar → Ty) {s : Scalar} → b ≡ true → o ≡ some s → madeOf r (when b (andThen o (λ s. some (f s)))) ≡ verdictOn r (f s)
 unfolding when andThen madeOf
-made-over f h e = rw (h, e)
+made-over r f h e = rw (h, e)

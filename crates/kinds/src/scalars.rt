@@ -3,14 +3,16 @@ use crate::value::Layout;
 use crate::value::Made;
 use file::fields::Entry;
 ghost use mathlib.Core.Path.{_≡_};
+ghost use mathlib.Core.Bool.{cond};
 ghost use mathlib.Core.List.{[], _∷_};
 ghost use Prim.Native.Nat.{_≤_};
+ghost use lib.Dec.{eqb};
 ghost use Rattle.wgsl.specs.Types.{Scalar};
-ghost use Rattle.wgsl.specs.Size.{present, widthOf, vectorAlign, isStored};
+ghost use Rattle.wgsl.specs.Size.{present, widthOf, vectorAlign};
 ghost use Rattle.wgsl.specs.Rule.{unused, scalarMade};
 ghost use Rattle.wgsl.specs.Rank.{kindOf};
 ghost use Rattle.file.specs.Fields.{entryIs};
-ghost use Rattle.kinds.specs.Value.{madeOf};
+ghost use Rattle.kinds.specs.Value.{storedWidth, madeOf};
 
 // Whether the fields are all zero.
 pub fn zeros(a: u32, b: u32, c: u32, d: u32) -> bool
@@ -42,15 +44,15 @@ pub fn scalar_size(kind: u32) -> u32
     0
 }
 
-// Whether a scalar may be stored.
-pub fn is_stored(kind: u32) -> bool
+// The bytes of a scalar that may be stored; 0 of any other.
+fn stored_width(kind: u32) -> u32
     requires { ⌜ kind ≤ 6 ⌝ }
-    ensures { λ r. ⌜ ((s : Scalar) → kindOf s ≡ kind → r ≡ isStored s) ⌝ }
+    ensures { λ r. ⌜ ((s : Scalar) → kindOf s ≡ kind → r ≡ storedWidth s) ⌝ }
 {
     if kind < 1 {
-        return false;
+        return 0;
     }
-    kind <= 4
+    scalar_size(kind)
 }
 
 // The alignment of a vector, and of a matrix column: 0 where it has none.
@@ -68,37 +70,33 @@ pub fn vector_align(rows: u32, kind: u32) -> u32
     4 * w
 }
 
+// The words of a part, of a type with this alignment: 0 where that is absent.
+pub fn unless_absent(align: u32, unit: u32) -> u32
+    ensures { λ r. ⌜ r ≡ cond (eqb align 0) 0 unit ⌝ }
+{
+    if align == 0 { 0 } else { unit }
+}
+
 // A scalar's entry: kinds 0 to 6.
 pub fn scalar_entry(e: Entry) -> Made
     requires { ⌜ e .kind ≤ 6 ⌝ }
-    ensures { λ r. ⌜ r ≡ madeOf (scalarMade (entryIs e)) ⌝ }
+    ensures { λ r. ⌜ r ≡ madeOf (e .reference) (scalarMade (entryIs e)) ⌝ }
 {
     let kind = e.kind;
     if !zeros(e.columns, e.rows, e.reference, e.count) {
         return Made::Rule;
     }
     let w = scalar_size(kind);
-    let storable = is_stored(kind);
-    if w == 0 {
-        return Made::Laid(Layout {
-            kind,
-            size: 0,
-            align: 0,
-            stride: 0,
-            offset: 0,
-            words: 0,
-            opens: false,
-            storable: false,
-        });
-    }
+    let narrow = stored_width(kind);
+    let unit = unless_absent(w, 1);
     Made::Laid(Layout {
         kind,
+        narrow,
+        reference: e.reference,
+        count: 1,
+        unit,
+        stride: w,
         size: w,
         align: w,
-        stride: 0,
-        offset: 0,
-        words: 1,
-        opens: false,
-        storable,
     })
 }

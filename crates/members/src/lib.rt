@@ -45,7 +45,7 @@ pub fn rest_is_zero(m: Member) -> bool
 
 // "A member type has size and alignment, except that the last may be a runtime array."
 pub fn is_allowed(l: Layout, last: bool) -> bool
-    ensures { λ r. ⌜ ((t : Ty) → l ≡ valueOf t → everywhere isWellFormed t ≡ true → r ≡ memberAllowed last t) ⌝ }
+    ensures { λ r. ⌜ ((t : Ty) → l ≡ valueOf (l .reference) t → everywhere isWellFormed t ≡ true → r ≡ memberAllowed last t) ⌝ }
 {
     if l.align == 0 {
         return false;
@@ -61,7 +61,7 @@ pub fn is_allowed(l: Layout, last: bool) -> bool
 
 // "A given size is at least the type's size and never stands on a runtime array."
 pub fn size_fits(m: Member, l: Layout) -> bool
-    ensures { λ r. ⌜ ((t : Ty) → l ≡ valueOf t → everywhere isWellFormed t ≡ true → r ≡ givenSizeFits t (givenSize (memberIs m))) ⌝ }
+    ensures { λ r. ⌜ ((t : Ty) → l ≡ valueOf (l .reference) t → everywhere isWellFormed t ≡ true → r ≡ givenSizeFits t (givenSize (memberIs m))) ⌝ }
 {
     if !size_given(m) {
         return true;
@@ -75,7 +75,7 @@ pub fn size_fits(m: Member, l: Layout) -> bool
 // "A given align is a power of two and a multiple of the type's alignment."
 pub fn align_fits(m: Member, l: Layout) -> bool
     requires { ⌜ 0 < l .align ⌝ }
-    ensures { λ r. ⌜ ((t : Ty) → l ≡ valueOf t → everywhere isWellFormed t ≡ true → r ≡ givenAlignFits t (givenAlign (memberIs m))) ⌝ }
+    ensures { λ r. ⌜ ((t : Ty) → l ≡ valueOf (l .reference) t → everywhere isWellFormed t ≡ true → r ≡ givenAlignFits t (givenAlign (memberIs m))) ⌝ }
 {
     if !align_given(m) {
         return true;

@@ -2,7 +2,6 @@ pub mod Limits
 pub mod Vectors
 pub mod Matrices
 pub mod Atomics
-pub mod Presence
 pub mod Arrays
 pub mod Runtimes
 pub mod Referring

@@ -1,26 +1,25 @@
 -- What becomes of a matrix's entry (crates/kinds, specs/Value), by its fields and by the layout that it refers to.
 --
--- In order: the scalars of a matrix; the ways to break a rule; the layout, without an alignment and with one.
+-- In order: the scalars of a matrix; the ways to break a rule; the layout.
 -- Assumes nothing.
-use Prim.Native.Nat.{ℕ, _*_, _<_, _≤_}
-use mathlib.Core.Bool.{true, false, _&&_, and-false}
+use Prim.Native.Nat.{ℕ, zero, suc, _*_, _<_, _≤_}
+use mathlib.Core.Bool.{true, false, cond, _&&_, and-false}
 use mathlib.Core.List.{[], _∷_}
 use mathlib.Core.Option.{Option, none, some}
 use mathlib.Core.Path.{_≡_, refl, sym, _∙_}
-use native.Mathlib.Nat.{mul-zero, mul-le-mul, pos-of-ne-zero}
+use native.Mathlib.Nat.{mul-le-mul}
 use native.Mathlib.Omega.{arith}
 use borrow.Author.Tests.{le-leb, lt-leb}
-use Rattle.wgsl.specs.Types.{Scalar, bool, i32, u32, f32, f16, abstractInt, abstractFloat, Ty, matrix, isOpen, everywhere}
-use Rattle.wgsl.specs.Size.{both, isPresent, present, vectorAlign, sizeOf, alignOf, minSizeOf, innerNumbersOf, isStored, isPlain}
+use lib.Dec.{eqb}
+use Rattle.wgsl.specs.Types.{Scalar, bool, i32, u32, f32, f16, abstractInt, abstractFloat, Ty, matrix, isOpen}
+use Rattle.wgsl.specs.Size.{both, isPresent, present, vectorAlign, sizeOf, alignOf, minSizeOf, innerNumbersOf, hasLayout}
 use Rattle.wgsl.specs.File.{TypeEntry, between}
 use Rattle.wgsl.specs.Rule.{andThen, unused, scalarIn, matrixMade, isMatrixScalar, isAllowed, givenFits}
-use Rattle.wgsl.specs.Place.{tailOf}
 use Rattle.wgsl.specs.Rank.{kindOf}
-use Rattle.wgsl.proofs.Count.{wordCount-matrix}
-use Rattle.kinds.proofs.Verdict.{present-positive, fits-small, layout-closed, layout-none, words-laid, words-none, storable-laid, storable-none, value-is, verdict-laid, made-used, made-rule, made-over}
+use Rattle.kinds.proofs.Verdict.{present-positive, fits-small, layout-closed, layout-none, value-is, unit-laid, unit-none, verdict-laid, made-used, made-rule, made-over}
 use Rattle.kinds.proofs.Scalar.{scalar-known, scalar-kind}
 use Rattle.kinds.proofs.Align.{times-present, align-absent}
-use Rattle.kinds.specs.Value.{kindOfType, tailOffset, elementStride, valueOf, madeOf}
+use Rattle.kinds.specs.Value.{kindOfType, storedWidth, narrowOf, partsOf, partWords, partStride, valueOf, madeOf}
 use Rattle.kinds.specs.declared.value.Layout.{Layout}
 use Rattle.kinds.specs.declared.value.Made.the-variants.{Laid, Rule}
 
@@ -63,51 +62,51 @@ times-there n none h = h
 
 -- ---- the entry
 
-module _ (t : Ty) (l : Layout) (is : l ≡ valueOf t) (e : TypeEntry) where
-  pub matrix-used : unused (e .count ∷ []) ≡ false → madeOf (matrixMade (some t) e) ≡ Rule
+module _ (t : Ty) (l : Layout) (is : l ≡ valueOf (l .reference) t) (e : TypeEntry) where
+  pub matrix-used : unused (e .count ∷ []) ≡ false → madeOf (e .reference) (matrixMade (some t) e) ≡ Rule
   unfolding matrixMade
-  matrix-used h = made-used _ h
+  matrix-used h = made-used _ _ h
 
-  other-scalar : ((s : Scalar) → kindOf s ≡ l .kind → l .kind ≤ 6 → isMatrixScalar s ≡ false) → madeOf (matrixMade (some t) e) ≡ Rule
+  other-scalar : ((s : Scalar) → kindOf s ≡ l .kind → l .kind ≤ 6 → isMatrixScalar s ≡ false) → madeOf (e .reference) (matrixMade (some t) e) ≡ Rule
   unfolding matrixMade andThen isAllowed
   other-scalar h =
-      made-rule _ (scalarIn t) (matrix (e .columns) (e .rows))
+      made-rule _ _ (scalarIn t) (matrix (e .columns) (e .rows))
       (λ s f. let (k, b) = scalar-kind t l s is f in rw (h s k b) (and-false (between 2 4 (e .columns) && between 2 4 (e .rows))))
 
   -- "reference to f32, f16 or abstract float"
-  pub matrix-low : l .kind < 3 → madeOf (matrixMade (some t) e) ≡ Rule
+  pub matrix-low : l .kind < 3 → madeOf (e .reference) (matrixMade (some t) e) ≡ Rule
   matrix-low h = other-scalar (λ s k b. scalar-low s (omega arith))
 
-  pub matrix-over : 6 < l .kind → madeOf (matrixMade (some t) e) ≡ Rule
+  pub matrix-over : 6 < l .kind → madeOf (e .reference) (matrixMade (some t) e) ≡ Rule
   matrix-over h = other-scalar (λ s k b. absurd (omega arith))
 
-  pub matrix-int : l .kind ≡ 5 → madeOf (matrixMade (some t) e) ≡ Rule
+  pub matrix-int : l .kind ≡ 5 → madeOf (e .reference) (matrixMade (some t) e) ≡ Rule
   matrix-int h = other-scalar (λ s k b. scalar-five s (omega arith))
 
   -- "columns 2-4"
-  pub columns-low : e .columns < 2 → madeOf (matrixMade (some t) e) ≡ Rule
+  pub columns-low : e .columns < 2 → madeOf (e .reference) (matrixMade (some t) e) ≡ Rule
   unfolding matrixMade andThen isAllowed between
   columns-low h =
-      made-rule _ (scalarIn t) (matrix (e .columns) (e .rows)) (λ s f. rw (lt-leb 2 (e .columns) h))
+      made-rule _ _ (scalarIn t) (matrix (e .columns) (e .rows)) (λ s f. rw (lt-leb 2 (e .columns) h))
 
-  pub columns-high : 4 < e .columns → madeOf (matrixMade (some t) e) ≡ Rule
+  pub columns-high : 4 < e .columns → madeOf (e .reference) (matrixMade (some t) e) ≡ Rule
   unfolding matrixMade andThen isAllowed between
   columns-high h =
-      made-rule _ (scalarIn t) (matrix (e .columns) (e .rows))
+      made-rule _ _ (scalarIn t) (matrix (e .columns) (e .rows))
       (λ s f. rw (le-leb 2 (e .columns) (omega arith), lt-leb (e .columns) 4 h))
 
   module _ (left : 2 ≤ e .columns) (right : e .columns ≤ 4) where
     -- "rows 2-4"
-    pub rows-low : e .rows < 2 → madeOf (matrixMade (some t) e) ≡ Rule
+    pub rows-low : e .rows < 2 → madeOf (e .reference) (matrixMade (some t) e) ≡ Rule
     unfolding matrixMade andThen isAllowed between
     rows-low h =
-        made-rule _ (scalarIn t) (matrix (e .columns) (e .rows))
+        made-rule _ _ (scalarIn t) (matrix (e .columns) (e .rows))
         (λ s f. rw (le-leb 2 (e .columns) left, le-leb (e .columns) 4 right, lt-leb 2 (e .rows) h))
 
-    pub rows-high : 4 < e .rows → madeOf (matrixMade (some t) e) ≡ Rule
+    pub rows-high : 4 < e .rows → madeOf (e .reference) (matrixMade (some t) e) ≡ Rule
     unfolding matrixMade andThen isAllowed between
     rows-high h =
-        made-rule _ (scalarIn t) (matrix (e .columns) (e .rows))
+        made-rule _ _ (scalarIn t) (matrix (e .columns) (e .rows))
         (λ s f. rw (
           le-leb 2 (e .columns) left,
           le-leb (e .columns) 4 right,
@@ -120,38 +119,36 @@ module _ (t : Ty) (l : Layout) (is : l ≡ valueOf t) (e : TypeEntry) where
       size-is : (s : Scalar) → kindOf s ≡ l .kind → present (both _*_ (some (e .columns)) (vectorAlign (e .rows) s)) ≡ e .columns * a
       size-is s k = rw (align s k) (times-present (e .columns) (vectorAlign (e .rows) s))
 
-      matrix-verdict : (v : Layout) → ((s : Scalar) → kindOf s ≡ l .kind → l .storable ≡ isStored s → v ≡ valueOf (matrix (e .columns) (e .rows) s)) → madeOf (matrixMade (some t) e) ≡ Laid v
+      matrix-verdict : (v : Layout) → v .reference ≡ e .reference → ((s : Scalar) → kindOf s ≡ l .kind → l .narrow ≡ storedWidth s → v ≡ valueOf (v .reference) (matrix (e .columns) (e .rows) s)) → madeOf (e .reference) (matrixMade (some t) e) ≡ Laid v
       unfolding matrixMade andThen isAllowed between givenFits sizeOf alignOf minSizeOf innerNumbersOf
-      matrix-verdict v h =
+      matrix-verdict v q h =
           let x = scalar-known t l is scalars in
           let s = x .scalar in
           let k = x .kind-is in
           let size : e .columns * a ≤ 64 = mul-le-mul right narrow in
-          made-over (matrix (e .columns) (e .rows)) zeros (x .found)
-          ∙ verdict-laid (matrix (e .columns) (e .rows) s) v
+          made-over _ (matrix (e .columns) (e .rows)) zeros (x .found)
+          ∙ rw (← q)
+          (verdict-laid (matrix (e .columns) (e .rows) s) v
           (rw (le-leb 2 (e .columns) left, le-leb (e .columns) 4 right, le-leb 2 (e .rows) top, le-leb (e .rows) 4 bottom)
           (scalar-float s (omega arith) (λ f. float (omega arith))))
           refl
           (fits-small (matrix (e .columns) (e .rows) s) refl (rw (size-is s k) size) (omega (arith, align s k)) refl)
-          (h s k (x .stored))
+          (h s k (x .narrow-is)))
 
-      pub matrix-absent : a ≡ 0 → madeOf (matrixMade (some t) e) ≡ Laid (record { kind = 8; size = 0; align = 0; stride = 0; offset = 0; words = 0; opens = false; storable = false })
-      unfolding kindOfType sizeOf alignOf elementStride tailOf tailOffset isOpen
-      matrix-absent z =
-          matrix-verdict _
-          (λ s k b. let absent : present (vectorAlign (e .rows) s) ≡ 0 = omega (arith, align s k) in
-          let bare = layout-none (matrix (e .columns) (e .rows) s) (align-absent (e .rows) s top absent) in
-          value-is (matrix (e .columns) (e .rows) s) _ refl (sym (size-is s k ∙ rw z (mul-zero (e .columns)))) (sym absent)
-          (sym absent) refl (sym (words-none (matrix (e .columns) (e .rows) s) bare)) refl
-          (sym (storable-none (matrix (e .columns) (e .rows) s) bare)))
-
-      pub matrix-laid : (a ≡ 0 → ⊥) → madeOf (matrixMade (some t) e) ≡ Laid (record { kind = 8; size = e .columns * a; align = a; stride = a; offset = 0; words = e .columns * e .rows; opens = false; storable = l .storable })
-      unfolding kindOfType sizeOf alignOf elementStride tailOf tailOffset isOpen everywhere isPlain
-      matrix-laid z =
-          matrix-verdict _
-          (λ s k b. let there = present-positive _ (rw (align s k) at (pos-of-ne-zero z)) in
-          let laid =
-          layout-closed (matrix (e .columns) (e .rows) s) there (times-there (e .columns) _ there) refl in
-          value-is (matrix (e .columns) (e .rows) s) _ refl (sym (size-is s k)) (align s k) (align s k) refl
-          (sym (words-laid (matrix (e .columns) (e .rows) s) laid ∙ wordCount-matrix 0 (e .columns) (e .rows) s)) refl
-          (b ∙ sym (storable-laid (matrix (e .columns) (e .rows) s) laid)))
+      -- The layout of a matrix: one with no alignment has no words.
+      pub matrix-laid : (u : ℕ) → u ≡ cond (eqb a 0) 0 (e .rows) → madeOf (e .reference) (matrixMade (some t) e) ≡ Laid (record { kind = 8; narrow = l .narrow; reference = e .reference; count = e .columns; unit = u; stride = a; size = e .columns * a; align = a })
+      unfolding kindOfType narrowOf partsOf partWords partStride sizeOf alignOf isOpen
+      matrix-laid u unit =
+          matrix-verdict _ refl
+          (λ s k b. value-is (matrix (e .columns) (e .rows) s) _ refl b refl (unit ∙ units s a (align s k)) (align s k)
+          (sym (size-is s k)) (align s k))
+        where
+          units : (s : Scalar) (a : ℕ) → a ≡ present (vectorAlign (e .rows) s) → cond {A = ℕ} (eqb a 0) 0 (e .rows) ≡ cond (hasLayout (matrix (e .columns) (e .rows) s)) (e .rows) 0
+          units s zero q =
+              unit-none (matrix (e .columns) (e .rows) s) 0 (e .rows)
+              (layout-none (matrix (e .columns) (e .rows) s) (align-absent (e .rows) s top (sym q))) refl
+          units s (suc m) q =
+              let there = present-positive (vectorAlign (e .rows) s) (omega arith) in
+              unit-laid (matrix (e .columns) (e .rows) s) (suc m) (e .rows)
+              (layout-closed (matrix (e .columns) (e .rows) s) there (times-there (e .columns) _ there) refl)
+              (λ z. omega arith)

@@ -10,26 +10,26 @@ use Rattle.kinds.specs.Value.{madeOf}
 use Rattle.kinds.specs.declared.value.Made.the-variants.{Rule}
 
 module _ (below : Option Ty) (e : TypeEntry) where
-  pub over-vector : e .kind ≡ 7 → madeOf (overMade below e) ≡ madeOf (vectorMade below e)
+  pub over-vector : e .kind ≡ 7 → madeOf (e .reference) (overMade below e) ≡ madeOf (e .reference) (vectorMade below e)
   unfolding overMade
   over-vector h = rw h
 
-  pub over-matrix : e .kind ≡ 8 → madeOf (overMade below e) ≡ madeOf (matrixMade below e)
+  pub over-matrix : e .kind ≡ 8 → madeOf (e .reference) (overMade below e) ≡ madeOf (e .reference) (matrixMade below e)
   unfolding overMade
   over-matrix h = rw h
 
-  pub over-array : e .kind ≡ 9 → madeOf (overMade below e) ≡ madeOf (arrayMade below e)
+  pub over-array : e .kind ≡ 9 → madeOf (e .reference) (overMade below e) ≡ madeOf (e .reference) (arrayMade below e)
   unfolding overMade
   over-array h = rw h
 
-  pub over-runtime : e .kind ≡ 10 → madeOf (overMade below e) ≡ madeOf (runtimeMade below e)
+  pub over-runtime : e .kind ≡ 10 → madeOf (e .reference) (overMade below e) ≡ madeOf (e .reference) (runtimeMade below e)
   unfolding overMade
   over-runtime h = rw h
 
-  pub over-atomic : e .kind ≡ 11 → madeOf (overMade below e) ≡ madeOf (atomicMade below e)
+  pub over-atomic : e .kind ≡ 11 → madeOf (e .reference) (overMade below e) ≡ madeOf (e .reference) (atomicMade below e)
   unfolding overMade
   over-atomic h = rw h
 
-  pub over-none : (e .kind ≡ 7 → ⊥) → (e .kind ≡ 8 → ⊥) → (e .kind ≡ 9 → ⊥) → (e .kind ≡ 10 → ⊥) → (e .kind ≡ 11 → ⊥) → madeOf (overMade below e) ≡ Rule
+  pub over-none : (e .kind ≡ 7 → ⊥) → (e .kind ≡ 8 → ⊥) → (e .kind ≡ 9 → ⊥) → (e .kind ≡ 10 → ⊥) → (e .kind ≡ 11 → ⊥) → madeOf (e .reference) (overMade below e) ≡ Rule
   unfolding madeOf overMade
   over-none a b c d f = rw (ne-eqb _ 7 a, ne-eqb _ 8 b, ne-eqb _ 9 c, ne-eqb _ 10 d, ne-eqb _ 11 f)

@@ -7,20 +7,17 @@ use mathlib.Core.Bool.{true, false, cond, and-false, or-true}
 use mathlib.Core.List.{[], _∷_}
 use mathlib.Core.Option.{none, some}
 use mathlib.Core.Path.{_≡_, _∙_}
-use native.Mathlib.Nat.{zero-mul}
 use borrow.Author.Tests.{le-leb, lt-leb}
 use Rattle.wgsl.specs.Round.{up, limit, withinLimit}
-use Rattle.wgsl.specs.Types.{Ty, runtime, isOpen, everywhere}
-use Rattle.wgsl.specs.Size.{both, isPresent, present, sizeOf, alignOf, strideOf, minSizeOf, innerNumbersOf, numbersOf, withinLimits, fitsLimit, hasLayout, isPlain, isStorable}
+use Rattle.wgsl.specs.Types.{Ty, runtime, isOpen}
+use Rattle.wgsl.specs.Size.{both, isPresent, present, sizeOf, alignOf, strideOf, minSizeOf, innerNumbersOf, numbersOf, withinLimits, fitsLimit, hasLayout}
 use Rattle.wgsl.specs.File.{TypeEntry}
 use Rattle.wgsl.specs.Rule.{when, andThen, unused, runtimeMade, isAllowed, givenFits}
-use Rattle.wgsl.specs.Place.{tailAt, tailOf}
-use Rattle.wgsl.proofs.Count.{wordCount-runtime}
 use Rattle.numbers.specs.Limit.{limited}
 use Rattle.numbers.specs.declared.limit.Limited.the-variants.{Is, TooLarge}
 use Rattle.over.proofs.Limits.{limited-is, limited-large}
-use Rattle.over.proofs.Presence.{Element, align-within}
-use Rattle.kinds.specs.Value.{kindOfType, tailOffset, elementStride, fixedWords, valueOf, verdictOn, madeOf}
+use Rattle.kinds.proofs.Presence.{Element, align-within}
+use Rattle.kinds.specs.Value.{kindOfType, narrowOf, partsOf, partWords, partStride, fixedWords, wordsIn, valueOf, verdictOn, madeOf}
 use Rattle.kinds.specs.declared.value.Layout.{Layout}
 use Rattle.kinds.specs.declared.value.Made.the-variants.{Laid, Rule, Large}
 
@@ -28,36 +25,36 @@ module _ (e : TypeEntry) (t : Ty) where
   -- ---- the fields
 
   -- "Fields a kind doesn't use are zero."
-  pub runtime-used : unused (e .columns ∷ e .rows ∷ e .count ∷ []) ≡ false → madeOf (runtimeMade (some t) e) ≡ Rule
+  pub runtime-used : unused (e .columns ∷ e .rows ∷ e .count ∷ []) ≡ false → madeOf (e .reference) (runtimeMade (some t) e) ≡ Rule
   unfolding madeOf runtimeMade when
   runtime-used h = rw h
 
   module _ (free : unused (e .columns ∷ e .rows ∷ e .count ∷ []) ≡ true) where
-    runtime-made : madeOf (runtimeMade (some t) e) ≡ verdictOn (runtime t)
+    runtime-made : madeOf (e .reference) (runtimeMade (some t) e) ≡ verdictOn (e .reference) (runtime t)
     unfolding madeOf runtimeMade when andThen
     runtime-made = rw free
 
     -- ---- the rules
 
     -- "An array's element isn't open"
-    pub runtime-open : isOpen t ≡ true → madeOf (runtimeMade (some t) e) ≡ Rule
+    pub runtime-open : isOpen t ≡ true → madeOf (e .reference) (runtimeMade (some t) e) ≡ Rule
     unfolding verdictOn isAllowed
     runtime-open h = runtime-made ∙ rw h
 
     -- "a runtime array's element also has size and alignment"
-    pub runtime-unaligned : alignOf t ≡ none → madeOf (runtimeMade (some t) e) ≡ Rule
+    pub runtime-unaligned : alignOf t ≡ none → madeOf (e .reference) (runtimeMade (some t) e) ≡ Rule
     unfolding verdictOn isAllowed isPresent
     runtime-unaligned h = runtime-made ∙ rw (h, and-false)
 
     -- ---- an element that has an alignment
 
     module _ (l : Layout) (x : Element t l) where
-      runtime-allowed : madeOf (runtimeMade (some t) e) ≡ cond (fitsLimit (runtime t)) (Laid (valueOf (runtime t))) Large
+      runtime-allowed : madeOf (e .reference) (runtimeMade (some t) e) ≡ cond (fitsLimit (runtime t)) (Laid (valueOf (e .reference) (runtime t))) Large
       unfolding verdictOn isAllowed givenFits isPresent
       runtime-allowed = runtime-made ∙ rw (x .closed, x .align-is, x .size-is)
 
       -- "its minimum size is one stride", past the limit
-      pub runtime-apart : limited (up (l .align) (l .size)) ≡ TooLarge → madeOf (runtimeMade (some t) e) ≡ Large
+      pub runtime-apart : limited (up (l .align) (l .size)) ≡ TooLarge → madeOf (e .reference) (runtimeMade (some t) e) ≡ Large
       unfolding fitsLimit withinLimits numbersOf minSizeOf innerNumbersOf strideOf sizeOf both withinLimit limit
       runtime-apart h =
           runtime-allowed
@@ -70,15 +67,14 @@ module _ (e : TypeEntry) (t : Ty) where
             simp (x .align-is, x .size-is, le-leb _ _ (limited-is _ stride apart .1), le-leb _ _ (align-within t l x))
 
         -- The layout of a runtime array.
-        pub runtime-laid : madeOf (runtimeMade (some t) e) ≡ Laid (record { kind = 10; size = 0; align = l .align; stride = stride; offset = 0; words = 0; opens = true; storable = l .storable })
-        unfolding valueOf kindOfType elementStride present tailAt tailOf tailOffset fixedWords hasLayout isPresent isOpen isStorable sizeOf strideOf both everywhere isPlain
+        pub runtime-laid : madeOf (e .reference) (runtimeMade (some t) e) ≡ Laid (record { kind = 10; narrow = l .narrow; reference = e .reference; count = 0; unit = wordsIn l; stride = stride; size = 0; align = l .align })
+        unfolding valueOf kindOfType narrowOf partsOf partWords partStride present fixedWords hasLayout isPresent isOpen sizeOf alignOf strideOf both
         runtime-laid =
             runtime-allowed
             ∙ rw (
               fits,
-              wordCount-runtime 0 t,
-              zero-mul,
-              ← x .storable-is,
+              x .words-is,
+              x .narrow-is,
               x .align-is,
               x .size-is,
               or-true (isOpen t),

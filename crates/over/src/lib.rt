@@ -1,10 +1,13 @@
 // The kinds that refer to one lower entry: 7 to 11. Each is handed that entry's layout.
 use file::fields::Entry;
 use kinds::scalars::scalar_size;
+use kinds::scalars::unless_absent;
 use kinds::scalars::vector_align;
 use kinds::scalars::zeros;
 use kinds::value::Layout;
 use kinds::value::Made;
+use kinds::value::opens;
+use kinds::value::words_of;
 use numbers::limit::Limited;
 use numbers::limit::product;
 use numbers::limit::round_up;
@@ -19,7 +22,7 @@ ghost use Rattle.kinds.specs.Value.{madeOf, Known, valueOf};
 // "7 vector: rows 2-4, reference to a kind 0-6"
 pub fn vector(e: Entry, l: Layout) -> Made
     requires { ⌜ Known l ⌝ }
-    ensures { λ r. ⌜ ((t : Ty) → l ≡ valueOf t → r ≡ madeOf (vectorMade (some t) (entryIs e))) ⌝ }
+    ensures { λ r. ⌜ ((t : Ty) → l ≡ valueOf (l .reference) t → r ≡ madeOf (e .reference) (vectorMade (some t) (entryIs e))) ⌝ }
 {
     let rows = e.rows;
     let kind = l.kind;
@@ -37,34 +40,23 @@ pub fn vector(e: Entry, l: Layout) -> Made
     }
     let w = scalar_size(kind);
     let align = vector_align(rows, kind);
-    if align == 0 {
-        return Made::Laid(Layout {
-            kind: 7,
-            size: rows * w,
-            align: 0,
-            stride: w,
-            offset: 0,
-            words: 0,
-            opens: false,
-            storable: false,
-        });
-    }
+    let unit = unless_absent(align, 1);
     Made::Laid(Layout {
         kind: 7,
+        narrow: l.narrow,
+        reference: e.reference,
+        count: rows,
+        unit,
+        stride: w,
         size: rows * w,
         align,
-        stride: w,
-        offset: 0,
-        words: rows,
-        opens: false,
-        storable: l.storable,
     })
 }
 
 // "8 matrix: columns 2-4, rows 2-4, reference to f32, f16 or abstract float"
 pub fn matrix(e: Entry, l: Layout) -> Made
     requires { ⌜ Known l ⌝ }
-    ensures { λ r. ⌜ ((t : Ty) → l ≡ valueOf t → r ≡ madeOf (matrixMade (some t) (entryIs e))) ⌝ }
+    ensures { λ r. ⌜ ((t : Ty) → l ≡ valueOf (l .reference) t → r ≡ madeOf (e .reference) (matrixMade (some t) (entryIs e))) ⌝ }
 {
     let columns = e.columns;
     let rows = e.rows;
@@ -94,34 +86,23 @@ pub fn matrix(e: Entry, l: Layout) -> Made
         return Made::Rule;
     }
     let align = vector_align(rows, kind);
-    if align == 0 {
-        return Made::Laid(Layout {
-            kind: 8,
-            size: 0,
-            align: 0,
-            stride: 0,
-            offset: 0,
-            words: 0,
-            opens: false,
-            storable: false,
-        });
-    }
+    let unit = unless_absent(align, rows);
     Made::Laid(Layout {
         kind: 8,
+        narrow: l.narrow,
+        reference: e.reference,
+        count: columns,
+        unit,
+        stride: align,
         size: columns * align,
         align,
-        stride: align,
-        offset: 0,
-        words: columns * rows,
-        opens: false,
-        storable: l.storable,
     })
 }
 
 // "9 array: reference, count at least 1"; an array's element isn't open.
 pub fn array(e: Entry, l: Layout) -> Made
     requires { ⌜ Known l ⌝ }
-    ensures { λ r. ⌜ ((t : Ty) → l ≡ valueOf t → everywhere isWellFormed t ≡ true → r ≡ madeOf (arrayMade (some t) (entryIs e))) ⌝ }
+    ensures { λ r. ⌜ ((t : Ty) → l ≡ valueOf (l .reference) t → everywhere isWellFormed t ≡ true → r ≡ madeOf (e .reference) (arrayMade (some t) (entryIs e))) ⌝ }
 {
     let count = e.count;
     if !zeros(e.columns, e.rows, 0, 0) {
@@ -130,22 +111,22 @@ pub fn array(e: Entry, l: Layout) -> Made
     if count < 1 {
         return Made::Rule;
     }
-    if l.opens {
+    if opens(l) {
         return Made::Rule;
     }
     let align = l.align;
     let element = l.size;
-    let words = l.words;
+    let unit = words_of(l);
     if align == 0 {
         return Made::Laid(Layout {
             kind: 9,
+            narrow: l.narrow,
+            reference: e.reference,
+            count,
+            unit: 0,
+            stride: 0,
             size: 0,
             align: 0,
-            stride: 0,
-            offset: 0,
-            words: 0,
-            opens: false,
-            storable: false,
         });
     }
     let Limited::Is(stride) = round_up(align, element) else {
@@ -156,25 +137,25 @@ pub fn array(e: Entry, l: Layout) -> Made
     };
     Made::Laid(Layout {
         kind: 9,
+        narrow: l.narrow,
+        reference: e.reference,
+        count,
+        unit,
+        stride,
         size,
         align,
-        stride,
-        offset: 0,
-        words: count * words,
-        opens: false,
-        storable: l.storable,
     })
 }
 
 // "10 runtime array: reference"; its element isn't open, and has size and alignment.
 pub fn runtime(e: Entry, l: Layout) -> Made
     requires { ⌜ Known l ⌝ }
-    ensures { λ r. ⌜ ((t : Ty) → l ≡ valueOf t → everywhere isWellFormed t ≡ true → r ≡ madeOf (runtimeMade (some t) (entryIs e))) ⌝ }
+    ensures { λ r. ⌜ ((t : Ty) → l ≡ valueOf (l .reference) t → everywhere isWellFormed t ≡ true → r ≡ madeOf (e .reference) (runtimeMade (some t) (entryIs e))) ⌝ }
 {
     if !zeros(e.columns, e.rows, e.count, 0) {
         return Made::Rule;
     }
-    if l.opens {
+    if opens(l) {
         return Made::Rule;
     }
     let align = l.align;
@@ -186,20 +167,20 @@ pub fn runtime(e: Entry, l: Layout) -> Made
     };
     Made::Laid(Layout {
         kind: 10,
+        narrow: l.narrow,
+        reference: e.reference,
+        count: 0,
+        unit: words_of(l),
+        stride,
         size: 0,
         align,
-        stride,
-        offset: 0,
-        words: 0,
-        opens: true,
-        storable: l.storable,
     })
 }
 
 // "11 atomic: reference to i32 or u32"
 pub fn atomic(e: Entry, l: Layout) -> Made
     requires { ⌜ Known l ⌝ }
-    ensures { λ r. ⌜ ((t : Ty) → l ≡ valueOf t → r ≡ madeOf (atomicMade (some t) (entryIs e))) ⌝ }
+    ensures { λ r. ⌜ ((t : Ty) → l ≡ valueOf (l .reference) t → r ≡ madeOf (e .reference) (atomicMade (some t) (entryIs e))) ⌝ }
 {
     let kind = l.kind;
     if !zeros(e.columns, e.rows, e.count, 0) {
@@ -213,20 +194,20 @@ pub fn atomic(e: Entry, l: Layout) -> Made
     }
     Made::Laid(Layout {
         kind: 11,
+        narrow: 4,
+        reference: e.reference,
+        count: 1,
+        unit: 1,
+        stride: 4,
         size: 4,
         align: 4,
-        stride: 0,
-        offset: 0,
-        words: 1,
-        opens: false,
-        storable: true,
     })
 }
 
 // An entry of a kind 7 to 11.
 pub fn over_entry(e: Entry, l: Layout) -> Made
     requires { ⌜ Known l ⌝ }
-    ensures { λ r. ⌜ ((t : Ty) → l ≡ valueOf t → everywhere isWellFormed t ≡ true → r ≡ madeOf (overMade (some t) (entryIs e))) ⌝ }
+    ensures { λ r. ⌜ ((t : Ty) → l ≡ valueOf (l .reference) t → everywhere isWellFormed t ≡ true → r ≡ madeOf (e .reference) (overMade (some t) (entryIs e))) ⌝ }
 {
     let kind = e.kind;
     if kind == 7 {

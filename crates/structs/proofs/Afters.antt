@@ -1,10 +1,10 @@
 -- Members, and one more after them (`after`, specs/Run).
 --
--- In order: the largest of several numbers; where they end and start; their alignment; their tail; what holds of every member; their
--- words; what the limit applies to.
+-- In order: the largest of several numbers; where they end and start; their alignment; whether they end in a runtime array; what holds
+-- of every member; their words, how many they are, and the narrowest; what the limit applies to.
 -- Assumes nothing.
-use Prim.Native.Nat.{ℕ, suc, _+_, max}
-use mathlib.Core.Bool.{Bool, false, _&&_, and-true, and-assoc}
+use Prim.Native.Nat.{ℕ, suc, _+_, max, min}
+use mathlib.Core.Bool.{Bool, _&&_, and-true, and-assoc}
 use mathlib.Core.List.{List, [], _∷_, _++_}
 use mathlib.Core.Option.{Option, none, some}
 use mathlib.Core.Path.{_≡_, refl, sym, ap}
@@ -12,10 +12,9 @@ use native.Mathlib.Omega.{arith}
 use Rattle.wgsl.specs.Round.{withinLimit}
 use Rattle.wgsl.specs.Types.{Ty, Members, no-more, member, isRuntime, endsInRuntime, everywhere, everyMember}
 use Rattle.wgsl.specs.Size.{both, givenOr, sizeOf, alignOf, membersAlign, membersEnd, offsetsOf, withinLimits, memberStart, memberEnd}
-use Rattle.wgsl.specs.Rule.{countOf, memberAllowed, givenSizeFits, givenAlignFits, membersGivenFit}
-use Rattle.wgsl.specs.Place.{Tail, tailAt, membersTail}
-use Rattle.kinds.specs.Value.{fixedWords}
-use Rattle.structs.specs.Run.{after, wordsOfMembers, allSized}
+use Rattle.wgsl.specs.Rule.{countOf, givenSizeFits, givenAlignFits, membersGivenFit}
+use Rattle.kinds.specs.Value.{fixedWords, narrowOf, narrowest}
+use Rattle.structs.specs.Run.{after, wordsOfMembers}
 
 -- ---- the largest of several numbers
 
@@ -56,14 +55,7 @@ module _ (t : Ty) (size align : Option ℕ) where
   after-align (member u z a ms) =
       rw (after-align ms) (max-assoc (givenOr a (alignOf u)) (membersAlign ms) (givenOr align (alignOf t)))
 
-  -- ---- their tail
-
-  pub after-tail : (before : Option Tail) (end : Option ℕ) (ms : Members) → membersTail before end (after ms t size align) ≡ tailAt (memberStart (membersEnd end ms) align (alignOf t)) t
-  unfolding after membersTail membersEnd
-  after-tail before end no-more = refl
-  after-tail before end (member u z a ms) =
-      after-tail (tailAt (memberStart end a (alignOf u)) u)
-      (memberEnd end a (alignOf u) z (sizeOf u)) ms
+  -- ---- whether they end in a runtime array
 
   pub after-runtime : (before : Bool) (ms : Members) → endsInRuntime before (after ms t size align) ≡ isRuntime t
   unfolding after endsInRuntime
@@ -86,13 +78,7 @@ module _ (t : Ty) (size align : Option ℕ) where
       (sym (and-assoc (givenSizeFits u z && givenAlignFits u a) (membersGivenFit ms)
       (givenSizeFits t size && givenAlignFits t align)))
 
-  pub after-sized : (ms : Members) → allSized (after ms t size align) ≡ (allSized ms && memberAllowed false t)
-  unfolding after allSized
-  after-sized no-more = and-true (memberAllowed false t)
-  after-sized (member u z a ms) =
-      rw (after-sized ms) (sym (and-assoc (memberAllowed false u) (allSized ms) (memberAllowed false t)))
-
-  -- ---- their words, and how many they are
+  -- ---- their words, how many they are, and the narrowest
 
   pub after-words : (ms : Members) → wordsOfMembers (after ms t size align) ≡ wordsOfMembers ms + fixedWords t
   unfolding after wordsOfMembers
@@ -103,6 +89,11 @@ module _ (t : Ty) (size align : Option ℕ) where
   unfolding after countOf
   after-count no-more = refl
   after-count (member u z a ms) = ap suc (after-count ms)
+
+  pub after-narrow : (ms : Members) → narrowest (after ms t size align) ≡ min (narrowest ms) (narrowOf t)
+  unfolding after narrowest
+  after-narrow no-more = omega arith
+  after-narrow (member u z a ms) = omega (arith, after-narrow ms)
 
 -- ---- what the limit applies to
 

@@ -3,24 +3,21 @@
 -- In order: one member more; members that rule 5 refuses, and so the struct.
 -- Assumes nothing.
 use Prim.Native.Nat.{ℕ, zero, suc, _+_, _*_, _<_, _≤_}
-use mathlib.Core.Bool.{Bool, true, false, _&&_, _||_, and-assoc, and-true, and-false}
+use mathlib.Core.Bool.{Bool, true, false, _&&_, and-assoc, and-true, and-false}
 use mathlib.Core.List.{List}
 use mathlib.Core.Logic.{⊎-elim}
 use mathlib.Core.Option.{Option, none, some}
-use mathlib.Core.Path.{_≡_, refl, sym, ap}
+use mathlib.Core.Path.{_≡_, refl, sym}
 use native.Mathlib.Omega.{arith}
 use native.Mathlib.Nat.{eq-or-lt-of-le}
 use borrow.Author.Tests.{eq-eqb, ne-eqb}
 use lib.Dec.{eqb}
-use Rattle.wgsl.specs.Types.{Ty, struct, Members, no-more, member, everywhere, everyMember}
-use Rattle.wgsl.specs.Size.{isPresent, sizeOf, alignOf}
+use Rattle.wgsl.specs.Types.{Ty, struct, Members, no-more, member}
 use Rattle.wgsl.specs.File.{between, MemberEntry, memberEntryFrom, givenSize, givenAlign, restIsZero}
 use Rattle.wgsl.specs.Rule.{andThen, lower, countOf, isLast, memberAllowed, membersAllowed, isAllowed}
-use Rattle.wgsl.proofs.Absent.{both-hold, either-holds, true-not-false}
 use Rattle.wgsl.proofs.Said.{when-some, andThen-some}
 use Rattle.kinds.specs.declared.value.Made.the-variants.{Rule}
 use Rattle.kinds.specs.Value.{verdictOn, madeOf}
-use Rattle.structs.specs.declared.Stepped.the-variants as stepped
 use Rattle.structs.specs.Run.{after, followed, allSized}
 use Rattle.structs.proofs.Froms.{joined, membersAt}
 
@@ -30,18 +27,6 @@ is-last-after : (ms : Members) (t : Ty) (size align : Option ℕ) → isLast (af
 unfolding isLast after
 is-last-after no-more t size align = refl
 is-last-after (member u s a ms) t size align = refl
-
-pub count-after : (ms : Members) (t : Ty) (size align : Option ℕ) → countOf (after ms t size align) ≡ suc (countOf ms)
-unfolding countOf after
-count-after no-more t size align = refl
-count-after (member u s a ms) t size align = ap suc (count-after ms t size align)
-
-pub every-after : (p : Ty → Bool) (ms : Members) (t : Ty) (size align : Option ℕ) → everyMember p ms ≡ true → everywhere p t ≡ true → everyMember p (after ms t size align) ≡ true
-unfolding everyMember after
-every-after p no-more t size align w x = rw x
-every-after p (member u s a ms) t size align w x =
-    let b = both-hold (everywhere p u) (everyMember p ms) w in
-    rw (b .0) (every-after p ms t size align (b .1) x)
 
 -- rule 5 of members that are all (last) or that more follow
 unfoldable pub allowedSo : Bool → Members → Bool
@@ -57,20 +42,11 @@ allowed-after true (member u s a ms) t size align =
 allowed-after false (member u s a ms) t size align =
     rw (allowed-after false ms t size align) (sym (and-assoc (memberAllowed false u) (allSized ms) (memberAllowed false t)))
 
--- a member that more may follow may be the last
-pub allowed-last : (last : Bool) (t : Ty) → memberAllowed last t ≡ true → memberAllowed true t ≡ true
-unfolding memberAllowed
-allowed-last true t e = e
-allowed-last false t e =
-    let b = both-hold (isPresent (alignOf t)) (isPresent (sizeOf t) || false) e in
-    ⊎-elim (λ (p : isPresent (sizeOf t) ≡ true). rw (b .0, p)) (λ (p : false ≡ true). true-not-false p refl)
-    (either-holds (isPresent (sizeOf t)) false (b .1))
-
 -- ---- members that rule 5 refuses
 
-not-allowed : (k : ℕ) (ms : Members) → membersAllowed ms ≡ false → verdictOn (struct k ms) ≡ Rule
+not-allowed : (r k : ℕ) (ms : Members) → membersAllowed ms ≡ false → verdictOn r (struct k ms) ≡ Rule
 unfolding verdictOn isAllowed
-not-allowed k ms e = rw (e, and-false (between 1 1024 (countOf ms)))
+not-allowed r k ms e = rw (e, and-false (between 1 1024 (countOf ms)))
 
 joined-some : (ts : List Ty) (e : MemberEntry) (ms xs : Members) → joined ts e ms ≡ some xs → (t : Ty) × (xs ≡ followed ms t e)
 unfolding joined
@@ -113,10 +89,10 @@ module _ (f : List ℕ) (ts : List Ty) (at : ℕ) where
       (eq-or-lt-of-le m)
 
   -- Where the members up to i are refused, the struct is.
-  pub refused-members : (i n k : ℕ) → i < n → ((ms : Members) → membersAt f ts at (suc i) ≡ some ms → allowedSo (eqb (i + 1) n) ms ≡ false) → madeOf (andThen (membersAt f ts at n) (λ ms. some (struct k ms))) ≡ Rule
+  pub refused-members : (r i n k : ℕ) → i < n → ((ms : Members) → membersAt f ts at (suc i) ≡ some ms → allowedSo (eqb (i + 1) n) ms ≡ false) → madeOf r (andThen (membersAt f ts at n) (λ ms. some (struct k ms))) ≡ Rule
   unfolding andThen madeOf
-  refused-members i n k l h = go (membersAt f ts at n) (refused-stays i n l h)
+  refused-members r i n k l h = go (membersAt f ts at n) (refused-stays i n l h)
     where
-      go : (o : Option Members) → ((ms : Members) → o ≡ some ms → membersAllowed ms ≡ false) → madeOf (andThen o (λ ms. some (struct k ms))) ≡ Rule
+      go : (o : Option Members) → ((ms : Members) → o ≡ some ms → membersAllowed ms ≡ false) → madeOf r (andThen o (λ ms. some (struct k ms))) ≡ Rule
       go none q = refl
-      go (some ms) q = not-allowed k ms (q ms refl)
+      go (some ms) q = not-allowed r k ms (q ms refl)

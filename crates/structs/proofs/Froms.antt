@@ -4,20 +4,18 @@
 -- Assumes nothing.
 use Prim.Native.Nat.{ℕ, zero, suc, _+_, _*_, _<_, _≤_}
 use mathlib.Core.Bool.{Bool, true, false}
-use mathlib.Core.List.{List, [], _∷_, map}
+use mathlib.Core.List.{List, [], _∷_}
 use mathlib.Core.Option.{Option, none, some}
 use mathlib.Core.Path.{_≡_, refl, sym, ap, _∙_}
 use native.Mathlib.Omega.{arith}
 use lib.ListN.{length, getD, getElem?}
-use lib.Seq.{getD-take}
 use Rattle.wgsl.specs.Types.{Ty, struct, Members, no-more, member, everywhere}
-use Rattle.wgsl.specs.File.{MemberEntry, memberEntryFrom, memberEntryAt, givenSize, givenAlign, restIsZero, memberEntryLength}
+use Rattle.wgsl.specs.File.{typeEntryAt, MemberEntry, memberEntryFrom, memberEntryAt, givenSize, givenAlign, restIsZero, memberEntryLength}
 use Rattle.wgsl.specs.Rule.{when, andThen, lower, membersFrom, isWellFormed}
-use Rattle.wgsl.proofs.Absent.{some-not-none}
-use Rattle.kinds.specs.declared.value.Layout.{Layout}
+use Rattle.wgsl.proofs.AtEntry.{getElem-past, getElem-getD}
 use Rattle.kinds.specs.declared.value.Made.{Made}
-use Rattle.kinds.specs.Value.{valueOf, madeOf}
-use Rattle.structs.specs.declared.Stepped.the-variants as stepped
+use Rattle.kinds.specs.Value.{valueOf, layoutAt, madeOf}
+use Rattle.kinds.proofs.Values.{own-reference, value-held}
 use Rattle.structs.specs.Run.{Lower, after, followed, memberPlace}
 
 -- ---- members from the front and from the back
@@ -72,47 +70,37 @@ members-at f ts (suc n) first =
     ∙ sym (front f ts (memberPlace f first) n)
 
 -- What the members from byte `at` on make, those from number `first` on make, if that is where they lie.
-pub from-first : (f : List ℕ) (ts : List Ty) (at n first k : ℕ) (x : Made) → madeOf (andThen (membersAt f ts at n) (λ ms. some (struct k ms))) ≡ x → at ≡ memberPlace f first → x ≡ madeOf (andThen (membersFrom f ts n first) (λ ms. some (struct k ms)))
-from-first f ts at n first k x e p = sym (rw (members-at f ts n first, ← p) e)
+pub from-first : (f : List ℕ) (ts : List Ty) (r at n first k : ℕ) (x : Made) → madeOf r (andThen (membersAt f ts at n) (λ ms. some (struct k ms))) ≡ x → at ≡ memberPlace f first → x ≡ madeOf r (andThen (membersFrom f ts n first) (λ ms. some (struct k ms)))
+from-first f ts r at n first k x e p = sym (rw (members-at f ts n first, ← p) e)
 
 -- ---- the lower entries
 
-getElem-below : {A : Type 0} (l : List A) (r : ℕ) → r < length l → (a : A) × (getElem? l r ≡ some a)
-getElem-below [] r h = absurd (omega arith)
-getElem-below (a ∷ l) zero h = (a, refl)
-getElem-below (a ∷ l) (suc r) h = getElem-below l r (omega arith)
-
-getElem-past : {A : Type 0} (l : List A) (r : ℕ) → length l ≤ r → getElem? l r ≡ none
-getElem-past [] r h = refl
-getElem-past (a ∷ l) zero h = absurd (omega arith)
-getElem-past (a ∷ l) (suc r) h = getElem-past l r (omega arith)
-
-map-at : {A B : Type 0} (g : A → B) (l : List A) (r : ℕ) (a : A) (d : B) → getElem? l r ≡ some a → getD (map g l) r d ≡ g a
-map-at g [] r a d e = some-not-none e refl
-map-at g (b ∷ l) zero a d e = let q : b ≡ a = cc in ap g q
-map-at g (b ∷ l) (suc r) a d e = map-at g l r a d e
-
--- the type of entry r, whose layout the table holds
-pub record Found (ls : List Layout) (ts : List Ty) (r : ℕ) (d : Layout) : Type 0 where
+-- the type of entry r, whose value the table holds
+pub record Found (f : List ℕ) (table : List (List ℕ)) (ts : List Ty) (r : ℕ) : Type 0 where
   pub type : Ty
   pub is : lower ts r ≡ some type
-  pub layout : getD ls r d ≡ valueOf type
+  pub value : layoutAt table r ≡ valueOf (typeEntryAt f r .reference) type
+  pub layout : layoutAt table r ≡ valueOf (layoutAt table r .reference) type
   pub well-formed : everywhere isWellFormed type ≡ true
 
-pub lower-found : (ls : List Layout) (k : ℕ) (ts : List Ty) (r : ℕ) (d : Layout) → Lower ls k ts → r < k → Found ls ts r d
+pub getElem-below : {A : Type 0} (l : List A) (r : ℕ) → r < length l → (a : A) × (getElem? l r ≡ some a)
+getElem-below [] r h = absurd (omega arith)
+getElem-below (a ∷ l) r h = (getD (a ∷ l) r a, getElem-getD (a ∷ l) r a h)
+
+pub lower-found : (f : List ℕ) (table : List (List ℕ)) (k : ℕ) (ts : List Ty) (r : ℕ) → Lower f table k ts → r < k → Found f table ts r
 unfolding lower
-lower-found ls k ts r d low h =
+lower-found f table k ts r low h =
     let x : r < length ts = omega (arith, low .count) in
     let t = getElem-below ts r x in
+    let value = value-held f table ts r (t .0) (low .holds .first) (t .1) in
     record {
       type = t .0;
       is = t .1;
-      layout =
-          sym (getD-take (length ts) ls r d x) ∙ ap (λ (l : List Layout). getD l r d) (low .holds .first)
-          ∙ map-at valueOf ts r (t .0) d (t .1);
+      value = value;
+      layout = own-reference _ (t .0) value;
       well-formed = low .holds .well-formed r (t .0) (t .1);
     }
 
-pub lower-past : (ls : List Layout) (k : ℕ) (ts : List Ty) (r : ℕ) → Lower ls k ts → k ≤ r → lower ts r ≡ none
+pub lower-past : (f : List ℕ) (table : List (List ℕ)) (k : ℕ) (ts : List Ty) (r : ℕ) → Lower f table k ts → k ≤ r → lower ts r ≡ none
 unfolding lower
-lower-past ls k ts r low h = getElem-past ts r (omega (arith, low .count))
+lower-past f table k ts r low h = getElem-past ts r (omega (arith, low .count))

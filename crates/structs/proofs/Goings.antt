@@ -1,22 +1,22 @@
 -- Members that more may follow (`Going`, specs/Run): each has a size.
 --
--- In order: one member; where they end; their alignment; no runtime array; their words.
+-- In order: one member; where they end; their alignment; their words.
 -- Assumes nothing.
 use Prim.Native.Nat.{ℕ, _+_, _*_, _<_, _≤_, max}
 use mathlib.Core.Bool.{Bool, true, false, cond, _&&_, _||_, or-false}
-use mathlib.Core.Option.{Option, none, some}
+use mathlib.Core.Option.{Option, some}
 use mathlib.Core.Path.{_≡_, refl, sym, ap, _∙_}
 use native.Mathlib.Omega.{arith}
 use Rattle.wgsl.specs.Round.{up}
-use Rattle.wgsl.specs.Types.{Ty, struct, Members, no-more, member, isRuntime, endsInRuntime, isOpen, everywhere, everyMember}
+use Rattle.wgsl.specs.Types.{Ty, Members, no-more, member, isRuntime, everywhere, everyMember}
 use Rattle.wgsl.specs.Size.{both, givenOr, isPresent, startAfter, endAfter, sizeOf, alignOf, membersAlign, membersEnd, hasLayout, memberEnd}
 use Rattle.wgsl.specs.Rule.{memberAllowed, givenSizeFits, givenAlignFits, membersGivenFit, isWellFormed}
-use Rattle.wgsl.specs.Place.{membersTail, tailOf, wordCount}
+use Rattle.wgsl.specs.Place.{wordCount}
 use Rattle.wgsl.proofs.Absent.{both-hold, some-not-none, present-some, given-present, some-present}
 use Rattle.wgsl.proofs.Round.{up-not-below}
 use Rattle.wgsl.proofs.Power.{power-positive}
 use Rattle.wgsl.proofs.Align.{align-power, member-aligned}
-use Rattle.wgsl.proofs.Tail.{runtime-unsized, closed-tail}
+use Rattle.wgsl.proofs.Tail.{runtime-unsized}
 use Rattle.wgsl.proofs.Members.{sized, next-member}
 use Rattle.wgsl.proofs.Count.{words-bounded}
 use Rattle.kinds.specs.Value.{fixedWords}
@@ -98,23 +98,6 @@ going-align (member t size align ms) e =
     let a = given-present align (alignOf t) (some-present (f .0 .aligned-is)) in
     let rest = going-align ms (f .1) in
     (max (a .0) (rest .0), rw (a .1, rest .1))
-
--- ---- no runtime array
-
-pub going-closed : (ms : Members) → allSized ms ≡ true → endsInRuntime false ms ≡ false
-unfolding endsInRuntime
-going-closed ms e = go false ms refl e
-  where
-    go : (b : Bool) (ms : Members) → b ≡ false → allSized ms ≡ true → endsInRuntime b ms ≡ false
-    go b no-more h e = h
-    go b (member t size align ms) h e =
-        let f = first-sized t size align ms e in
-        go (isRuntime t) ms (sized-not-runtime t (f .0 .own) (f .0 .own-is)) (f .1)
-
--- Members that do not end in a runtime array have no tail.
-pub closed-members : (ms : Members) → endsInRuntime false ms ≡ false → membersTail none (some 0) ms ≡ none
-unfolding isOpen tailOf
-closed-members ms e = closed-tail (struct 0 ms) e
 
 -- ---- their words
 

@@ -25,7 +25,7 @@ use Rattle.structs.proofs.Goings.{member-align, going-end}
 use Rattle.structs.proofs.Runs.{placed-before, unfit-size, unfit-align, unfit-before, large-before}
 
 -- What may follow may also be the last.
-allowed-last : (last : Bool) (t : Ty) → memberAllowed last t ≡ true → memberAllowed true t ≡ true
+pub allowed-last : (last : Bool) (t : Ty) → memberAllowed last t ≡ true → memberAllowed true t ≡ true
 unfolding memberAllowed
 allowed-last last t e =
     let c = both-hold (isPresent (alignOf t)) (isPresent (sizeOf t) || (last && isRuntime t)) e in
@@ -39,7 +39,7 @@ unfolding memberAllowed
 aligned last t e = both-hold (isPresent (alignOf t)) (isPresent (sizeOf t) || (last && isRuntime t)) e .0
 
 -- The layout of a member's type has an alignment.
-pub layout-aligned : (l : Layout) (last : Bool) (t : Ty) → l ≡ valueOf t → everywhere isWellFormed t ≡ true → memberAllowed last t ≡ true → 0 < l .align
+pub layout-aligned : (l : Layout) (last : Bool) (t : Ty) → l ≡ valueOf (l .reference) t → everywhere isWellFormed t ≡ true → memberAllowed last t ≡ true → 0 < l .align
 unfolding valueOf present
 layout-aligned l last t is w e =
     let a = present-some (alignOf t) (aligned last t e) in

@@ -11,24 +11,24 @@ use native.Mathlib.Omega.{arith}
 use native.Mathlib.Numerals.{add-one}
 use borrow.Author.Tests.{ne-eqb}
 use lib.Dec.{eqb}
-use lib.ListN.{getD}
 use Rattle.wgsl.specs.Types.{Ty, struct, Members, no-more, endsInRuntime, everywhere, everyMember}
-use Rattle.wgsl.specs.Size.{present, membersEnd, offsetsOf, withinLimits}
+use Rattle.wgsl.specs.Size.{present, membersAlign, membersEnd, offsetsOf, withinLimits}
 use Rattle.wgsl.specs.Round.{withinLimit, limit}
-use Rattle.wgsl.specs.Place.{membersTail}
 use Rattle.wgsl.specs.File.{MemberEntry, memberEntryFrom, givenSize, givenAlign, restIsZero}
 use Rattle.wgsl.specs.Rule.{when, andThen, lower, countOf, memberAllowed, membersAllowed, isWellFormed, membersGivenFit}
 use Rattle.wgsl.proofs.Absent.{both-hold, hold-both, some-not-none}
 use Rattle.wgsl.proofs.Said.{when-some}
 use Rattle.kinds.specs.declared.value.Layout.{Layout}
 use Rattle.kinds.specs.declared.value.Made.the-variants.{Rule}
-use Rattle.kinds.specs.Value.{tailStride, tailOffset, valueOf, verdictOn, madeOf}
+use Rattle.kinds.specs.Value.{narrowest, valueOf, layoutAt, verdictOn, madeOf}
 use Rattle.structs.specs.declared.Run.{Run}
 use Rattle.structs.specs.declared.Run.the-variants.{Placed}
 use Rattle.structs.specs.declared.Stepped.the-variants as stepped
 use Rattle.structs.specs.Run.{wordsOfMembers, endsOf, membersFit, runOf, Meets, steppedTo, Closes, Lower, followed, allSized}
 use Rattle.structs.proofs.Froms.{joined, membersAt, lower-found, lower-past}
-use Rattle.structs.proofs.Allowed.{count-after, every-after, allowedSo, allowed-after, allowed-last, refused-members}
+use Rattle.structs.proofs.Afters.{after-every, after-count}
+use Rattle.structs.proofs.Steps.{allowed-last}
+use Rattle.structs.proofs.Allowed.{allowedSo, allowed-after, refused-members}
 
 pub record Reached (f : List ℕ) (ts : List Ty) (at i n : ℕ) (run : Run) : Type 0 where
   pub members : Members
@@ -40,8 +40,8 @@ pub record Reached (f : List ℕ) (ts : List Ty) (at i n : ℕ) (run : Run) : Ty
   pub sized : i < n → allSized members ≡ true
 
 -- the verdict on no members
-pub no-members : Placed (record { end = 0; align = 1; stride = 0; offset = 0; words = 0; opens = false; storable = true }) ≡ runOf no-more
-unfolding runOf endsOf membersFit membersGivenFit wordsOfMembers everyMember withinLimits withinLimit limit membersEnd offsetsOf present tailStride tailOffset membersTail endsInRuntime
+pub no-members : Placed (record { end = 0; align = 1; words = 0; opens = false; narrow = 4 }) ≡ runOf no-more
+unfolding runOf endsOf membersFit membersGivenFit wordsOfMembers withinLimits withinLimit limit membersEnd membersAlign offsetsOf present endsInRuntime narrowest
 no-members = refl
 
 pub reached-none : {run : Run} (f : List ℕ) (ts : List Ty) (at n : ℕ) → run ≡ runOf no-more → Reached f ts at 0 n run
@@ -74,12 +74,12 @@ pub record Coming (f : List ℕ) (ts : List Ty) (at i n : ℕ) (e : MemberEntry)
   pub entry : e ≡ memberEntryFrom f (at + 12 * i)
   pub type : Ty
   pub type-is : lower ts (e .type) ≡ some type
-  pub layout : l ≡ valueOf type
+  pub layout : l ≡ valueOf (l .reference) type
   pub well-formed : everywhere isWellFormed type ≡ true
 
-pub coming : {f : List ℕ} {ts : List Ty} {at i n : ℕ} {e : MemberEntry} (ls : List Layout) (k r : ℕ) (d : Layout) → Lower ls k ts → i < n → e ≡ memberEntryFrom f (at + 12 * i) → r ≡ e .type → r < k → Coming f ts at i n e (getD ls r d)
-coming {ts = ts} ls k r d low h e q l =
-    let x = lower-found ls k ts r d low l in
+pub coming : {f : List ℕ} {ts : List Ty} {at i n : ℕ} {e : MemberEntry} (table : List (List ℕ)) (k r : ℕ) → Lower f table k ts → i < n → e ≡ memberEntryFrom f (at + 12 * i) → r ≡ e .type → r < k → Coming f ts at i n e (layoutAt table r)
+coming {f} {ts} table k r low h e q l =
+    let x = lower-found f table k ts r low l in
     record {
       before = h;
       entry = e;
@@ -114,8 +114,10 @@ module _ {f : List ℕ} {ts : List Ty} {at i n : ℕ} {e : MemberEntry} {l : Lay
         members = followed (d .members) (m .type) e;
         read = rw add-one (more-read ∙ rw (b .0));
         verdict = x .1;
-        counted = count-after (d .members) (m .type) (givenSize e) (givenAlign e) ∙ omega (arith, d .counted);
-        well-formed = every-after isWellFormed (d .members) (m .type) (givenSize e) (givenAlign e) (d .well-formed) (m .well-formed);
+        counted = after-count (m .type) (givenSize e) (givenAlign e) (d .members) ∙ omega (arith, d .counted);
+        well-formed =
+            after-every (m .type) (givenSize e) (givenAlign e) isWellFormed (d .members)
+            ∙ hold-both (everyMember isWellFormed (d .members)) (everywhere isWellFormed (m .type)) (d .well-formed) (m .well-formed);
         allowed =
             allowed-after true (d .members) (m .type) (givenSize e) (givenAlign e)
             ∙ hold-both (allSized (d .members)) (memberAllowed true (m .type)) (d .sized (m .before))
@@ -128,9 +130,9 @@ module _ {f : List ℕ} {ts : List Ty} {at i n : ℕ} {e : MemberEntry} {l : Lay
       }
 
   -- A step that rule 5 refuses refuses the struct.
-  pub reached-rule : (k : ℕ) → stepped.Rule ≡ steppedTo (eqb (i + 1) n) (d .members) (m .type) e → madeOf (andThen (membersAt f ts at n) (λ ms. some (struct k ms))) ≡ Rule
-  reached-rule k h =
-      refused-members f ts at i n k (m .before)
+  pub reached-rule : (r k : ℕ) → stepped.Rule ≡ steppedTo (eqb (i + 1) n) (d .members) (m .type) e → madeOf r (andThen (membersAt f ts at n) (λ ms. some (struct k ms))) ≡ Rule
+  reached-rule r k h =
+      refused-members f ts at r i n k (m .before)
       (λ ms x.
       let w = when-some (restIsZero e) (some (followed (d .members) (m .type) e)) (sym more-read ∙ x) in
       let q : ms ≡ followed (d .members) (m .type) e = cc (w .1) in
@@ -139,11 +141,11 @@ module _ {f : List ℕ} {ts : List Ty} {at i n : ℕ} {e : MemberEntry} {l : Lay
       ∙ rw no (and-false (allSized (d .members))))
 
 -- A member whose type is not lower refuses the struct.
-pub reached-past : {f : List ℕ} {ts : List Ty} {at i n : ℕ} {e : MemberEntry} (ls : List Layout) (k : ℕ) (run : Run) → Reached f ts at i n run → Lower ls k ts → i < n → e ≡ memberEntryFrom f (at + 12 * i) → k ≤ e .type → madeOf (andThen (membersAt f ts at n) (λ ms. some (struct k ms))) ≡ Rule
+pub reached-past : {f : List ℕ} {ts : List Ty} {at i n : ℕ} {e : MemberEntry} (table : List (List ℕ)) (r k : ℕ) (run : Run) → Reached f ts at i n run → Lower f table k ts → i < n → e ≡ memberEntryFrom f (at + 12 * i) → k ≤ e .type → madeOf r (andThen (membersAt f ts at n) (λ ms. some (struct k ms))) ≡ Rule
 unfolding membersAt andThen joined when
-reached-past {f} {ts} {at} {i} {n} {e} ls k run d low l h past =
-    refused-members f ts at i n k l
-    (λ ms x. some-not-none x (rw (d .read, ← h, lower-past ls k ts (e .type) low past) (none-when (restIsZero e))))
+reached-past {f} {ts} {at} {i} {n} {e} table r k run d low l h past =
+    refused-members f ts at r i n k l
+    (λ ms x. some-not-none x (rw (d .read, ← h, lower-past f table k ts (e .type) low past) (none-when (restIsZero e))))
   where
     none-when : (b : Bool) → when {A = Members} b none ≡ none
     none-when true = refl
@@ -164,6 +166,6 @@ reached-closes run d e low high =
           };
     }
 
-pub reached-made : {f : List ℕ} {ts : List Ty} {at i n : ℕ} (run : Run) (d : Reached f ts at i n run) (k : ℕ) → i ≡ n → madeOf (andThen (membersAt f ts at n) (λ ms. some (struct k ms))) ≡ verdictOn (struct k (d .members))
+pub reached-made : {f : List ℕ} {ts : List Ty} {at i n : ℕ} (run : Run) (d : Reached f ts at i n run) (r k : ℕ) → i ≡ n → madeOf r (andThen (membersAt f ts at n) (λ ms. some (struct k ms))) ≡ verdictOn r (struct k (d .members))
 unfolding andThen madeOf
-reached-made run d k e = rw (← e, d .read)
+reached-made run d r k e = rw (← e, d .read)

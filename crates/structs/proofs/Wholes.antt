@@ -1,6 +1,6 @@
 -- What all members of a struct come to (specs/Run): the struct's layout, or its refusal.
 --
--- In order: 5 and 6; the words; the layout of an open struct, and of another; 7; what `runOf` tells.
+-- In order: 5 and 6; the words; its layout, if it is open and if not; 7; what `runOf` tells.
 -- Assumes nothing.
 use Prim.Native.Nat.{ℕ, _<_, _≤_}
 use mathlib.Core.Bool.{Bool, true, false, cond, or-true}
@@ -10,24 +10,23 @@ use mathlib.Core.Path.{_≡_, refl, sym, ap, _∙_}
 use native.Mathlib.Omega.{arith}
 use borrow.Author.Tests.{le-leb}
 use Rattle.wgsl.specs.Round.{up, limit}
-use Rattle.wgsl.specs.Types.{struct, Members, no-more, member, isOpen, endsInRuntime, everywhere, everyMember}
-use Rattle.wgsl.specs.Size.{both, isPresent, present, sizeOf, alignOf, membersAlign, membersEnd, offsetsOf, withinLimits, fitsLimit, hasLayout, isPlain, isStorable}
-use Rattle.wgsl.specs.File.{between}
+use Rattle.wgsl.specs.Types.{struct, Members, no-more, member, isOpen, endsInRuntime, everyMember}
+use Rattle.wgsl.specs.Size.{both, isPresent, present, sizeOf, alignOf, membersAlign, membersEnd, offsetsOf, withinLimits, fitsLimit, hasLayout}
+use Rattle.wgsl.specs.File.{between, TypeEntry, memberEntryLength}
 use Rattle.wgsl.specs.Rule.{countOf, membersAllowed, isAllowed, membersGivenFit, givenFits, isWellFormed}
-use Rattle.wgsl.specs.Place.{tailOf, membersTail}
+use Rattle.wgsl.specs.Place.{wordCount}
 use Rattle.wgsl.proofs.Absent.{some-present, present-is, both-none, true-not-false}
-use Rattle.wgsl.proofs.Tail.{closed-tail}
 use Rattle.wgsl.proofs.Members.{first-member, member-has}
 use Rattle.wgsl.proofs.Count.{membersWords, wordCount-struct}
 use Rattle.numbers.specs.Limit.{limited}
 use Rattle.numbers.specs.declared.limit.Limited.the-variants.{Is, TooLarge}
-use Rattle.kinds.specs.declared.value.Layout.{Layout}
 use Rattle.kinds.specs.declared.value.Made.the-variants.{Laid, Given, Large}
-use Rattle.kinds.specs.Value.{tailStride, tailOffset, kindOfType, elementStride, fixedWords, valueOf, verdictOn}
+use Rattle.kinds.specs.Value.{kindOfType, narrowOf, partsOf, partWords, partStride, fixedWords, valueOf, verdictOn}
+use Rattle.kinds.proofs.Verdict.{value-is, verdict-laid}
 use Rattle.structs.specs.declared.Ends.{Ends}
 use Rattle.structs.specs.declared.Run.{Run}
 use Rattle.structs.specs.declared.Run.the-variants as run
-use Rattle.structs.specs.Run.{wordsOfMembers, endsOf, membersFit, runOf, Complete, Ended, Closes}
+use Rattle.structs.specs.Run.{wordsOfMembers, endsOf, structOf, membersFit, runOf, Complete, Ended, Closes}
 use Rattle.structs.proofs.Runs.{limited-is, limited-large}
 use Rattle.structs.proofs.Numbers.{members-aligned, aligned-positive, open-end, closed-end, struct-fits, past-members, open-fits, closed-fits, closed-past}
 
@@ -39,16 +38,13 @@ complete-allowed k ms c =
     rw (le-leb 1 (countOf ms) (c .some-there), le-leb (countOf ms) 1024 (c .few)) (c .allowed)
 
 -- past 5, the rest decides
-judged : (k : ℕ) (ms : Members) → Complete ms → verdictOn (struct k ms) ≡ cond (membersGivenFit ms) (cond (fitsLimit (struct k ms)) (Laid (valueOf (struct k ms))) Large) Given
+judged : (r k : ℕ) (ms : Members) → Complete ms → verdictOn r (struct k ms) ≡ cond (membersGivenFit ms) (cond (fitsLimit (struct k ms)) (Laid (valueOf r (struct k ms))) Large) Given
 unfolding verdictOn givenFits
-judged k ms c = rw (complete-allowed k ms c)
+judged r k ms c = rw (complete-allowed k ms c)
 
 -- past 6, the limit does
-laid : (k : ℕ) (p : Ends) (ms : Members) → Ended p ms → fitsLimit (struct k ms) ≡ true → verdictOn (struct k ms) ≡ Laid (valueOf (struct k ms))
-laid k p ms e f = judged k ms (e .complete) ∙ rw (e .given, f)
-
-large : (k : ℕ) (ms : Members) → Complete ms → membersGivenFit ms ≡ true → fitsLimit (struct k ms) ≡ false → verdictOn (struct k ms) ≡ Large
-large k ms c g f = judged k ms c ∙ rw (g, f)
+large : (r k : ℕ) (ms : Members) → Complete ms → membersGivenFit ms ≡ true → fitsLimit (struct k ms) ≡ false → verdictOn r (struct k ms) ≡ Large
+large r k ms c g f = judged r k ms c ∙ rw (g, f)
 
 -- ---- the words
 
@@ -60,31 +56,23 @@ words-counted (member t size align ms) w ok g =
     let m = first-member t size align ms w ok g in
     rw (some-present (m .own-is), member-has t size align ms m, words-counted ms (m .rest-well) (m .rest-allowed) (m .rest-fits))
 
-struct-words : (k : ℕ) (p : Ends) (ms : Members) → Ended p ms → hasLayout (struct k ms) ≡ true → fixedWords (struct k ms) ≡ wordsOfMembers ms
-unfolding fixedWords
-struct-words k p ms e h =
-    rw h
-    (wordCount-struct 0 k ms
-    ∙ sym (words-counted ms (e .complete .well-formed) (e .complete .allowed) (e .given)))
+struct-words : (k : ℕ) (p : Ends) (ms : Members) → Ended p ms → p .words ≡ wordCount 0 (struct k ms)
+unfolding endsOf
+struct-words k p ms d =
+    ap (λ (x : Ends). x .words) (d .ends) ∙ words-counted ms (d .complete .well-formed) (d .complete .allowed) (d .given)
+    ∙ sym (wordCount-struct 0 k ms)
 
-struct-storable : (k : ℕ) (ms : Members) → hasLayout (struct k ms) ≡ true → isStorable (struct k ms) ≡ everyMember isPlain ms
-unfolding isStorable everywhere isPlain
-struct-storable k ms h = rw h
+-- ---- its layout
 
--- ---- the layout of an open struct
+-- A struct that is within the limit is laid out.
+laid : (k : ℕ) (e : TypeEntry) (p : Ends) (ms : Members) (size : ℕ) → Ended p ms → countOf ms ≡ e .count → hasLayout (struct k ms) ≡ true → size ≡ present (sizeOf (struct k ms)) → fitsLimit (struct k ms) ≡ true → verdictOn (e .reference) (struct k ms) ≡ Laid (structOf e p size)
+unfolding structOf endsOf kindOfType narrowOf partsOf partWords partStride memberEntryLength present alignOf givenFits
+laid k e p ms size d count has z fits =
+    verdict-laid (struct k ms) (structOf e p size) (complete-allowed k ms (d .complete)) (d .given) fits
+    (value-is (struct k ms) (structOf e p size) refl (ap (λ (x : Ends). x .narrow) (d .ends)) (sym count)
+    (rw has (struct-words k p ms d)) refl z (ap (λ (x : Ends). x .align) (d .ends)))
 
-abbrev pub openLayout : Ends → Layout
-openLayout p =
-    record {
-      kind = 12;
-      size = 0;
-      align = p .align;
-      stride = p .stride;
-      offset = p .offset;
-      words = p .words;
-      opens = true;
-      storable = p .storable;
-    }
+-- ---- an open struct
 
 -- the end of an open struct's members is absent, and so is its size
 ended-open : (p : Ends) (ms : Members) → Ended p ms → endsInRuntime false ms ≡ true → membersEnd (some 0) ms ≡ none
@@ -94,37 +82,17 @@ open-has : (k : ℕ) (ms : Members) (a : ℕ) → membersAlign ms ≡ some a →
 unfolding hasLayout alignOf isOpen isPresent
 open-has k ms a e o = rw (e, o)
 
-open-value : (k : ℕ) (p : Ends) (ms : Members) → Ended p ms → endsInRuntime false ms ≡ true → valueOf (struct k ms) ≡ openLayout (endsOf ms)
-unfolding valueOf kindOfType elementStride tailOf endsOf sizeOf alignOf isOpen present
-open-value k p ms e o =
-    let a = members-aligned ms (e .complete .well-formed) (e .complete .allowed) (e .given) in
-    let h : hasLayout (struct k ms) ≡ true = open-has k ms (a .align) (a .is) o in
-    rw (struct-words k p ms e h, struct-storable k ms h, ended-open p ms e o, both-none up (membersAlign ms), o)
-
-pub ended-opens : (k : ℕ) (p : Ends) (ms : Members) → Ended p ms → p .opens ≡ true → verdictOn (struct k ms) ≡ Laid (openLayout p)
-unfolding endsOf membersFit
-ended-opens k p ms e q =
-    let o : endsInRuntime false ms ≡ true = ap (λ (x : Ends). x .opens) (sym (e .ends)) ∙ q in
-    let a = members-aligned ms (e .complete .well-formed) (e .complete .allowed) (e .given) in
-    let n = ended-open p ms e o in
+pub ended-opens : (k : ℕ) (e : TypeEntry) (p : Ends) (ms : Members) → Ended p ms → countOf ms ≡ e .count → p .opens ≡ true → verdictOn (e .reference) (struct k ms) ≡ Laid (structOf e p 0)
+unfolding endsOf membersFit sizeOf present
+ended-opens k e p ms d count q =
+    let o : endsInRuntime false ms ≡ true = ap (λ (x : Ends). x .opens) (sym (d .ends)) ∙ q in
+    let a = members-aligned ms (d .complete .well-formed) (d .complete .allowed) (d .given) in
+    let n = ended-open p ms d o in
     let fits : fitsLimit (struct k ms) ≡ true =
-    struct-fits k ms (a .align) none (a .is) n ∙ open-fits (a .align) (offsetsOf (some 0) ms) (a .within) (rw n at (e .fits)) in
-    laid k p ms e fits ∙ ap Laid (open-value k p ms e o ∙ ap openLayout (sym (e .ends)))
+    struct-fits k ms (a .align) none (a .is) n ∙ open-fits (a .align) (offsetsOf (some 0) ms) (a .within) (rw n at (d .fits)) in
+    laid k e p ms 0 d count (open-has k ms (a .align) (a .is) o) (rw (n, both-none up (membersAlign ms))) fits
 
--- ---- the layout of a struct that is not open
-
-abbrev pub closedLayout : ℕ → Ends → Layout
-closedLayout size p =
-    record {
-      kind = 12;
-      size = size;
-      align = p .align;
-      stride = 0;
-      offset = 0;
-      words = p .words;
-      opens = false;
-      storable = p .storable;
-    }
+-- ---- a struct that is not open
 
 -- where a struct that is not open ends, and its alignment
 record Closed (p : Ends) (ms : Members) : Type 0 where
@@ -147,34 +115,25 @@ closed-has : (k : ℕ) (ms : Members) (a z : ℕ) → membersAlign ms ≡ some a
 unfolding hasLayout alignOf sizeOf isPresent both
 closed-has k ms a z e h = rw (e, h) (or-true (isOpen (struct k ms)))
 
-closed-value : (k : ℕ) (p : Ends) (ms : Members) → Ended p ms → Closed p ms → valueOf (struct k ms) ≡ closedLayout (up (p .align) (p .end)) p
-unfolding valueOf kindOfType elementStride tailOf endsOf sizeOf alignOf isOpen present both tailStride tailOffset
-closed-value k p ms e c =
-    let h : hasLayout (struct k ms) ≡ true = closed-has k ms (p .align) (p .end) (c .align-is) (c .end-is) in
-    let t : membersTail none (some 0) ms ≡ none = closed-tail (struct k ms) (c .not-open) in
-    let w : wordsOfMembers ms ≡ p .words = ap (λ (x : Ends). x .words) (sym (e .ends)) in
-    let s : everyMember isPlain ms ≡ p .storable = ap (λ (x : Ends). x .storable) (sym (e .ends)) in
-    rw (struct-words k p ms e h, struct-storable k ms h, t, c .align-is, c .end-is, c .not-open, w, s)
-
 closed-limit : (k : ℕ) (p : Ends) (ms : Members) → Closed p ms → fitsLimit (struct k ms) ≡ withinLimits (both up (some (p .align)) (some (p .end)) ∷ some (p .align) ∷ both up (some (p .align)) (some (p .end)) ∷ offsetsOf (some 0) ms)
 closed-limit k p ms c = struct-fits k ms (p .align) (some (p .end)) (c .align-is) (c .end-is)
 
 -- A struct that is not open has the size that its members' end rounds up to, if that is within the limit.
-pub ended-closes : (k : ℕ) (p : Ends) (ms : Members) (size : ℕ) → Ended p ms → p .opens ≡ false → Is size ≡ limited (up (p .align) (p .end)) → verdictOn (struct k ms) ≡ Laid (closedLayout size p)
-unfolding membersFit
-ended-closes k p ms size e q h =
-    let c = ended-closed p ms e q in
+pub ended-closes : (k : ℕ) (e : TypeEntry) (p : Ends) (ms : Members) (size : ℕ) → Ended p ms → countOf ms ≡ e .count → p .opens ≡ false → Is size ≡ limited (up (p .align) (p .end)) → verdictOn (e .reference) (struct k ms) ≡ Laid (structOf e p size)
+unfolding membersFit sizeOf both present
+ended-closes k e p ms size d count q h =
+    let c = ended-closed p ms d q in
     let l = limited-is (up (p .align) (p .end)) size (sym h) in
     let fits : fitsLimit (struct k ms) ≡ true =
     closed-limit k p ms c
-    ∙ closed-fits (p .align) (p .end) (offsetsOf (some 0) ms) (c .align-within) (l .0) (rw (c .end-is) at (e .fits)) in
-    laid k p ms e fits
-    ∙ ap Laid (closed-value k p ms e c ∙ ap (λ (z : ℕ). closedLayout z p) (l .1))
+    ∙ closed-fits (p .align) (p .end) (offsetsOf (some 0) ms) (c .align-within) (l .0) (rw (c .end-is) at (d .fits)) in
+    laid k e p ms size d count (closed-has k ms (p .align) (p .end) (c .align-is) (c .end-is))
+    (rw (c .align-is, c .end-is) (sym (l .1))) fits
 
-pub ended-past : (k : ℕ) (p : Ends) (ms : Members) → Ended p ms → p .opens ≡ false → TooLarge ≡ limited (up (p .align) (p .end)) → verdictOn (struct k ms) ≡ Large
-ended-past k p ms e q h =
+pub ended-past : (r k : ℕ) (p : Ends) (ms : Members) → Ended p ms → p .opens ≡ false → TooLarge ≡ limited (up (p .align) (p .end)) → verdictOn r (struct k ms) ≡ Large
+ended-past r k p ms e q h =
     let c = ended-closed p ms e q in
-    large k ms (e .complete) (e .given)
+    large r k ms (e .complete) (e .given)
     (closed-limit k p ms c
     ∙ closed-past (p .align) (p .end) (offsetsOf (some 0) ms) (limited-large (up (p .align) (p .end)) (sym h)))
 
@@ -206,19 +165,19 @@ closes-placed p ms c =
     (λ h g f. no-run cc) (λ h g. no-run cc)
 
 -- Where a given size or align does not fit, that is refusal 6.
-pub closes-unfit : (k : ℕ) (ms : Members) → Closes run.Unfit ms → verdictOn (struct k ms) ≡ Given
-closes-unfit k ms c =
-    runs run.Unfit ms (c .verdict) (λ h g f. no-run cc) (λ h g f. no-run cc) (λ h g. judged k ms (c .complete) ∙ rw g)
+pub closes-unfit : (r k : ℕ) (ms : Members) → Closes run.Unfit ms → verdictOn r (struct k ms) ≡ Given
+closes-unfit r k ms c =
+    runs run.Unfit ms (c .verdict) (λ h g f. no-run cc) (λ h g f. no-run cc) (λ h g. judged r k ms (c .complete) ∙ rw g)
 
 -- Where an offset or the end of the members is past the limit, that is refusal 7.
-pub closes-past : (k : ℕ) (ms : Members) → Closes run.TooLarge ms → verdictOn (struct k ms) ≡ Large
+pub closes-past : (r k : ℕ) (ms : Members) → Closes run.TooLarge ms → verdictOn r (struct k ms) ≡ Large
 unfolding membersFit
-closes-past k ms c =
+closes-past r k ms c =
     runs run.TooLarge ms (c .verdict) (λ h g f. no-run cc)
     (λ h g f.
     let w = c .complete .well-formed in
     let a = members-aligned ms w (c .complete .allowed) g in
-    large k ms (c .complete) g
+    large r k ms (c .complete) g
     (struct-fits k ms (a .align) (membersEnd (some 0) ms) (a .is) refl
     ∙ past-members (a .align) (membersEnd (some 0) ms) (offsetsOf (some 0) ms) (aligned-positive ms (a .align) w g (a .is)) f))
     (λ h g. no-run cc)

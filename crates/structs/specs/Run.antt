@@ -7,17 +7,16 @@
 use Prim.Native.Nat.{ℕ, _+_, _*_, _≤_}
 use mathlib.Core.Path.{_≡_}
 use mathlib.Core.Bool.{Bool, true, false, cond, _&&_}
-use mathlib.Core.List.{List, [], _∷_, map}
-use mathlib.Core.Option.{Option, none, some}
+use mathlib.Core.List.{List, [], _∷_}
+use mathlib.Core.Option.{Option, some}
 use lib.ListN.{length, take, getElem?}
 use Rattle.wgsl.specs.Types.{Ty, Members, no-more, member, endsInRuntime, everywhere, everyMember}
-use Rattle.wgsl.specs.Size.{present, membersAlign, membersEnd, offsetsOf, withinLimits, isPlain}
+use Rattle.wgsl.specs.Size.{present, membersAlign, membersEnd, offsetsOf, withinLimits}
 use Rattle.wgsl.specs.File.{Trailer, trailerOf, typeEntryLength, memberEntryLength, TypeEntry, MemberEntry, givenSize, givenAlign, restIsZero}
 use Rattle.wgsl.specs.Rule.{unused, structMade, countOf, memberAllowed, membersAllowed, givenSizeFits, givenAlignFits, membersGivenFit, isWellFormed}
-use Rattle.wgsl.specs.Place.{membersTail}
 use Rattle.kinds.specs.declared.value.Layout.{Layout}
 use Rattle.kinds.specs.declared.value.Made.the-variants as made
-use Rattle.kinds.specs.Value.{tailStride, tailOffset, fixedWords, valueOf, madeOf}
+use Rattle.kinds.specs.Value.{fixedWords, narrowest, valueOf, valuesFrom, madeOf}
 use Rattle.structs.specs.declared.Ends.{Ends}
 use Rattle.structs.specs.declared.Run.{Run}
 use Rattle.structs.specs.declared.Run.the-variants.{Placed, Unfit, TooLarge}
@@ -38,11 +37,23 @@ endsOf ms =
     record {
       end = present (membersEnd (some 0) ms);
       align = present (membersAlign ms);
-      stride = present (tailStride (membersTail none (some 0) ms));
-      offset = tailOffset (membersTail none (some 0) ms);
       words = wordsOfMembers ms;
       opens = endsInRuntime false ms;
-      storable = everyMember isPlain ms;
+      narrow = narrowest ms;
+    }
+
+-- a struct with the entry e, of so many bytes, whose members end as p says
+unfoldable pub structOf : TypeEntry → Ends → ℕ → Layout
+structOf e p size =
+    record {
+      kind = 12;
+      narrow = p .narrow;
+      reference = e .reference;
+      count = e .count;
+      unit = p .words;
+      stride = 12;
+      size = size;
+      align = p .align;
     }
 
 -- every offset, and the end, is within the limit
@@ -70,7 +81,7 @@ followed ms t m = after ms t (givenSize m) (givenAlign m)
 -- members that end as p says and passed 6 and 7; and one more of type t, whose layout is l, that passes 5 and 6
 pub record Joins (p : Ends) (l : Layout) (m : MemberEntry) (ms : Members) (t : Ty) : Type 0 where
   pub ends : p ≡ endsOf ms
-  pub layout : l ≡ valueOf t
+  pub layout : l ≡ valueOf (l .reference) t
   pub going : Going ms
   pub given : membersGivenFit ms ≡ true
   pub fits : membersFit ms ≡ true
@@ -82,7 +93,7 @@ pub record Joins (p : Ends) (l : Layout) (m : MemberEntry) (ms : Members) (t : T
 -- the verdict on members is `run`, and one more of type t, whose layout is l, comes
 pub record Meets (run : Run) (l : Layout) (ms : Members) (t : Ty) : Type 0 where
   pub verdict : run ≡ runOf ms
-  pub layout : l ≡ valueOf t
+  pub layout : l ≡ valueOf (l .reference) t
   pub going : Going ms
   pub well-formed : everywhere isWellFormed t ≡ true
 
@@ -125,15 +136,15 @@ pub record Named (e : TypeEntry) (first count : ℕ) : Type 0 where
 pub record Spans (members : ℕ) (e : TypeEntry) (first count : ℕ) : Type 0 where
   pub within : first + count ≤ members
   pub named : 1 ≤ count → Named e first count
-  pub empty : e .kind ≡ 12 → count ≡ 0 → (f : List ℕ) (ts : List Ty) (k : ℕ) → members ≡ trailerOf f .members → made.Rule ≡ madeOf (structMade f ts k e)
+  pub empty : e .kind ≡ 12 → count ≡ 0 → (f : List ℕ) (ts : List Ty) (k : ℕ) → members ≡ trailerOf f .members → made.Rule ≡ madeOf (e .reference) (structMade f ts k e)
 
--- the first entries of the table hold the layouts of these types, which the file's rules leave
-pub record Holds (ls : List Layout) (ts : List Ty) : Type 0 where
-  pub first : take (length ts) ls ≡ map valueOf ts
+-- the first entries of the table hold the values of these types of a file, which its rules leave
+pub record Holds (f : List ℕ) (table : List (List ℕ)) (ts : List Ty) : Type 0 where
+  pub first : take (length ts) table ≡ valuesFrom f 0 ts
   pub well-formed : (k : ℕ) (t : Ty) → getElem? ts k ≡ some t → everywhere isWellFormed t ≡ true
 
--- the table holds the layouts of the k lower entries, whose types are ts
-pub record Lower (ls : List Layout) (k : ℕ) (ts : List Ty) : Type 0 where
-  pub holds : Holds ls ts
+-- the table holds the values of the k lower entries, whose types are ts
+pub record Lower (f : List ℕ) (table : List (List ℕ)) (k : ℕ) (ts : List Ty) : Type 0 where
+  pub holds : Holds f table ts
   pub count : length ts ≡ k
   pub few : k ≤ 256

@@ -5,6 +5,8 @@ use file::trailer::wide;
 use kinds::scalars::zeros;
 use kinds::value::Layout;
 use kinds::value::Made;
+use kinds::value::opens;
+use kinds::value::words_of;
 use members::align_fits;
 use members::align_given;
 use members::is_allowed;
@@ -15,25 +17,23 @@ use numbers::limit::Limited;
 use numbers::limit::round_up;
 use numbers::limit::sum;
 ghost use mathlib.Core.Path.{_≡_};
-ghost use mathlib.Core.Bool.{cond, _&&_};
-ghost use Prim.Native.Nat.{ℕ, _≤_, max};
+ghost use mathlib.Core.Bool.{cond};
+ghost use Prim.Native.Nat.{ℕ, _≤_, max, min};
 ghost use Rattle.wgsl.specs.Types.{Ty, Members, no-more, struct};
+ghost use Rattle.wgsl.specs.Rule.{countOf};
 ghost use Rattle.file.specs.Fields.{entryIs, memberIs};
 ghost use Rattle.kinds.specs.Value.{verdictOn};
 ghost use Rattle.kinds.specs.declared.value.Made.the-variants.{Rule};
-ghost use Rattle.structs.specs.Run.{runOf, followed, Joins, Meets, steppedTo, Ended, Closes, Spans};
+ghost use Rattle.structs.specs.Run.{runOf, followed, Joins, Meets, steppedTo, Ended, Closes, Spans, structOf};
 
 // Where the members so far end, and what they hold.
 pub struct Ends {
     // 0 past a runtime array, which has no end
     pub end: u32,
     pub align: u32,
-    // of the runtime array, if that was the last
-    pub stride: u32,
-    pub offset: u32,
     pub words: u32,
     pub opens: bool,
-    pub storable: bool,
+    pub narrow: u32,
 }
 
 // What the members so far come to: "5 before 6 before 7".
@@ -67,10 +67,10 @@ fn chosen(given: bool, a: u32, own: u32) -> u32
     if given { a } else { own }
 }
 
-fn both(a: bool, b: bool) -> bool
-    ensures { λ r. ⌜ r ≡ (a && b) ⌝ }
+fn smaller(a: u32, b: u32) -> u32
+    ensures { λ r. ⌜ r ≡ min a b ⌝ }
 {
-    if a { b } else { false }
+    if b < a { b } else { a }
 }
 
 // One more member, whose size and align fit, after those that end as `p` says.
@@ -84,16 +84,14 @@ fn place(p: Ends, l: Layout, m: Member) -> Run
         return Run::TooLarge;
     };
     let most = larger(p.align, align);
-    let storable = both(p.storable, l.storable);
-    if l.opens {
+    let narrow = smaller(p.narrow, l.narrow);
+    if opens(l) {
         return Run::Placed(Ends {
             end: 0,
             align: most,
-            stride: l.stride,
-            offset: start,
             words: p.words,
             opens: true,
-            storable,
+            narrow,
         });
     }
     let Limited::Is(end) = sum(start, size) else {
@@ -102,11 +100,9 @@ fn place(p: Ends, l: Layout, m: Member) -> Run
     Run::Placed(Ends {
         end,
         align: most,
-        stride: 0,
-        offset: 0,
-        words: p.words + l.words,
+        words: p.words + words_of(l),
         opens: false,
-        storable,
+        narrow,
     })
 }
 
@@ -117,11 +113,9 @@ pub fn no_members() -> Run
     Run::Placed(Ends {
         end: 0,
         align: 1,
-        stride: 0,
-        offset: 0,
         words: 0,
         opens: false,
-        storable: true,
+        narrow: 4,
     })
 }
 
@@ -149,49 +143,47 @@ pub fn step(run: Run, l: Layout, m: Member, last: bool) -> Stepped
     }
 }
 
-// The struct whose members end as `p` says.
-fn whole(p: Ends) -> Made
+// A struct's layout. Its member entries are 12 bytes long.
+fn struct_of(e: Entry, p: Ends, size: u32) -> Layout
+    ensures { λ r. ⌜ r ≡ structOf (entryIs e) p size ⌝ }
+{
+    Layout {
+        kind: 12,
+        narrow: p.narrow,
+        reference: e.reference,
+        count: e.count,
+        unit: p.words,
+        stride: 12,
+        size,
+        align: p.align,
+    }
+}
+
+// The struct with the entry `e` whose members end as `p` says.
+fn whole(e: Entry, p: Ends) -> Made
     requires { ⌜ ((ms : Members) × Ended p ms) ⌝ }
-    ensures { λ r. ⌜ ((k : ℕ) (ms : Members) → Ended p ms → r ≡ verdictOn (struct k ms)) ⌝ }
+    ensures { λ r. ⌜ ((k : ℕ) (ms : Members) → Ended p ms → countOf ms ≡ e .count → r ≡ verdictOn (e .reference) (struct k ms)) ⌝ }
 {
     if p.opens {
-        return Made::Laid(Layout {
-            kind: 12,
-            size: 0,
-            align: p.align,
-            stride: p.stride,
-            offset: p.offset,
-            words: p.words,
-            opens: true,
-            storable: p.storable,
-        });
+        return Made::Laid(struct_of(e, p, 0));
     }
     let Limited::Is(size) = round_up(p.align, p.end) else {
         return Made::Large;
     };
-    Made::Laid(Layout {
-        kind: 12,
-        size,
-        align: p.align,
-        stride: 0,
-        offset: 0,
-        words: p.words,
-        opens: false,
-        storable: p.storable,
-    })
+    Made::Laid(struct_of(e, p, size))
 }
 
 // Past the last of `count` members: a struct has one at least.
-pub fn finish(run: Run, count: usize) -> Made
+pub fn finish(e: Entry, run: Run, count: usize) -> Made
     requires { ⌜ (1 ≤ count → (ms : Members) × Closes run ms) ⌝ }
     ensures none { λ r. ⌜ (count ≡ 0 → r ≡ Rule) ⌝ }
-    ensures all { λ r. ⌜ (1 ≤ count → (k : ℕ) (ms : Members) → Closes run ms → r ≡ verdictOn (struct k ms)) ⌝ }
+    ensures all { λ r. ⌜ (1 ≤ count → (k : ℕ) (ms : Members) → Closes run ms → countOf ms ≡ e .count → r ≡ verdictOn (e .reference) (struct k ms)) ⌝ }
 {
     if count < 1 {
         return Made::Rule;
     }
     match run {
-        Run::Placed(p) => whole(p),
+        Run::Placed(p) => whole(e, p),
         Run::Unfit => Made::Given,
         Run::TooLarge => Made::Large,
     }

@@ -1,9 +1,9 @@
--- Each answer is a law of `Matrices`, over what `vector_align` ensures.
+-- Each answer is a law of `Matrices`, over what `vector_align` and `unless_absent` ensure.
 use mathlib.Core.Path.{sym}
 use native.Mathlib.Omega.{arith}
 use Rattle.kinds.proofs.Zero.{unused-one, denied, granted}
 use Rattle.kinds.proofs.Align.{times-fits}
-use Rattle.over.proofs.Matrices.{matrix-used, matrix-low, matrix-over, matrix-int, columns-low, columns-high, rows-low, rows-high, matrix-absent, matrix-laid}
+use Rattle.over.proofs.Matrices.{matrix-used, matrix-low, matrix-over, matrix-int, columns-low, columns-high, rows-low, rows-high, matrix-laid}
 use borrow.Author.Needs.{needs}
 use Rattle.over.proofs.matrix.Statement.{statement}
 use Rattle.over.proofs.matrix.Tie as tie
@@ -32,32 +32,20 @@ returns-7 c t is = sym (rows-low t _ is _ (omega arith) (omega arith) (omega ari
 returns-8 : tie.Need-returns-8
 returns-8 c t is = sym (rows-high t _ is _ (omega arith) (omega arith) (omega arith))
 
+mul-t10 : tie.Need-mul-t10
+mul-t10 c = times-fits _ _ (omega arith) (omega arith)
+
 returns-9 : tie.Need-returns-9
 returns-9 c t is =
     let a = c .before .vector-align in
     let k = c .before .before .before .before .before .before in
     let z = k .before .before .before in
-    sym (matrix-absent t _ is _ (omega arith) (omega arith)
-    (granted (unused-one _ (z .before .zeros .ensures)) (z .if1 .left)) (omega arith) (omega arith) (k .if4 .left)
-    (omega arith) (omega arith) _ (a .ensures .0) (a .ensures .1) (omega arith))
-
-mul-t10 : tie.Need-mul-t10
-mul-t10 c = times-fits _ _ (omega arith) (omega arith)
-
-mul-t11 : tie.Need-mul-t11
-mul-t11 c = times-fits _ _ (omega arith) (omega arith)
-
-returns-10 : tie.Need-returns-10
-returns-10 c t is =
-    let a = c .before .vector-align in
-    let k = c .before .before .before .before .before .before in
-    let z = k .before .before .before in
     sym (matrix-laid t _ is _ (omega arith) (omega arith)
     (granted (unused-one _ (z .before .zeros .ensures)) (z .if1 .left)) (omega arith) (omega arith) (k .if4 .left)
-    (omega arith) (omega arith) _ (a .ensures .0) (a .ensures .1) (c .if9 .left))
+    (omega arith) (omega arith) _ (a .ensures .0) (a .ensures .1) _ (c .unless-absent .ensures))
 
 pub matrix-spec : {M : Type 1} → statement M
 matrix-spec =
     tie.close (tie.spec
     (λ c κs. search needs) returns returns-2 returns-3 returns-4 returns-5 returns-6 returns-7 returns-8
-    (λ c κs. search needs) returns-9 mul-t10 mul-t11 returns-10)
+    (λ c κs. search needs) (λ c κs. search needs) mul-t10 returns-9)

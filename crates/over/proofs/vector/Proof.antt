@@ -1,9 +1,9 @@
--- Each answer is a law of `Vectors`, over what `scalar_size` and `vector_align` ensure.
+-- Each answer is a law of `Vectors`, over what `scalar_size`, `vector_align` and `unless_absent` ensure.
 use mathlib.Core.Path.{sym}
 use native.Mathlib.Omega.{arith}
 use Rattle.kinds.proofs.Zero.{unused-two, denied, granted}
 use Rattle.kinds.proofs.Align.{times-fits}
-use Rattle.over.proofs.Vectors.{vector-used, vector-over, vector-low, vector-high, vector-absent, vector-laid}
+use Rattle.over.proofs.Vectors.{vector-used, vector-over, vector-low, vector-high, vector-laid}
 use borrow.Author.Needs.{needs}
 use Rattle.over.proofs.vector.Statement.{statement}
 use Rattle.over.proofs.vector.Tie as tie
@@ -20,30 +20,20 @@ returns-3 c t is = sym (vector-low t _ is _ (omega arith))
 returns-4 : tie.Need-returns-4
 returns-4 c t is = sym (vector-high t _ is _ (omega arith))
 
-mul-t9 : tie.Need-mul-t9
-mul-t9 c = times-fits _ _ (omega arith) (omega arith)
+mul-t10 : tie.Need-mul-t10
+mul-t10 c = times-fits _ _ (omega arith) (omega arith)
 
 returns-5 : tie.Need-returns-5
 returns-5 c t is =
-    let a = c .before .vector-align in
-    let w = c .before .before .scalar-size in
-    let z = c .before .before .before .before .before .before in
-    sym (vector-absent t _ is _ (granted (unused-two _ _ (z .before .zeros .ensures)) (z .if1 .left)) (omega arith)
-    (omega arith) (omega arith) _ _ (w .ensures .0) (a .ensures .0) (a .ensures .1) (omega arith))
-
-mul-t11 : tie.Need-mul-t11
-mul-t11 c = times-fits _ _ (omega arith) (omega arith)
-
-returns-6 : tie.Need-returns-6
-returns-6 c t is =
-    let a = c .before .vector-align in
-    let w = c .before .before .scalar-size in
-    let z = c .before .before .before .before .before .before in
+    let a = c .before in
+    let w = a .before in
+    let z = w .before .before .before .before in
     sym (vector-laid t _ is _ (granted (unused-two _ _ (z .before .zeros .ensures)) (z .if1 .left)) (omega arith)
-    (omega arith) (omega arith) _ _ (w .ensures .0) (a .ensures .0) (a .ensures .1) (c .if5 .left))
+    (omega arith) (omega arith) _ _ (w .scalar-size .ensures .0) (a .vector-align .ensures .0) (a .vector-align .ensures .1)
+    _ (c .unless-absent .ensures))
 
 pub vector-spec : {M : Type 1} → statement M
 vector-spec =
     tie.close (tie.spec
-    (λ c κs. search needs) returns returns-2 returns-3 returns-4 (λ c κs. search needs) (λ c κs. search needs) mul-t9
-    returns-5 mul-t11 returns-6)
+    (λ c κs. search needs) returns returns-2 returns-3 returns-4 (λ c κs. search needs) (λ c κs. search needs)
+    (λ c κs. search needs) mul-t10 returns-5)

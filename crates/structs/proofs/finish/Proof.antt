@@ -14,7 +14,7 @@ is : {r s : Run} (ms : Members) → r ≡ s → Closes r ms → Closes s ms
 is ms e c = subst (λ (x : Run). Closes x ms) e c
 
 returns : tie.Need-returns
-returns c = (λ z. refl, λ l k ms e. absurd (omega arith))
+returns c = (λ z. refl, λ l k ms e n. absurd (omega arith))
 
 whole-requires : tie.Need-whole-requires
 whole-requires c κs =
@@ -24,14 +24,14 @@ whole-requires c κs =
 returns-2 : tie.Need-returns-2
 returns-2 c = (
   λ z. absurd (omega arith),
-  λ l k ms e. c .whole .ensures k ms (closes-placed _ ms (is ms (c .before .before .run .given .1) e)),
+  λ l k ms e n. c .whole .ensures k ms (closes-placed _ ms (is ms (c .before .before .run .given .1) e)) n,
 )
 
 returns-3 : tie.Need-returns-3
-returns-3 c = (λ z. absurd (omega arith), λ l k ms e. sym (closes-unfit k ms (is ms (c .enum-told .given .1) e)))
+returns-3 c = (λ z. absurd (omega arith), λ l k ms e n. sym (closes-unfit _ k ms (is ms (c .enum-told .given .1) e)))
 
 returns-4 : tie.Need-returns-4
-returns-4 c = (λ z. absurd (omega arith), λ l k ms e. sym (closes-past k ms (is ms (c .enum-told2 .given .1) e)))
+returns-4 c = (λ z. absurd (omega arith), λ l k ms e n. sym (closes-past _ k ms (is ms (c .enum-told2 .given .1) e)))
 
 pub finish-spec : {M : Type 1} → statement M
 finish-spec =

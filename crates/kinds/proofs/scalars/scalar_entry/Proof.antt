@@ -1,8 +1,8 @@
--- Each answer is a law of `Scalar`, over what `scalar_size` and `is_stored` ensure.
+-- Each answer is a law of `Scalar`, over what `scalar_size`, `stored_width` and `unless_absent` ensure.
 use mathlib.Core.Path.{sym}
 use native.Mathlib.Omega.{arith}
 use Rattle.kinds.proofs.Zero.{denied, granted}
-use Rattle.kinds.proofs.Scalar.{scalar-used, scalar-absent, scalar-laid}
+use Rattle.kinds.proofs.Scalar.{scalar-used, scalar-laid}
 use borrow.Author.Needs.{needs}
 use Rattle.kinds.proofs.scalars.scalar_entry.Statement.{statement}
 use Rattle.kinds.proofs.scalars.scalar_entry.Tie as tie
@@ -12,15 +12,12 @@ returns c = sym (scalar-used _ (denied (c .before .zeros .ensures) (c .if1 .take
 
 returns-2 : tie.Need-returns-2
 returns-2 c =
-    sym (scalar-absent _ (granted (c .before .before .before .before .zeros .ensures) (c .before .before .before .if1 .left))
-    (omega arith) _ (c .before .before .scalar-size .ensures .0) (omega arith))
-
-returns-3 : tie.Need-returns-3
-returns-3 c =
-    sym (scalar-laid _ (granted (c .before .before .before .before .zeros .ensures) (c .before .before .before .if1 .left))
-    (omega arith) _ (c .before .before .scalar-size .ensures .0) _ (c .before .is-stored .ensures) (c .if2 .left))
+    let w = c .before in
+    let z = w .before .before in
+    sym (scalar-laid _ (granted (z .before .zeros .ensures) (z .if1 .left)) (omega arith) _ _
+    (w .before .scalar-size .ensures .0) (w .stored-width .ensures) _ (c .unless-absent .ensures))
 
 pub scalar-entry-spec : {M : Type 1} → statement M
 scalar-entry-spec =
     tie.close (tie.spec
-    (λ c κs. search needs) returns (λ c κs. search needs) (λ c κs. search needs) returns-2 returns-3)
+    (λ c κs. search needs) returns (λ c κs. search needs) (λ c κs. search needs) (λ c κs. search needs) returns-2)
