@@ -8,7 +8,7 @@ use layout::ask::Number;
 use rank::entry_rank;
 use rank::scalar::Ranked;
 use table::Checked;
-use table::layouts;
+use table::accept;
 ghost use mathlib.Core.Path.{_≡_};
 ghost use Rattle.wgsl.specs.Call.{rankCall, commonCall};
 ghost use Rattle.layout.specs.Answer.{saidNumber};
@@ -18,9 +18,7 @@ ghost use Rattle.layout.specs.Answer.{saidNumber};
 pub fn rank(file: &[u8], a: u32, b: u32) -> Number
     ensures { λ r. ⌜ saidNumber r ≡ rankCall (now (file .entry)) a b ⌝ }
 {
-    let t = layouts(file);
-    let answer = t.answer;
-    match answer {
+    match accept(file) {
         Checked::Types(trailer) => {
             let types = trailer.types;
             if types <= a {
@@ -44,9 +42,7 @@ pub fn rank(file: &[u8], a: u32, b: u32) -> Number
 pub fn common(file: &[u8], list: &[u32]) -> Number
     ensures { λ r. ⌜ saidNumber r ≡ commonCall (now (file .entry)) (now (list .entry)) ⌝ }
 {
-    let t = layouts(file);
-    let answer = t.answer;
-    match answer {
+    match accept(file) {
         Checked::Types(trailer) => {
             if !all_below(list, trailer.types) {
                 return Number::Refused(Refusal::Missing);

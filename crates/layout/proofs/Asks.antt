@@ -1,37 +1,42 @@
 -- What the check and the four questions say (crates/wgsl, specs/Call), read from the table's answer and from a layout in it.
 --
--- In order: 0 for an absent number; minimum sizes; entries of the table; what the table's answer tells; what the layout of an entry
--- tells; the three numbers asked alone; all three at once.
+-- In order: 0 for an absent number; minimum sizes; the check; the layout of an entry; what it tells: the three numbers asked alone, and
+-- all at once.
 -- Assumes nothing.
-use Prim.Native.Nat.{ℕ, zero, suc, _<_, _≤_}
+use Prim.Native.Nat.{ℕ, _≤_}
 use mathlib.Core.Bool.{true}
-use mathlib.Core.List.{List, [], _∷_, _++_, map}
+use mathlib.Core.List.{List}
 use mathlib.Core.Option.{Option, none, some}
 use mathlib.Core.Path.{_≡_, refl, sym, ap, _∙_}
 use native.Mathlib.Omega.{arith}
 use borrow.Author.Tests.{eq-eqb, ne-eqb}
-use lib.ListN.{length, getD, getElem?}
 use Rattle.wgsl.specs.Types.{Ty, scalar, vector, matrix, array, runtime, atomic, struct, everywhere}
 use Rattle.wgsl.specs.Size.{present, sizeOf, alignOf, minSizeOf}
 use Rattle.wgsl.specs.Said.{Said, good, refused, _>>=_, orRefuse}
-use Rattle.wgsl.specs.Rule.{isWellFormed, typesOf}
+use Rattle.wgsl.specs.File.{checkTrailer}
+use Rattle.wgsl.specs.Rule.{isWellFormed}
 use Rattle.wgsl.specs.Call.{checkOf, entryOf, sizeCall, alignCall, minSizeCall, layoutOf, layoutCall}
-use Rattle.wgsl.proofs.Said.{good-not-refused, then-is, then-refused}
+use Rattle.wgsl.proofs.Said.{good-not-refused, then-good, then-cases, then-is, then-refused}
 use Rattle.wgsl.proofs.Passed.{runtime-passed}
 use Rattle.wgsl.proofs.Entry.{size-positive, align-positive, stride-positive}
-use Rattle.wgsl.proofs.AtEntry.{getElem-past}
 use Rattle.wgsl.proofs.Call.{entry-well-formed}
 use Rattle.file.specs.Refusal.{numberOf, placeOf}
 use Rattle.file.specs.declared.refusal.Refusal.{Refusal}
 use Rattle.file.specs.declared.trailer.Trailer.{Trailer}
 use Rattle.kinds.proofs.Scalar.{kind-bounded}
-use Rattle.kinds.specs.Value.{kindOfType, elementStride, valueOf}
+use Rattle.kinds.proofs.Values.{own-reference}
+use Rattle.kinds.specs.Value.{kindOfType, partStride, valueOf}
 use Rattle.kinds.specs.declared.value.Layout.{Layout}
-use Rattle.table.specs.Table.{layoutsOf, acceptedTrailer, saidChecked, valued}
-use Rattle.table.proofs.Taken.{told, told-refused}
-use Rattle.layout.specs.Answer.{marked, saidFound}
+use Rattle.table.specs.Table.{acceptedTrailer, saidChecked, groundOf, groundIn, saidGround}
 use Rattle.table.specs.declared.Checked.{Checked}
 use Rattle.table.specs.declared.Checked.the-variants.{Types, Refused}
+use Rattle.table.specs.declared.Ground.{Ground}
+use Rattle.table.specs.declared.Grounded.{Grounded}
+use Rattle.table.specs.declared.Grounded.the-variants as grounded
+use Rattle.table.proofs.Taken.{inner, trailer-refused, told, told-refused}
+use Rattle.table.proofs.Grounds.{ground-told, ground-told-refused}
+use Rattle.layout.specs.Answer.{marked}
+use Rattle.layout.specs.Found.{layoutFound, saidFound}
 use Rattle.layout.specs.declared.ask.Found.{Found}
 
 -- ---- 0 for an absent number
@@ -60,8 +65,8 @@ marked-is ask p t w e = rw e (marked-present (ask t) (λ n h. p t n w h))
 
 -- ---- minimum sizes
 
-runtime-least : (t : Ty) → kindOfType t ≡ 10 → present (elementStride t) ≡ present (minSizeOf t)
-unfolding kindOfType elementStride minSizeOf
+runtime-least : (t : Ty) → kindOfType t ≡ 10 → present (partStride t) ≡ present (minSizeOf t)
+unfolding kindOfType partStride minSizeOf
 runtime-least (scalar s) h = absurd (omega (arith, kind-bounded s))
 runtime-least (vector n s) h = absurd (omega arith)
 runtime-least (matrix c r s) h = absurd (omega arith)
@@ -80,7 +85,7 @@ other-least (runtime t) h = absurd (h refl)
 other-least (atomic s) h = refl
 other-least (struct k ms) h = refl
 
-module _ (l : Layout) (t : Ty) (is : l ≡ valueOf t) where
+module _ (l : Layout) (t : Ty) (is : l ≡ valueOf (l .reference) t) where
   -- "its minimum size is one stride"
   pub least-stride : l .kind ≡ 10 → l .stride ≡ present (minSizeOf t)
   unfolding valueOf
@@ -107,23 +112,7 @@ least-positive (runtime t) n w e = omega (arith, stride-positive t n (runtime-pa
 least-positive (atomic s) n w e = sizes-positive (atomic s) n w e
 least-positive (struct k ms) n w e = sizes-positive (struct k ms) n w e
 
--- ---- entries of the table
-
-table-there : (ts : List Ty) (rest : List Layout) (e : ℕ) (d : Layout) → e < length ts → good (getD (map valueOf ts ++ rest) e d) ≡ valued (orRefuse 8 0 (getElem? ts e))
-unfolding valued orRefuse
-table-there [] rest e d h = absurd (omega arith)
-table-there (t ∷ ts) rest zero d h = refl
-table-there (t ∷ ts) rest (suc e) d h = table-there ts rest e d (omega arith)
-
-table-past : (ts : List Ty) (e : ℕ) → length ts ≤ e → refused 8 0 ≡ valued (orRefuse 8 0 (getElem? ts e))
-unfolding valued orRefuse
-table-past ts e h = rw (getElem-past ts e h) refl
-
-valued-refused : (s : Said Ty) (number place : ℕ) → s ≡ refused number place → refused number place ≡ valued s
-unfolding valued
-valued-refused s number place h = rw h
-
--- ---- what the table's answer tells
+-- ---- the check
 
 module _ (f : List ℕ) (a : Checked) (says : saidChecked a ≡ acceptedTrailer f) where
   -- "check: how many entries the file has"
@@ -135,60 +124,47 @@ module _ (f : List ℕ) (a : Checked) (says : saidChecked a ≡ acceptedTrailer 
   unfolding checkOf
   check-refused r is = sym (then-refused _ (told-refused f a says r is))
 
-  module _ (e : ℕ) where
-    -- The table has room for every entry.
-    pub found-inside : (t : Trailer) → a ≡ Types t → e < t .types → e < 256
-    found-inside t is h = let x = told f a says t is in omega (arith, x .few)
+-- ---- the layout of an entry
 
-    -- An entry's layout stands in the table.
-    pub found-there : (t : Trailer) → a ≡ Types t → e < t .types → (ls : List Layout) (d : Layout) → ls ≡ layoutsOf (typesOf f) → good (getD ls e d) ≡ valued (entryOf f e)
-    unfolding entryOf layoutsOf _>>=_
-    found-there t is h ls d same =
-        let x = told f a says t is in
-        let low : e < length (x .ts) = omega (arith, x .count) in
-        rw (same, x .taken) (table-there (x .ts) _ e d low)
+module _ (f : List ℕ) (e : ℕ) where
+  found-refused : {number place : ℕ} → entryOf f e ≡ refused number place → refused number place ≡ layoutFound f e
+  unfolding layoutFound
+  found-refused h = sym (then-refused _ h)
 
-    -- 8: "entry number not below T"
-    pub found-missing : (t : Trailer) → a ≡ Types t → t .types ≤ e → refused 8 0 ≡ valued (entryOf f e)
-    unfolding entryOf
-    found-missing t is h =
-        let x = told f a says t is in
-        let high : length (x .ts) ≤ e = omega (arith, x .count) in
-        rw (then-is _ (x .taken)) (table-past (x .ts) e high)
+  pub found-no-trailer : {number place : ℕ} → checkTrailer f ≡ refused number place → refused number place ≡ layoutFound f e
+  unfolding entryOf
+  found-no-trailer h = found-refused (then-refused _ (trailer-refused f h))
 
-    pub found-refused : (r : Refusal) → a ≡ Refused r → refused (numberOf r) (placeOf r) ≡ valued (entryOf f e)
-    unfolding entryOf
-    found-refused r is = valued-refused _ _ _ (then-refused _ (told-refused f a says r is))
+  module _ (a : Grounded) (table : List (List ℕ)) (says : saidGround a table ≡ groundIn f e) where
+    pub found-ground : (g : Ground) → a ≡ grounded.Is g → good (g .layout) ≡ layoutFound f e
+    unfolding layoutFound groundOf
+    found-ground g is =
+        let x = ground-told f e a table says g is in
+        sym (then-is _ (x .entry-is) ∙ ap (λ (y : Ground). good (y .layout)) (sym (x .ground-is)))
 
--- ---- what the layout of an entry tells
+    pub found-no-ground : (r : Refusal) → a ≡ grounded.Refused r → refused (numberOf r) (placeOf r) ≡ layoutFound f e
+    found-no-ground r is = found-refused (ground-told-refused f e a table says r is)
 
-valued-good : (s : Said Ty) (l : Layout) → valued s ≡ good l → (t : Ty) × (s ≡ good t) × (l ≡ valueOf t)
-unfolding valued
-valued-good (good t) l e = (t, refl, cc)
-valued-good (refused number place) l e = good-not-refused e refl
+-- ---- what it tells
 
-refused-valued : (s : Said Ty) (number place : ℕ) → valued s ≡ refused number place → s ≡ refused number place
-unfolding valued
-refused-valued (good t) number place e = good-not-refused refl e
-refused-valued (refused n p) number place e =
-    let a : n ≡ number = cc in
-    let b : p ≡ place = cc in
-    rw (a, b)
-
-module _ (f : List ℕ) (e : ℕ) (a : Found) (says : saidFound a ≡ valued (entryOf f e)) where
+module _ (f : List ℕ) (e : ℕ) (a : Found) (says : saidFound a ≡ layoutFound f e) where
   -- A question about an entry that is refused is refused so.
   pub ask-refused : {B : Type 0} (rest : Ty → Said B) (r : Refusal) → a ≡ Found.Refused r → refused (numberOf r) (placeOf r) ≡ _>>=_ (entryOf f e) rest
-  ask-refused rest r is = sym (then-refused rest (refused-valued _ _ _ (sym says ∙ ap saidFound is)))
+  unfolding layoutFound
+  ask-refused rest r is =
+      sym (then-refused rest (then-cases _ _ (sym says ∙ ap saidFound is) (λ h. h) (λ x. good-not-refused refl (x .after))))
 
   module _ (l : Layout) (is : a ≡ Found.Is l) where
     -- Any question that the layout of a well-formed type answers, its entry answers.
-    ask-is : {B : Type 0} (rest : Ty → Said B) (s : Said B) → ((t : Ty) → l ≡ valueOf t → everywhere isWellFormed t ≡ true → s ≡ rest t) → s ≡ _>>=_ (entryOf f e) rest
+    ask-is : {B : Type 0} (rest : Ty → Said B) (s : Said B) → ((t : Ty) → l ≡ valueOf (l .reference) t → everywhere isWellFormed t ≡ true → s ≡ rest t) → s ≡ _>>=_ (entryOf f e) rest
+    unfolding layoutFound
     ask-is rest s h =
-        let x = valued-good (entryOf f e) l (sym says ∙ ap saidFound is) in
-        h (x .0) (x .2) (entry-well-formed f e (x .0) (x .1)) ∙ sym (then-is rest (x .1))
+        let x = then-good _ _ (sym says ∙ ap saidFound is) in
+        let t = x .value in
+        h t (own-reference _ t (sym (inner (x .after)))) (entry-well-formed f e t (x .first)) ∙ sym (then-is rest (x .first))
 
     -- A number asked alone.
-    ask-number : (ask : Ty → Option ℕ) → Positive ask → (n : ℕ) → ((t : Ty) → l ≡ valueOf t → n ≡ present (ask t)) → {s : Said ℕ} → s ≡ orRefuse 9 0 (marked n) → s ≡ _>>=_ (entryOf f e) (λ t. orRefuse 9 0 (ask t))
+    ask-number : (ask : Ty → Option ℕ) → Positive ask → (n : ℕ) → ((t : Ty) → l ≡ valueOf (l .reference) t → n ≡ present (ask t)) → {s : Said ℕ} → s ≡ orRefuse 9 0 (marked n) → s ≡ _>>=_ (entryOf f e) (λ t. orRefuse 9 0 (ask t))
     ask-number ask p n same h = ask-is _ _ (λ t v w. h ∙ ap (orRefuse 9 0) (marked-is ask p t w (same t v)))
 
     pub ask-size : {s : Said ℕ} → s ≡ orRefuse 9 0 (marked (l .size)) → s ≡ sizeCall f e
@@ -199,7 +175,7 @@ module _ (f : List ℕ) (e : ℕ) (a : Found) (says : saidFound a ≡ valued (en
     unfolding alignCall valueOf
     ask-align h = ask-number alignOf align-positive (l .align) (λ t v. ap (λ (x : Layout). x .align) v) h
 
-    module _ (least : ℕ) (same : (t : Ty) → l ≡ valueOf t → least ≡ present (minSizeOf t)) where
+    module _ (least : ℕ) (same : (t : Ty) → l ≡ valueOf (l .reference) t → least ≡ present (minSizeOf t)) where
       pub ask-min-size : {s : Said ℕ} → s ≡ orRefuse 9 0 (marked least) → s ≡ minSizeCall f e
       unfolding minSizeCall
       ask-min-size h = ask-number minSizeOf least-positive least same h

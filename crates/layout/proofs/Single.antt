@@ -15,7 +15,7 @@ use Rattle.file.specs.Refusal.{numberOf, placeOf}
 use Rattle.file.specs.declared.refusal.Refusal.{Refusal}
 use Rattle.file.specs.declared.refusal.Refusal.the-variants.{Short, Form, Counts, Length, Rule, Given, Large, Missing, Absent, Unstorable, NoMember, PastEnd, NoIndex, Count, Buffer, Word, Long, NoRank}
 use Rattle.file.specs.declared.trailer.Trailer.{Trailer}
-use Rattle.table.specs.Table.{saidChecked}
+use Rattle.table.specs.Table.{Table, saidTable, saidChecked}
 use Rattle.layout.specs.Answer.{saidNumber, maybeOf, saidAnswer}
 use Rattle.layout.specs.declared.ask.Number.{Number}
 use Rattle.layout.specs.declared.ask.Maybe.{Maybe}
@@ -114,3 +114,24 @@ checked-told (Checked.Refused r) = ap Checked.Refused (refusal-told r)
 -- Two answers that the table's claim allows are the same.
 pub single-checked : {said : Said wgsl.Trailer} (a b : Checked) → saidChecked a ≡ said → saidChecked b ≡ said → a ≡ b
 single-checked = single saidChecked checkedFrom checked-told
+
+-- what a table's answer says without its values, and its values
+abbrev trailerIn : Said Table → Said wgsl.Trailer
+trailerIn (good x) = good (x .trailer)
+trailerIn (refused number place) = refused number place
+
+abbrev valuesIn : Said Table → List (List ℕ)
+valuesIn (good x) = x .values
+valuesIn (refused number place) = []
+
+answer-in : (a : Checked) (table : List (List ℕ)) → saidChecked a ≡ trailerIn (saidTable a table)
+answer-in (Checked.Types t) table = refl
+answer-in (Checked.Refused r) table = refl
+
+-- Two answers of a fill are the same,
+pub single-fill : {said : Said Table} (a b : Checked) (t u : List (List ℕ)) → saidTable a t ≡ said → saidTable b u ≡ said → a ≡ b
+single-fill a b t u p q = single-checked a b (answer-in a t ∙ ap trailerIn p) (answer-in b u ∙ ap trailerIn q)
+
+-- and so are two tables that it leaves of an accepted file.
+pub single-table : {said : Said Table} (a b : Trailer) (t u : List (List ℕ)) → saidTable (Checked.Types a) t ≡ said → saidTable (Checked.Types b) u ≡ said → t ≡ u
+single-table a b t u p q = ap valuesIn (p ∙ sym q)

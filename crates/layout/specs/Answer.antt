@@ -9,8 +9,6 @@ use Rattle.wgsl.specs.Call as wgsl
 use Rattle.file.specs.Refusal.{numberOf, placeOf}
 use Rattle.layout.specs.declared.ask.Number.{Number}
 use Rattle.layout.specs.declared.ask.Number.the-variants.{Is, Refused}
-use Rattle.kinds.specs.declared.value.Layout.{Layout}
-use Rattle.layout.specs.declared.ask.Found.{Found}
 use Rattle.layout.specs.declared.ask.Maybe.{Maybe}
 use Rattle.layout.specs.declared.ask.Sizes.{Sizes}
 use Rattle.layout.specs.declared.ask.Answer.{Answer}
@@ -18,10 +16,6 @@ use Rattle.layout.specs.declared.ask.Answer.{Answer}
 -- a number that is above 0, or an absent one
 unfoldable pub marked : ℕ → Option ℕ
 marked n = cond (eqb n 0) none (some n)
-
-abbrev pub saidFound : Found → Said Layout
-saidFound (Found.Is l) = good l
-saidFound (Found.Refused r) = refused (numberOf r) (placeOf r)
 
 abbrev pub saidNumber : Number → Said ℕ
 saidNumber (Is n) = good n

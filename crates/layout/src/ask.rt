@@ -1,16 +1,21 @@
 // The check and the four questions of document 01.
 use file::refusal::Refusal;
+use file::trailer::Trailered;
+use file::trailer::check_trailer;
 use kinds::value::Layout;
+use kinds::value::blank;
 use table::Checked;
-use table::layouts;
+use table::Grounded;
+use table::accept;
+use table::find;
 ghost use mathlib.Core.Path.{_≡_};
 ghost use Rattle.wgsl.specs.Types.{Ty};
 ghost use Rattle.wgsl.specs.Size.{present, minSizeOf};
 ghost use Rattle.wgsl.specs.Said.{orRefuse};
-ghost use Rattle.wgsl.specs.Call.{entryOf, checkOf, sizeCall, alignCall, minSizeCall, layoutCall};
+ghost use Rattle.wgsl.specs.Call.{checkOf, sizeCall, alignCall, minSizeCall, layoutCall};
 ghost use Rattle.kinds.specs.Value.{valueOf};
-ghost use Rattle.table.specs.Table.{valued};
-ghost use Rattle.layout.specs.Answer.{marked, saidFound, saidNumber, maybeOf, saidAnswer};
+ghost use Rattle.layout.specs.Answer.{marked, saidNumber, maybeOf, saidAnswer};
+ghost use Rattle.layout.specs.Found.{layoutFound, saidFound};
 
 // A number, or a refusal.
 pub enum Number {
@@ -46,29 +51,28 @@ pub enum Found {
 pub fn check(file: &[u8]) -> Number
     ensures { λ r. ⌜ saidNumber r ≡ checkOf (now (file .entry)) ⌝ }
 {
-    let t = layouts(file);
-    let answer = t.answer;
-    match answer {
+    match accept(file) {
         Checked::Types(trailer) => Number::Is(trailer.types),
         Checked::Refused(r) => Number::Refused(r),
     }
 }
 
 // The layout of entry `entry`.
-fn find(file: &[u8], entry: u32) -> Found
-    ensures { λ r. ⌜ saidFound r ≡ valued (entryOf (now (file .entry)) entry) ⌝ }
+fn layout_of(file: &[u8], entry: u32) -> Found
+    ensures { λ r. ⌜ saidFound r ≡ layoutFound (now (file .entry)) entry ⌝ }
 {
-    let t = layouts(file);
-    let answer = t.answer;
-    match answer {
-        Checked::Types(trailer) => {
-            if entry < trailer.types {
-                let at = entry as usize;
-                return Found::Is(t.layouts[at]);
+    match check_trailer(file) {
+        Trailered::Refused(r) => Found::Refused(r),
+        Trailered::Good(t) => {
+            let mut table = blank();
+            match find(file, t, entry, &mut table) {
+                Grounded::Is(g) => {
+                    let l = g.layout;
+                    Found::Is(l)
+                }
+                Grounded::Refused(r) => Found::Refused(r),
             }
-            Found::Refused(Refusal::Missing)
         }
-        Checked::Refused(r) => Found::Refused(r),
     }
 }
 
@@ -92,7 +96,7 @@ fn mark(n: u32) -> Maybe
 }
 
 fn least(l: Layout) -> u32
-    ensures { λ r. ⌜ ((t : Ty) → l ≡ valueOf t → r ≡ present (minSizeOf t)) ⌝ }
+    ensures { λ r. ⌜ ((t : Ty) → l ≡ valueOf (l .reference) t → r ≡ present (minSizeOf t)) ⌝ }
 {
     if l.kind == 10 {
         return l.stride;
@@ -105,7 +109,7 @@ fn least(l: Layout) -> u32
 pub fn size(file: &[u8], entry: u32) -> Number
     ensures { λ r. ⌜ saidNumber r ≡ sizeCall (now (file .entry)) entry ⌝ }
 {
-    match find(file, entry) {
+    match layout_of(file, entry) {
         Found::Is(l) => alone(l.size),
         Found::Refused(r) => Number::Refused(r),
     }
@@ -116,7 +120,7 @@ pub fn size(file: &[u8], entry: u32) -> Number
 pub fn align(file: &[u8], entry: u32) -> Number
     ensures { λ r. ⌜ saidNumber r ≡ alignCall (now (file .entry)) entry ⌝ }
 {
-    match find(file, entry) {
+    match layout_of(file, entry) {
         Found::Is(l) => alone(l.align),
         Found::Refused(r) => Number::Refused(r),
     }
@@ -127,7 +131,7 @@ pub fn align(file: &[u8], entry: u32) -> Number
 pub fn min_size(file: &[u8], entry: u32) -> Number
     ensures { λ r. ⌜ saidNumber r ≡ minSizeCall (now (file .entry)) entry ⌝ }
 {
-    match find(file, entry) {
+    match layout_of(file, entry) {
         Found::Is(l) => alone(least(l)),
         Found::Refused(r) => Number::Refused(r),
     }
@@ -138,7 +142,7 @@ pub fn min_size(file: &[u8], entry: u32) -> Number
 pub fn layout(file: &[u8], entry: u32) -> Answer
     ensures { λ r. ⌜ saidAnswer r ≡ layoutCall (now (file .entry)) entry ⌝ }
 {
-    match find(file, entry) {
+    match layout_of(file, entry) {
         Found::Is(l) => Answer::Is(Sizes {
             size: mark(l.size),
             align: mark(l.align),

@@ -1,16 +1,20 @@
 // The listing of a layout file: its text, and the program around it.
 use file::refusal::number;
 use file::refusal::place;
-use kinds::value::Layout;
+use file::trailer::Trailered;
+use file::trailer::check_trailer;
+use kinds::value::Value;
+use kinds::value::blank;
+use kinds::value::layout_at;
 use libc::STDIN_FILENO;
 use libc::STDOUT_FILENO;
 use table::Checked;
-use table::layouts;
+use table::fill;
 use text::put_heading;
 use text::put_line;
 use text::put_refused;
 ghost use mathlib.Core.List.{List};
-ghost use Prim.Native.Nat.{_≤_};
+ghost use Prim.Native.Nat.{ℕ, _≤_};
 ghost use lib.ListN.{length};
 ghost use Rattle.wgsl.specs.Types.{Ty};
 ghost use Rattle.wgsl.specs.Said.{good};
@@ -19,15 +23,15 @@ ghost use Rattle.text.specs.Put.{Put};
 ghost use Rattle.lister.specs.List.{Entries};
 
 // Puts the lines of an accepted file's entries.
-fn put_entries(out: &mut [u8], ls: [Layout; 256], types: u32) -> usize
+fn put_entries(out: &mut [u8], table: &[Value], types: u32) -> usize
     requires room { ⌜ 8467 ≤ length (now out) ⌝ }
-    requires entries { ⌜ ((ts : List Ty) × Entries ls types ts) ⌝ }
-    ensures { λ r. ⌜ ((ts : List Ty) → Entries ls types ts → Put (now (out .entry)) 0 (listed (good ts)) r (now (out .exit))) ⌝ }
+    requires entries { ⌜ ((f : List ℕ) × (ts : List Ty) × Entries f (now table) types ts) ⌝ }
+    ensures { λ r. ⌜ ((f : List ℕ) (ts : List Ty) → Entries f (now (table .entry)) types ts → Put (now (out .entry)) 0 (listed (good ts)) r (now (out .exit))) ⌝ }
 {
     let mut at = put_heading(out, 0, types);
     let mut k: u32 = 0;
     while k < types {
-        let l = ls[k as usize];
+        let l = layout_at(table, k as usize);
         at = put_line(out, at, k, l.size, l.align);
         k += 1;
     }
@@ -42,14 +46,15 @@ pub fn list(file: &[u8], out: &mut [u8]) -> usize
     if 65536 < file.len() {
         return put_refused(out, 0, 17, 0);
     }
-    let t = layouts(file);
-    let answer = t.answer;
-    match answer {
-        Checked::Types(trailer) => {
-            let ls = t.layouts;
-            put_entries(out, ls, trailer.types)
+    match check_trailer(file) {
+        Trailered::Refused(r) => put_refused(out, 0, number(r), place(r)),
+        Trailered::Good(t) => {
+            let mut table = blank();
+            match fill(file, t, &mut table) {
+                Checked::Types(_) => put_entries(out, &table, t.types),
+                Checked::Refused(r) => put_refused(out, 0, number(r), place(r)),
+            }
         }
-        Checked::Refused(r) => put_refused(out, 0, number(r), place(r)),
     }
 }
 

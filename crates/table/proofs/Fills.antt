@@ -1,64 +1,52 @@
--- The table of layouts, filled upward (specs/Table).
+-- The table of values, filled upward (specs/Table).
 --
--- In order: what a file's verdict says of the table; a table that is filled up to entry k, and its lower entries; one entry more; the
--- whole table.
+-- In order: a table that is filled up to entry k; what that entry is judged over; one entry more, or a refusal; the whole table.
 -- Assumes nothing.
-use Prim.Native.Nat.{ℕ, zero, suc, _+_, _-_, _<_, _≤_, _*_}
-use mathlib.Core.Bool.{Bool, true, false, true≢false}
-use mathlib.Core.List.{List, [], _∷_, _++_, map, map-append}
-use mathlib.Core.Option.{none, some}
+use Prim.Native.Nat.{ℕ, suc, _+_, _-_, _<_, _≤_, _*_}
+use mathlib.Core.List.{List, [], _∷_, _++_}
 use mathlib.Core.Path.{_≡_, refl, sym, ap, _∙_}
 use native.Mathlib.Omega.{arith}
 use native.Mathlib.Numerals.{add-one}
-use borrow.Author.Tests.{ltb-true, ltb-false}
-use lib.Dec.{ltb}
-use lib.ListN.{length, take, drop, set, getD, getElem?, replicate, length-set, length-replicate, take-append-drop}
-use lib.Seq.{take-suc-set, drop-set-lt, drop-drop, getD-take}
-use Rattle.wgsl.specs.Types.{Ty, everywhere}
+use lib.ListN.{length, take, drop, set, replicate, length-set, length-replicate, take-append-drop}
+use lib.Seq.{take-suc-set, drop-set-lt, drop-drop}
+use Rattle.wgsl.specs.Types.{Ty}
 use Rattle.wgsl.specs.Said.{good, refused}
-use Rattle.wgsl.specs.File.{Trailer, trailerLength, typeEntryLength, memberEntryLength, lengthBy, checkTrailer}
-use Rattle.wgsl.specs.Rule.{lower, isWellFormed, typeOfEntry, typesBelow, typesOf}
+use Rattle.wgsl.specs.File.{Trailer, trailerLength, typeEntryLength, memberEntryLength, lengthBy, TypeEntry, typeEntryAt, typeEntryFrom, checkTrailer}
+use Rattle.wgsl.specs.Rule.{typeOfEntry, typesBelow, typesOf}
 use Rattle.wgsl.proofs.Said.{then-is, then-refused}
 use Rattle.wgsl.proofs.Accepted.{below-length, below-well-formed, Trailed, trailed}
-use Rattle.kinds.specs.Value.{valueOf, madeOf, blankLayout}
+use Rattle.kinds.specs.Value.{valueOf, madeOf, numbersOf, blankTable, valuesFrom, valuesOf}
 use Rattle.kinds.specs.declared.value.Layout.{Layout}
 use Rattle.kinds.specs.declared.value.Made.{Made}
 use Rattle.kinds.specs.declared.value.Made.the-variants.{Laid}
-use Rattle.file.specs.declared.refusal.Refusal.{Refusal}
-use Rattle.file.specs.Refusal.{numberOf, placeOf}
-use Rattle.table.specs.declared.Checked.{Checked}
-use Rattle.table.specs.declared.Checked.the-variants.{Refused}
-use Rattle.table.specs.Table.{layoutsOf, acceptedTrailer, saidChecked, Referred}
-use Rattle.structs.specs.Run.{Lower}
-use Rattle.table.proofs.Judging.{types-of, says, entry-laid, entry-refused}
+use Rattle.kinds.proofs.Values.{values-more}
+use Rattle.table.specs.Table.{tableOf, Upward}
+use Rattle.table.proofs.Judging.{types-of, entry-is, base-is, members-are, says, entry-laid, entry-refused}
 
--- ---- what a file's verdict says of the table
-
-pub types-refused : {number place : ℕ} (f : List ℕ) → checkTrailer f ≡ refused number place → typesOf f ≡ refused number place
-unfolding typesOf
-types-refused f e = then-refused _ e
-
--- The blank table and its refusal.
-pub refuses : {answer : Checked} {ls : List Layout} {r : Refusal} (f : List ℕ) → answer ≡ Refused r → ls ≡ replicate 256 blankLayout → typesOf f ≡ refused (numberOf r) (placeOf r) → (saidChecked answer ≡ acceptedTrailer f) × (ls ≡ layoutsOf (typesOf f))
-unfolding acceptedTrailer layoutsOf
-refuses f a b e = (rw a (sym (then-refused _ e)), b ∙ rw e)
+-- an entry that is not filled
+abbrev blank : List ℕ
+blank = replicate 8 0
 
 -- ---- a table that is filled up to entry k
 
-pub record Filled (f : List ℕ) (r : Trailer) (k : ℕ) (ls : List Layout) : Type 0 where
+pub record Filled (f : List ℕ) (r : Trailer) (k : ℕ) (table : List (List ℕ)) : Type 0 where
   pub checked : checkTrailer f ≡ good r
   pub trailer : Trailed f r
   pub long : length f ≡ r .start + (12 * r .types + 12 * r .members) + 10
   pub turn : k ≤ r .types
   pub types : List Ty
   pub below : typesBelow f k ≡ good types
-  pub first : take k ls ≡ map valueOf types
-  pub rest : drop k ls ≡ replicate (256 - k) blankLayout
-  pub whole : length ls ≡ 256
+  pub first : take k table ≡ valuesFrom f 0 types
+  pub rest : drop k table ≡ replicate (256 - k) blank
+  pub whole : length table ≡ 256
 
-pub filled-none : {f : List ℕ} {r : Trailer} {b : Layout} → checkTrailer f ≡ good r → b ≡ blankLayout → Filled f r 0 (replicate 256 b)
-unfolding typesBelow lengthBy typeEntryLength memberEntryLength trailerLength
-filled-none {f} {r} {b} e h =
+pub blank-length : length blankTable ≡ 256
+unfolding blankTable
+blank-length = length-replicate 256 blank
+
+pub filled-none : {f : List ℕ} {r : Trailer} {table : List (List ℕ)} → checkTrailer f ≡ good r → table ≡ blankTable → Filled f r 0 table
+unfolding typesBelow lengthBy typeEntryLength memberEntryLength trailerLength blankTable valuesFrom
+filled-none {f} {r} e h =
     record {
       checked = e;
       trailer = trailed f r e;
@@ -67,106 +55,82 @@ filled-none {f} {r} {b} e h =
       types = [];
       below = refl;
       first = refl;
-      rest = ap (replicate 256) h;
-      whole = length-replicate 256 b;
+      rest = h;
+      whole = ap length h ∙ blank-length;
     }
 
--- ---- its lower entries
-
--- an element of a mapped list, where there is one
-mapped : (ts : List Ty) (r : ℕ) (d : Layout) → r < length ts → (t : Ty) × (getElem? ts r ≡ some t) × (getD (map valueOf ts) r d ≡ valueOf t)
-mapped [] r d h = absurd (omega arith)
-mapped (t ∷ ts) zero d h = (t, refl, refl)
-mapped (t ∷ ts) (suc r) d h = mapped ts r d (omega arith)
-
-missing : {A : Type 0} (l : List A) (r : ℕ) → length l ≤ r → getElem? l r ≡ none
-missing [] r h = refl
-missing (a ∷ l) zero h = absurd (omega arith)
-missing (a ∷ l) (suc r) h = missing l r (omega arith)
-
--- one element more of those that are filled, and one less of those that are not
-first-more : (ls : List Layout) (k : ℕ) (l : Layout) (ts : List Ty) (t : Ty) → k < length ls → take k ls ≡ map valueOf ts → l ≡ valueOf t → take (k + 1) (set ls k l) ≡ map valueOf (ts ++ (t ∷ []))
-first-more ls k l ts t h e q =
-    rw (add-one k, map-append valueOf ts (t ∷ []), ← e, ← q) (take-suc-set ls k l h)
-
-rest-more : (ls : List Layout) (k : ℕ) (l : Layout) → k < 256 → drop k ls ≡ replicate (256 - k) blankLayout → drop (k + 1) (set ls k l) ≡ replicate (256 - (k + 1)) blankLayout
-rest-more ls k l h e =
-    let z : 256 - k ≡ suc (256 - (k + 1)) = omega arith in
-    let b : k < k + 1 = omega arith in
-    drop-set-lt (k + 1) ls k l b ∙ sym (drop-drop 1 k ls) ∙ ap (drop 1) e
-    ∙ ap (λ (n : ℕ). drop 1 (replicate n blankLayout)) z
-
-filled-whole : (ls : List Layout) (k : ℕ) (ts : List Ty) → length ts ≡ k → take k ls ≡ map valueOf ts → drop k ls ≡ replicate (256 - k) blankLayout → ls ≡ layoutsOf (good ts)
-unfolding layoutsOf
-filled-whole ls k ts n e d = rw (n, ← e, ← d) (sym (take-append-drop k ls))
-
-module _ {f : List ℕ} {r : Trailer} {k : ℕ} {ls : List Layout} (t : Filled f r k ls) where
+module _ {f : List ℕ} {r : Trailer} {k : ℕ} {table : List (List ℕ)} (t : Filled f r k table) where
   count : length (t .types) ≡ k
   count = below-length f k (t .types) (t .below)
 
-  pub filled-lower : Lower ls k (t .types)
-  filled-lower =
+  -- what entry k is judged over
+  pub filled-upward : {e : TypeEntry} {start types members : ℕ} → k < r .types → start ≡ r .start → types ≡ r .types → members ≡ r .members → e ≡ typeEntryFrom f (start + 12 * k) → Upward f k e (start + 12 * types) members table (t .types)
+  filled-upward h at n m e =
+      let few = t .trailer .few in
+      let high = t .trailer .high in
+      let long = t .long in
       record {
-        holds = record { first = rw count (t .first); well-formed = below-well-formed f k (t .types) (t .below) };
-        count = count;
+        entry-is = entry-is (t .trailer) at k e;
+        base-is = base-is (t .trailer) at n;
+        members-is = members-are (t .trailer) at m;
+        inside = omega arith;
         few = omega arith;
+        lower =
+            record {
+              holds = record { first = rw count (t .first); well-formed = below-well-formed f k (t .types) (t .below) };
+              count = count;
+              few = omega arith;
+            };
+        table-inside = omega (arith, t .whole);
       }
 
-  filled-there : (i : ℕ) → i < k → Referred (getD ls i blankLayout) true (lower (t .types) i)
-  unfolding lower
-  filled-there i h =
-      let m = mapped (t .types) i blankLayout (omega (arith, count)) in
-      let same : getD ls i blankLayout ≡ valueOf (m .0) =
-      sym (getD-take k ls i blankLayout h) ∙ ap (λ (l : List Layout). getD l i blankLayout) (t .first) ∙ m .2 in
-      let fine : everywhere isWellFormed (m .0) ≡ true = below-well-formed f k (t .types) (t .below) i (m .0) (m .1) in
-      record { there = λ _. (m .0, m .1, same, fine); not-there = λ e. absurd (true≢false e) }
+-- ---- one entry more
 
-  filled-missing : {l : Layout} (i : ℕ) → k ≤ i → Referred l false (lower (t .types) i)
-  unfolding lower
-  filled-missing i h =
-      record {
-        there = λ e. absurd (true≢false (sym e));
-        not-there = λ _. missing (t .types) i (omega (arith, count));
-      }
+-- one element more of those that are filled, and one less of those that are not
+first-more : (f : List ℕ) (table : List (List ℕ)) (k : ℕ) (l : Layout) (ts : List Ty) (t : Ty) → length ts ≡ k → k < length table → take k table ≡ valuesFrom f 0 ts → l ≡ valueOf (typeEntryAt f k .reference) t → take (k + 1) (set table k (numbersOf l)) ≡ valuesFrom f 0 (ts ++ (t ∷ []))
+first-more f table k l ts t n h e q =
+    let z : 0 + length ts ≡ k = omega arith in
+    rw (add-one k, values-more f 0 ts t, z, ← e, ← q) (take-suc-set table k (numbersOf l) h)
 
-  -- the entry that a reference leads to, read at j
-  pub filled-referred : (i j : ℕ) → (i < k → j ≡ i) → Referred (getD ls j blankLayout) (ltb i k) (lower (t .types) i)
-  filled-referred i j e = go (ltb i k) refl
-    where
-      go : (b : Bool) → ltb i k ≡ b → Referred (getD ls j blankLayout) b (lower (t .types) i)
-      go true p = let h : i < k = ltb-true i k p in rw (e h) (filled-there i h)
-      go false p = filled-missing i (ltb-false i k p)
+rest-more : (table : List (List ℕ)) (k : ℕ) (v : List ℕ) → k < 256 → drop k table ≡ replicate (256 - k) blank → drop (k + 1) (set table k v) ≡ replicate (256 - (k + 1)) blank
+rest-more table k v h e =
+    let z : 256 - k ≡ suc (256 - (k + 1)) = omega arith in
+    let b : k < k + 1 = omega arith in
+    drop-set-lt (k + 1) table k v b ∙ sym (drop-drop 1 k table) ∙ ap (drop 1) e
+    ∙ ap (λ (n : ℕ). drop 1 (replicate n blank)) z
 
-  -- ---- one entry more
-
-  pub filled-more : {l : Layout} → k < r .types → Laid l ≡ madeOf (typeOfEntry f (t .types) k) → Filled f r (k + 1) (set ls k l)
-  filled-more {l} h e =
-      let m = entry-laid f k (t .below) e l refl in
-      let inside : k < length ls = omega arith in
+module _ {f : List ℕ} {r : Trailer} {k : ℕ} {table : List (List ℕ)} {e : TypeEntry} (t : Filled f r k table) (h : k < r .types) (is : e ≡ typeEntryAt f k) where
+  pub filled-more : {l : Layout} {v : List ℕ} → Laid l ≡ madeOf (e .reference) (typeOfEntry f (t .types) k) → v ≡ numbersOf l → Filled f r (k + 1) (set table k v)
+  filled-more {l} {v} m q =
+      let x = entry-laid f k (e .reference) (t .below) m l refl in
+      let high = t .trailer .high in
+      let inside : k < length table = omega (arith, t .whole) in
       record {
         checked = t .checked;
         trailer = t .trailer;
         long = t .long;
         turn = omega arith;
-        types = t .types ++ (m .0 ∷ []);
-        below = rw (add-one k) (m .1);
-        first = first-more ls k l (t .types) (m .0) inside (t .first) (m .2);
-        rest = rest-more ls k l (omega arith) (t .rest);
-        whole = length-set ls k l ∙ t .whole;
+        types = t .types ++ (x .0 ∷ []);
+        below = rw (add-one k) (x .1);
+        first = rw q (first-more f table k l (t .types) (x .0) (count t) inside (t .first) (x .2 ∙ ap (λ (y : TypeEntry). valueOf (y .reference) (x .0)) is));
+        rest = rest-more table k v (omega arith) (t .rest);
+        whole = length-set table k v ∙ t .whole;
       }
 
-  pub filled-refused : {m : Made} {number place : ℕ} → k < r .types → m ≡ madeOf (typeOfEntry f (t .types) k) → says k m ≡ refused number place → typesOf f ≡ refused number place
-  filled-refused h e s = types-of f r (t .checked) ∙ entry-refused f k (t .below) e (r .types) s h
+  pub filled-refused : {m : Made} {number place : ℕ} → m ≡ madeOf (e .reference) (typeOfEntry f (t .types) k) → says k m ≡ refused number place → refused number place ≡ tableOf f
+  unfolding tableOf
+  filled-refused m s =
+      sym (then-refused _ (types-of f r (t .checked) ∙ entry-refused f k (e .reference) (t .below) m (r .types) s h))
 
-  -- ---- the whole table
+-- ---- the whole table
 
-  module _ (all : k ≡ r .types) where
-    filled-types : typesOf f ≡ good (t .types)
-    filled-types = types-of f r (t .checked) ∙ rw (← all) (t .below)
+whole-table : (f : List ℕ) (table : List (List ℕ)) (k : ℕ) (ts : List Ty) → length ts ≡ k → take k table ≡ valuesFrom f 0 ts → drop k table ≡ replicate (256 - k) blank → table ≡ valuesOf f ts
+unfolding valuesOf
+whole-table f table k ts n e d = rw (n, ← e, ← d) (sym (take-append-drop k table))
 
-    pub filled-trailer : good r ≡ acceptedTrailer f
-    unfolding acceptedTrailer
-    filled-trailer = sym (then-is _ filled-types ∙ ap good (sym (t .trailer .is)))
-
-    pub filled-layouts : ls ≡ layoutsOf (typesOf f)
-    filled-layouts = rw filled-types (filled-whole ls k (t .types) count (t .first) (t .rest))
+pub filled-table : {f : List ℕ} {r : Trailer} {k : ℕ} {table : List (List ℕ)} → Filled f r k table → k ≡ r .types → good (record { trailer = r; values = table }) ≡ tableOf f
+unfolding tableOf
+filled-table {f} {r} {k} {table} t all =
+    let is : typesOf f ≡ good (t .types) = types-of f r (t .checked) ∙ rw (← all) (t .below) in
+    let values = whole-table f table k (t .types) (count t) (t .first) (t .rest) in
+    sym (then-is _ is ∙ rw (← t .trailer .is, ← values))

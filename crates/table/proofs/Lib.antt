@@ -2,3 +2,4 @@ pub mod Judging
 pub mod Members
 pub mod Fills
 pub mod Taken
+pub mod Grounds

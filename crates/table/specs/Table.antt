@@ -1,36 +1,46 @@
--- What the table promises: the layouts of all entries of an accepted file, in the words of crates/wgsl.
+-- What the table promises: the values of all entries of an accepted file, in the words of crates/wgsl.
 --
--- In order: what the whole table says; an entry that is no struct; any entry; an entry's layout.
+-- In order: the whole table; the entry that a call speaks of; the lower entries of one that is judged.
 -- Definitions only. Assumes nothing.
-use Prim.Native.Nat.{ℕ, _-_, _≤_}
+use Prim.Native.Nat.{ℕ, _+_, _*_, _<_, _≤_}
 use mathlib.Core.Path.{_≡_}
-use mathlib.Core.Bool.{Bool, false, true, cond}
-use mathlib.Core.List.{List, _++_, map}
-use mathlib.Core.Option.{Option, none, some}
-use lib.Dec.{leb}
-use lib.ListN.{length, replicate}
-use Rattle.wgsl.specs.Types.{Ty, Members, struct, everywhere}
+use mathlib.Core.List.{List}
+use lib.ListN.{length}
+use Rattle.wgsl.specs.Types.{Ty}
 use Rattle.wgsl.specs.Said.{Said, good, refused, _>>=_}
 use Rattle.wgsl.specs.File as wgsl
-use Rattle.wgsl.specs.File.{trailerOf, TypeEntry}
-use Rattle.wgsl.specs.Rule.{scalarMade, overMade, isWellFormed, typesOf}
+use Rattle.wgsl.specs.File.{trailerOf, TypeEntry, typeEntryAt, memberEntryLength}
+use Rattle.wgsl.specs.Rule.{typesOf}
+use Rattle.wgsl.specs.Call.{entryOf}
 use Rattle.file.specs.Refusal.{numberOf, placeOf}
 use Rattle.file.specs.Fields.{trailerIs}
-use Rattle.kinds.specs.declared.value.Layout.{Layout}
-use Rattle.kinds.specs.declared.value.Made.{Made}
-use Rattle.kinds.specs.declared.value.Made.the-variants.{Rule}
-use Rattle.kinds.specs.Value.{valueOf, verdictOn, madeOf, blankLayout}
-use Rattle.structs.specs.declared.Run.{Run}
-use Rattle.structs.specs.Run.{Closes}
+use Rattle.file.specs.Members.{membersStart}
+use Rattle.kinds.specs.Value.{valueOf, valuesOf}
+use Rattle.structs.specs.Run.{Lower}
 use Rattle.table.specs.declared.Checked.{Checked}
 use Rattle.table.specs.declared.Checked.the-variants.{Types, Refused}
+use Rattle.table.specs.declared.Ground.{Ground}
+use Rattle.table.specs.declared.Grounded.{Grounded}
+use Rattle.table.specs.declared.Grounded.the-variants as grounded
 
--- "A table of 256 layouts": those of the types, and blanks past them; blank where the file is refused
-unfoldable pub layoutsOf : Said (List Ty) → List Layout
-layoutsOf (good ts) = map valueOf ts ++ replicate (256 - length ts) blankLayout
-layoutsOf (refused number place) = replicate 256 blankLayout
+-- ---- the whole table
 
--- the trailer of an accepted file
+-- the trailer of an accepted file, and its values
+pub record Table : Type 0 where
+  pub trailer : wgsl.Trailer
+  pub values : List (List ℕ)
+
+-- "A table of 256 layouts"; none where the file is refused
+unfoldable pub tableOf : List ℕ → Said Table
+tableOf f = do
+  ts ← typesOf f
+  good (record { trailer = trailerOf f; values = valuesOf f ts })
+
+abbrev pub saidTable : Checked → List (List ℕ) → Said Table
+saidTable (Types t) table = good (record { trailer = trailerIs t; values = table })
+saidTable (Refused r) table = refused (numberOf r) (placeOf r)
+
+-- the trailer alone
 unfoldable pub acceptedTrailer : List ℕ → Said wgsl.Trailer
 acceptedTrailer f = do
   ts ← typesOf f
@@ -40,22 +50,41 @@ abbrev pub saidChecked : Checked → Said wgsl.Trailer
 saidChecked (Types t) = good (trailerIs t)
 saidChecked (Refused r) = refused (numberOf r) (placeOf r)
 
--- the type that a reference leads to, if it is that of a lower entry, and its layout
-pub record Referred (l : Layout) (lower : Bool) (below : Option Ty) : Type 0 where
-  pub there : lower ≡ true → (t : Ty) × (below ≡ some t) × (l ≡ valueOf t) × (everywhere isWellFormed t ≡ true)
-  pub not-there : lower ≡ false → below ≡ none
+-- ---- the entry that a call speaks of
 
--- what an entry that is no struct makes
-unfoldable pub plainMade : Option Ty → TypeEntry → Option Ty
-plainMade below e = cond (leb (e .kind) 6) (scalarMade e) (overMade below e)
+-- entry e, of the type t
+unfoldable pub groundOf : List ℕ → ℕ → Ty → Ground
+groundOf f e t =
+    record {
+      layout = valueOf (typeEntryAt f e .reference) t;
+      start = membersStart f;
+      end = membersStart f + memberEntryLength (trailerOf f .form) * trailerOf f .members;
+    }
 
--- what an entry makes whose members came to `run`, or that is no struct
-pub record EntryMade (e : TypeEntry) (count : ℕ) (run : Run) (l : Layout) (lower : Bool) (made : Made) : Type 0 where
-  pub plain : (e .kind ≡ 12 → ⊥) → (below : Option Ty) → Referred l lower below → made ≡ madeOf (plainMade below e)
-  pub empty : e .kind ≡ 12 → count ≡ 0 → made ≡ Rule
-  pub members : e .kind ≡ 12 → 1 ≤ count → (k : ℕ) (ms : Members) → Closes run ms → made ≡ verdictOn (struct k ms)
+-- an entry, and the table that it stands in
+pub record Standing : Type 0 where
+  pub ground : Ground
+  pub table : List (List ℕ)
 
--- an entry's layout, or the refusal
-unfoldable pub valued : Said Ty → Said Layout
-valued (good t) = good (valueOf t)
-valued (refused number place) = refused number place
+-- 1 to 8
+unfoldable pub groundIn : List ℕ → ℕ → Said Standing
+groundIn f e = do
+  ts ← typesOf f
+  t ← entryOf f e
+  good (record { ground = groundOf f e t; table = valuesOf f ts })
+
+abbrev pub saidGround : Grounded → List (List ℕ) → Said Standing
+saidGround (grounded.Is g) table = good (record { ground = g; table = table })
+saidGround (grounded.Refused r) table = refused (numberOf r) (placeOf r)
+
+-- ---- the lower entries of one that is judged
+
+-- entry k of a file whose trailer is good, with the fields e, over the lower ones, whose types are ts: its M member entries begin at `base`
+pub record Upward (f : List ℕ) (k : ℕ) (e : TypeEntry) (base members : ℕ) (table : List (List ℕ)) (ts : List Ty) : Type 0 where
+  pub entry-is : e ≡ typeEntryAt f k
+  pub base-is : base ≡ membersStart f
+  pub members-is : members ≡ trailerOf f .members
+  pub inside : base + 12 * members ≤ length f
+  pub few : members ≤ 1024
+  pub lower : Lower f table k ts
+  pub table-inside : k < length table

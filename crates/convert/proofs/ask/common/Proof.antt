@@ -1,4 +1,4 @@
--- Each answer is a law of `Questions`, over what `layouts`, `all_below` and `common_of_all` ensure.
+-- Each answer is a law of `Questions`, over what `accept`, `all_below` and `common_of_all` ensure.
 use mathlib.Core.Path.{ap, sym, _∙_}
 use native.Mathlib.Omega.{arith}
 use borrow.Author.Tests.{not-true, not-false}
@@ -10,10 +10,10 @@ use borrow.Author.Needs.{needs}
 use Rattle.convert.proofs.ask.common.Statement.{statement}
 use Rattle.convert.proofs.ask.common.Tie as tie
 
-file : (c : tie.After-known-told) → Taken (c .before .before .before .before .before .before .args .file .now) (c .before .answer .given .0 .0)
+file : (c : tie.After-known-told) → Taken (c .before .before .before .before .before .before .args .file .now) (c .before .trailer .given .0 .0)
 file c =
-    let t = c .before .before .before .layouts in
-    told _ (t .result .answer) (t .ensures .0) _ (c .before .answer .given .1)
+    let t = c .before .before .before .accept in
+    told _ (t .result) (t .ensures) _ (c .before .trailer .given .1)
 
 returns : tie.Need-returns
 returns c =
@@ -53,8 +53,8 @@ returns-4 c =
 
 returns-5 : tie.Need-returns-5
 returns-5 c =
-    let t = c .before .before .before .layouts in
-    common-refused _ (t .result .answer) (t .ensures .0) _ _ (c .before .answer2 .given .1)
+    let t = c .before .before .before .accept in
+    common-refused _ (t .result) (t .ensures) _ _ (c .before .r .given .1)
 
 pub common-spec : {M : Type 1} → statement M
 common-spec =

@@ -1,4 +1,4 @@
--- Each answer is a law of `Questions`, over what `layouts` and `entry_rank` ensure.
+-- Each answer is a law of `Questions`, over what `accept` and `entry_rank` ensure.
 use mathlib.Core.Path.{ap}
 use native.Mathlib.Omega.{arith}
 use Rattle.wgsl.specs.Said.{orRefuse}
@@ -9,10 +9,10 @@ use borrow.Author.Needs.{needs}
 use Rattle.convert.proofs.ask.rank.Statement.{statement}
 use Rattle.convert.proofs.ask.rank.Tie as tie
 
-file : (c : tie.After-known-told) → Taken (c .before .before .before .before .before .args .file .now) (c .before .answer .given .0 .0)
+file : (c : tie.After-known-told) → Taken (c .before .before .before .before .before .args .file .now) (c .before .trailer .given .0 .0)
 file c =
-    let t = c .before .before .before .layouts in
-    told _ (t .result .answer) (t .ensures .0) _ (c .before .answer .given .1)
+    let t = c .before .before .before .accept in
+    told _ (t .result) (t .ensures) _ (c .before .trailer .given .1)
 
 returns : tie.Need-returns
 returns c = rank-past (file (c .before)) _ _ (omega arith)
@@ -43,8 +43,8 @@ returns-4 c =
 
 returns-5 : tie.Need-returns-5
 returns-5 c =
-    let t = c .before .before .before .layouts in
-    rank-refused _ (t .result .answer) (t .ensures .0) _ _ _ (c .before .answer2 .given .1)
+    let t = c .before .before .before .accept in
+    rank-refused _ (t .result) (t .ensures) _ _ _ (c .before .r .given .1)
 
 pub rank-spec : {M : Type 1} → statement M
 rank-spec =

@@ -1,4 +1,4 @@
--- Each answer is a law of `Asks`, over what `find`, `mark` and `least` ensure.
+-- Each answer is a law of `Asks`, over what `layout_of`, `mark` and `least` ensure.
 use Rattle.wgsl.specs.Call.{layoutCall}
 use Rattle.layout.proofs.Asks.{ask-refused, ask-layout}
 use borrow.Author.Needs.{needs}
@@ -7,7 +7,7 @@ use Rattle.layout.proofs.ask.layout.Tie as tie
 
 returns : tie.Need-returns
 returns c =
-    let found = c .before .before .before .before .before .before .before .find in
+    let found = c .before .before .before .before .before .before .before .layout-of in
     ask-layout _ _ (found .result) (found .ensures) _ (c .before .before .before .before .before .l .given .1) _
     (c .before .least .ensures) (c .before .before .before .mark .ensures) (c .before .before .mark2 .ensures)
     (c .mark3 .ensures)
@@ -15,7 +15,7 @@ returns c =
 returns-2 : tie.Need-returns-2
 unfolding layoutCall
 returns-2 c =
-    let found = c .before .before .before .find in
+    let found = c .before .before .before .layout-of in
     ask-refused _ _ (found .result) (found .ensures) _ _ (c .before .r .given .1)
 
 pub layout-spec : {M : Type 1} → statement M

@@ -1,4 +1,4 @@
--- Each answer is a law of `Asks`, over what `find` and `alone` ensure.
+-- Each answer is a law of `Asks`, over what `layout_of` and `alone` ensure.
 use Rattle.wgsl.specs.Call.{sizeCall}
 use Rattle.layout.proofs.Asks.{ask-refused, ask-size}
 use borrow.Author.Needs.{needs}
@@ -7,13 +7,13 @@ use Rattle.layout.proofs.ask.size.Tie as tie
 
 returns : tie.Need-returns
 returns c =
-    let found = c .before .before .before .before .find in
+    let found = c .before .before .before .before .layout-of in
     ask-size _ _ (found .result) (found .ensures) _ (c .before .before .l .given .1) (c .alone .ensures)
 
 returns-2 : tie.Need-returns-2
 unfolding sizeCall
 returns-2 c =
-    let found = c .before .before .before .find in
+    let found = c .before .before .before .layout-of in
     ask-refused _ _ (found .result) (found .ensures) _ _ (c .before .r .given .1)
 
 pub size-spec : {M : Type 1} → statement M
