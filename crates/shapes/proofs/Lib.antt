@@ -1,0 +1,10 @@
+pub mod Sites
+pub mod Narrow
+pub mod Counted
+pub mod MemberBytes
+pub mod MemberRead
+pub mod Kept
+pub mod MembersLeft
+pub mod Lasts
+pub mod Parts
+pub mod Trees

@@ -1,0 +1,4 @@
+pub mod Places
+pub mod Further
+pub mod Unique
+pub mod Steps
