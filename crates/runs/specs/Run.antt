@@ -6,7 +6,7 @@ use mathlib.Core.Logic.{_⊎_}
 use Rattle.wgsl.specs.Said.{Said, good, refused}
 use Rattle.runs.specs.declared.Parts.{Parts}
 use Rattle.runs.specs.declared.Scan.{Scan}
-use Rattle.runs.specs.declared.Scan.the-variants.{Any, Fine, Bad}
+use Rattle.runs.specs.declared.Scan.the-variants.{Fine, Bad}
 
 -- parts from byte `at` and word `k` on lie inside so many bytes and words
 pub record Room (p : Parts) (at bytes k words : ℕ) : Type 0 where
@@ -17,6 +17,5 @@ pub record Room (p : Parts) (at bytes k words : ℕ) : Type 0 where
 
 -- refusal 16 at the first word that does not fit
 abbrev pub saidScan : Scan → Said (Unit {0})
-saidScan Any = good tt
 saidScan Fine = good tt
 saidScan (Bad k) = refused 16 k

@@ -21,9 +21,8 @@ pub struct Parts {
     pub stride: usize,
 }
 
-// That any words would fit, that these do, or the position of the first that does not.
+// That the words fit, or the position of the first that does not.
 pub enum Scan {
-    Any,
     Fine,
     Bad(usize),
 }
@@ -204,7 +203,6 @@ pub fn read_parts(buf: &[u8], at: usize, p: Parts, words: &mut [u32], k: usize)
 pub fn scan_two(words: &[u32], k: usize, n: usize) -> Scan
     requires { ⌜ k + n ≤ length (now words) ⌝ }
     ensures { λ r. ⌜ saidScan r ≡ overPlaces (testing (now (words .entry))) (runPlaces n 2 0) k (good tt) ⌝ }
-    ensures tested { λ r. ⌜ (r ≡ Scan.Any → ⊥) ⌝ }
 {
     let mut i: usize = 0;
     while i < n {

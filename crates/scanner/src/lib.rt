@@ -1,53 +1,54 @@
-// Testing words by rows, before any of them is stored: the lowest that an f16 cannot hold. Entry numbers fall.
+// Testing words by the table, before any of them is stored: the lowest that an f16 cannot hold. Entry numbers fall.
+use file::fields::half;
 use file::trailer::wide;
-use rows::Row;
-use rows::place;
-use rows::row_at;
+use kinds::value::Layout;
+use kinds::value::Value;
+use kinds::value::layout_at;
+use kinds::value::words_of;
 use runs::Scan;
 use runs::scan_two;
+use trees::part_width;
 ghost use mathlib.Core.Path.{_≡_};
 ghost use lib.ListN.{length};
 ghost use Rattle.wgsl.specs.Said.{good};
 ghost use Rattle.wgsl.specs.Place.{Shape, placesOf};
 ghost use Rattle.folds.specs.Fold.{overPlaces, testing};
 ghost use Rattle.runs.specs.Run.{saidScan};
-ghost use Rattle.rows.specs.Row.{rowAt};
-ghost use Rattle.rows.specs.Tree.{Many, Tree, WordRoom, Wide};
+ghost use Rattle.kinds.specs.Value.{layoutAt};
+ghost use Rattle.trees.specs.Tree.{Many, Tree, WordRoom};
 
-// Tests the words of entry `e`, from word `k` on.
-pub fn scan_entry(members: &[u8], rows: &[u32], e: usize, words: &[u32], k: usize) -> Scan
-    requires { ⌜ ((x : Shape) × Tree (now members) (now rows) e x × WordRoom x k (length (now words))) ⌝ }
-    ensures said { λ r. ⌜ ((x : Shape) → Tree (now (members .entry)) (now (rows .entry)) e x → saidScan r ≡ overPlaces (testing (now (words .entry))) (placesOf x 0) k (good tt)) ⌝ }
-    ensures any { λ r. ⌜ (r ≡ Scan.Any → (x : Shape) → Tree (now (members .entry)) (now (rows .entry)) e x → Wide x) ⌝ }
+// Tests the words of entry `e`, from word `k` on. Only what holds an f16 is looked at.
+pub fn scan_entry(members: &[u8], table: &[Value], e: usize, words: &[u32], k: usize) -> Scan
+    requires { ⌜ ((x : Shape) × Tree (now members) (now table) e x × WordRoom x k (length (now words))) ⌝ }
+    ensures { λ r. ⌜ ((x : Shape) → Tree (now (members .entry)) (now (table .entry)) e x → saidScan r ≡ overPlaces (testing (now (words .entry))) (placesOf x 0) k (good tt)) ⌝ }
 {
-    let r = row_at(rows, e);
-    if r.kind == 12 {
-        return scan_struct(members, rows, e, words, k);
+    let r = layout_at(table, e);
+    if r.narrow != 2 {
+        return Scan::Fine;
     }
-    scan_many(members, rows, r, words, k)
+    if r.kind == 12 {
+        return scan_struct(members, table, e, words, k);
+    }
+    scan_many(members, table, r, words, k)
 }
 
-// Tests parts as the row `r` says. Where any words fit into one part, they fit into all.
-pub fn scan_many(members: &[u8], rows: &[u32], r: Row, words: &[u32], k: usize) -> Scan
-    requires { ⌜ ((x : Shape) × Many (now members) (now rows) r x × WordRoom x k (length (now words))) ⌝ }
-    ensures said { λ s. ⌜ ((x : Shape) → Many (now (members .entry)) (now (rows .entry)) r x → saidScan s ≡ overPlaces (testing (now (words .entry))) (placesOf x 0) k (good tt)) ⌝ }
-    ensures any { λ s. ⌜ (s ≡ Scan.Any → (x : Shape) → Many (now (members .entry)) (now (rows .entry)) r x → Wide x) ⌝ }
+// Tests parts as the layout `r` says.
+pub fn scan_many(members: &[u8], table: &[Value], r: Layout, words: &[u32], k: usize) -> Scan
+    requires { ⌜ ((x : Shape) × Many (now members) (now table) r x × WordRoom x k (length (now words))) ⌝ }
+    ensures { λ s. ⌜ ((x : Shape) → Many (now (members .entry)) (now (table .entry)) r x → saidScan s ≡ overPlaces (testing (now (words .entry))) (placesOf x 0) k (good tt)) ⌝ }
 {
+    if r.narrow != 2 {
+        return Scan::Fine;
+    }
     let count = wide(r.count);
     let unit = wide(r.unit);
-    if r.width == 4 {
-        return Scan::Any;
-    }
-    if r.width == 2 {
+    if part_width(table, r) != 0 {
         return scan_two(words, k, count * unit);
     }
     let element = wide(r.reference);
     let mut i: usize = 0;
     while i < count {
-        match scan_entry(members, rows, element, words, k + i * unit) {
-            Scan::Any => {
-                return Scan::Any;
-            }
+        match scan_entry(members, table, element, words, k + i * unit) {
             Scan::Fine => {}
             Scan::Bad(p) => {
                 return Scan::Bad(p);
@@ -59,35 +60,29 @@ pub fn scan_many(members: &[u8], rows: &[u32], r: Row, words: &[u32], k: usize) 
 }
 
 // Tests a struct member by member.
-fn scan_struct(members: &[u8], rows: &[u32], e: usize, words: &[u32], k: usize) -> Scan
-    requires { ⌜ ((x : Shape) × Tree (now members) (now rows) e x × (rowAt (now rows) e .kind ≡ 12) × WordRoom x k (length (now words))) ⌝ }
-    ensures said { λ r. ⌜ ((x : Shape) → Tree (now (members .entry)) (now (rows .entry)) e x → saidScan r ≡ overPlaces (testing (now (words .entry))) (placesOf x 0) k (good tt)) ⌝ }
-    ensures any { λ r. ⌜ (r ≡ Scan.Any → (x : Shape) → Tree (now (members .entry)) (now (rows .entry)) e x → Wide x) ⌝ }
+fn scan_struct(members: &[u8], table: &[Value], e: usize, words: &[u32], k: usize) -> Scan
+    requires { ⌜ ((x : Shape) × Tree (now members) (now table) e x × (layoutAt (now table) e .kind ≡ 12) × WordRoom x k (length (now words))) ⌝ }
+    ensures { λ r. ⌜ ((x : Shape) → Tree (now (members .entry)) (now (table .entry)) e x → saidScan r ≡ overPlaces (testing (now (words .entry))) (placesOf x 0) k (good tt)) ⌝ }
 {
-    let r = row_at(rows, e);
-    let mut m = wide(r.reference);
+    let r = layout_at(table, e);
+    let length = wide(r.stride);
+    let mut m = wide(r.reference) * length;
     let mut left = wide(r.count);
-    let mut end: usize = 0;
     let mut next = k;
-    let mut any = true;
     while 0 < left {
-        let p = place(members, rows, m, end);
-        match scan_entry(members, rows, p.ty, words, next) {
-            Scan::Any => {}
-            Scan::Fine => {
-                any = false;
-            }
-            Scan::Bad(q) => {
-                return Scan::Bad(q);
+        let ty = wide(half(members, m));
+        let l = layout_at(table, ty);
+        if l.narrow == 2 {
+            match scan_entry(members, table, ty, words, next) {
+                Scan::Fine => {}
+                Scan::Bad(q) => {
+                    return Scan::Bad(q);
+                }
             }
         }
-        end = p.end;
-        next += p.words;
-        m += 1;
+        next += wide(words_of(l));
+        m += length;
         left -= 1;
-    }
-    if any {
-        return Scan::Any;
     }
     Scan::Fine
 }

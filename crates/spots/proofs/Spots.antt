@@ -13,33 +13,36 @@ use Rattle.wgsl.proofs.Count.{words, places-words}
 use Rattle.folds.specs.Fold.{overPlaces}
 use Rattle.folds.specs.Run.{runPlaces}
 use Rattle.folds.proofs.Folds.{over-append, run-length}
-use Rattle.rows.specs.declared.Row.{Row}
-use Rattle.rows.specs.declared.Placed.{Placed}
-use Rattle.rows.specs.Row.{rowAt, memberAt, placedAt}
-use Rattle.rows.specs.Tree.{Rowed, Left, Tree, EachRoom}
-use Rattle.rows.proofs.Unique.{repeated-alike}
-use Rattle.rows.proofs.Steps.{tree-rowed, tree-left, each-room, First, left-first, left-none}
+use Rattle.kinds.specs.declared.value.Layout.{Layout}
+use Rattle.trees.specs.declared.Placed.{Placed}
+use Rattle.kinds.specs.Value.{layoutAt, wordsIn}
+use Rattle.trees.specs.Placed.{packedAs, memberAt, placedAt}
+use Rattle.trees.specs.Tree.{Valued, Left, Tree, EachRoom}
+use Rattle.trees.proofs.Unique.{repeated-alike}
+use Rattle.trees.proofs.Steps.{tree-valued, tree-left, each-room, First, left-first, left-none}
 use Rattle.spots.specs.Spot.{startOf, wordsOf, spotPlaces, SpotsFit, SpottedFrom, Spotted, EachFits}
 
 -- ---- finding them
 
 -- the members of the shape y that are left after j, of the shape `rest`: whoever spots those, and keeps the spots so far, spots all
-pub record Found (ms rows : List ℕ) (e count first j end : ℕ) (l : List ℕ) (y : Shape) : Type 0 where
+pub record Found (ms : List ℕ) (table : List (List ℕ)) (e count first step j end : ℕ) (l : List ℕ) (y : Shape) : Type 0 where
   pub rest : Shape
-  pub rest-left : Left ms rows e (count - j) (first + j) end rest
+  pub rest-left : Left ms table e (count - j) (first + j * step) end rest
   pub so-all : (l′ : List ℕ) → ((i : ℕ) → i < 2 * j → getD l′ i 0 ≡ getD l i 0) → SpottedFrom j rest (count - j) l′ → SpottedFrom 0 y count l′
 
-pub record Finding (ms rows : List ℕ) (e count first j end : ℕ) (l : List ℕ) : Type 0 where
+pub record Finding (ms : List ℕ) (table : List (List ℕ)) (e count first step j end : ℕ) (l : List ℕ) : Type 0 where
   pub within : j ≤ count
+  pub step-is : step ≡ layoutAt table e .stride
   pub long : length l ≡ 16
-  pub found : (y : Shape) → Tree ms rows e y → Found ms rows e count first j end l y
+  pub found : (y : Shape) → Tree ms table e y → Found ms table e count first step j end l y
 
-pub finding-start : (ms rows : List ℕ) (e : ℕ) (l : List ℕ) → rowAt rows e .kind ≡ 12 → length l ≡ 16 → Finding ms rows e (rowAt rows e .count) (rowAt rows e .reference) 0 0 l
-finding-start ms rows e l kind long =
-    let c : rowAt rows e .count - 0 ≡ rowAt rows e .count = omega arith in
-    let m : rowAt rows e .reference + 0 ≡ rowAt rows e .reference = omega arith in
+pub finding-start : (ms : List ℕ) (table : List (List ℕ)) (e : ℕ) (l : List ℕ) → layoutAt table e .kind ≡ 12 → length l ≡ 16 → Finding ms table e (layoutAt table e .count) (layoutAt table e .reference * layoutAt table e .stride) (layoutAt table e .stride) 0 0 l
+finding-start ms table e l kind long =
+    let c : layoutAt table e .count - 0 ≡ layoutAt table e .count = omega arith in
+    let m : layoutAt table e .reference * layoutAt table e .stride + 0 * layoutAt table e .stride ≡ layoutAt table e .reference * layoutAt table e .stride = omega arith in
     record {
       within = omega arith;
+      step-is = refl;
       long = long;
       found = λ y t.
           record {
@@ -49,9 +52,9 @@ finding-start ms rows e l kind long =
           };
     }
 
-pub member-type : (ms rows : List ℕ) (m end : ℕ) {p : Placed} → p ≡ placedAt ms rows m end → p .ty ≡ memberAt ms m .type
+pub member-type : (ms : List ℕ) (table : List (List ℕ)) (m end : ℕ) {p : Placed} → p ≡ placedAt ms table m end → p .ty ≡ memberAt ms m .type
 unfolding placedAt
-member-type ms rows m end is = ap (λ (q : Placed). q .ty) is
+member-type ms table m end is = ap (λ (q : Placed). q .ty) is
 
 -- A spot, then the spots after it.
 spot-first : {x y rest : Shape} {j c o n : ℕ} {l : List ℕ} → x ≡ field o y rest → ((at : ℕ) → placesOf y at ≡ runPlaces n 4 at) → words y ≡ n → n ≤ 4 → o + n * 4 ≤ spanOf rest → startOf l j ≡ o → wordsOf l j ≡ n → SpottedFrom (suc j) rest c l → SpottedFrom j x (suc c) l
@@ -70,24 +73,24 @@ spot-first {x} {y} {rest} {j} {c} {o} {n} {l} is run ws short inside s w all =
           );
     })
 
-module _ {ms rows : List ℕ} {e count first j end : ℕ} {l : List ℕ} (now : Finding ms rows e count first j end l) (h : j < count) where
+module _ {ms : List ℕ} {table : List (List ℕ)} {e count first step j end : ℕ} {l : List ℕ} (now : Finding ms table e count first step j end l) (h : j < count) where
   -- the member whose turn it is
-  pub finding-first : {y : Shape} (t : Tree ms rows e y) → First ms rows e (count - j) (first + j) end (now .found y t .rest)
+  pub finding-first : {y : Shape} (t : Tree ms table e y) → First ms table e (count - j) (first + j * step) end (now .found y t .rest)
   finding-first {y} t = left-first (now .found y t .rest-left) (omega arith)
 
-  module _ {p : Placed} (is : p ≡ placedAt ms rows (first + j) end) {r : Row} (row-is : r ≡ rowAt rows (p .ty)) (run : r .run ≡ 4) (short : p .words ≤ 4) (few : count ≤ 8) where
-    type-is : p .ty ≡ memberAt ms (first + j) .type
-    type-is = member-type ms rows (first + j) end is
+  module _ {p : Placed} (is : p ≡ placedAt ms table (first + j * step) end) {r : Layout} (layout-is : r ≡ layoutAt table (p .ty)) (run : packedAs r ≡ 4) (short : p .words ≤ 4) (few : count ≤ 8) where
+    type-is : p .ty ≡ memberAt ms (first + j * step) .type
+    type-is = member-type ms table (first + j * step) end is
 
-    start-is : p .start ≡ placedAt ms rows (first + j) end .start
+    start-is : p .start ≡ placedAt ms table (first + j * step) end .start
     start-is = ap (λ (q : Placed). q .start) is
 
-    words-is : p .words ≡ rowAt rows (p .ty) .words
+    words-is : p .words ≡ wordsIn (layoutAt table (p .ty))
     unfolding placedAt
     words-is = rw is refl
 
-    runs-on : rowAt rows (p .ty) .run ≡ 4
-    runs-on = rw row-is at run
+    runs-on : packedAs (layoutAt table (p .ty)) ≡ 4
+    runs-on = rw layout-is at run
 
     abbrev stored : List ℕ
     stored = set (set l (2 * j) (p .start)) (2 * j + 1) (p .words)
@@ -107,21 +110,21 @@ module _ {ms rows : List ℕ} {e count first j end : ℕ} {l : List ℕ} (now : 
         getD-set-same (set l (2 * j) (p .start)) (2 * j + 1) (p .words) 0
         (omega (arith, length-set l (2 * j) (p .start), now .long))
 
-    member-spotted : {x : Shape} (f : First ms rows e (count - j) (first + j) end x) {l′ : List ℕ} → ((i : ℕ) → i < 2 * (j + 1) → getD l′ i 0 ≡ getD stored i 0) → SpottedFrom (j + 1) (f .rest) (count - (j + 1)) l′ → SpottedFrom j x (count - j) l′
+    member-spotted : {x : Shape} (f : First ms table e (count - j) (first + j * step) end x) {l′ : List ℕ} → ((i : ℕ) → i < 2 * (j + 1) → getD l′ i 0 ≡ getD stored i 0) → SpottedFrom (j + 1) (f .rest) (count - (j + 1)) l′ → SpottedFrom j x (count - j) l′
     member-spotted f {l′} same all =
         let c : count - j ≡ suc (count - (j + 1)) = omega arith in
         let n : j + 1 ≡ suc j = omega arith in
-        let t : Rowed rows (p .ty) (f .y) = rw type-is (tree-rowed (f .tree)) in
+        let t : Valued table (p .ty) (f .y) = rw type-is (tree-valued (f .tree)) in
         rw c
         (spot-first (f .is) (λ at. rw words-is (t .run-is runs-on at)) (t .words-are ∙ sym words-is) short
         (omega (arith, start-is, words-is, f .member .within, t .run-fits runs-on))
         (same (2 * j) (omega arith) ∙ stored-start ∙ start-is) (same (2 * j + 1) (omega arith) ∙ stored-words)
         (subst (λ (m : ℕ). SpottedFrom m (f .rest) (count - (j + 1)) l′) n all))
 
-    found-next : {y : Shape} (t : Tree ms rows e y) → First ms rows e (count - j) (first + j) end (now .found y t .rest) → Found ms rows e count first (j + 1) (p .end) stored y
+    found-next : {y : Shape} (t : Tree ms table e y) → First ms table e (count - j) (first + j * step) end (now .found y t .rest) → Found ms table e count first step (j + 1) (p .end) stored y
     found-next {y} t f =
         let c : count - (j + 1) ≡ count - j - 1 = omega arith in
-        let m : first + (j + 1) ≡ first + j + 1 = omega arith in
+        let m : first + (j + 1) * step ≡ first + j * step + layoutAt table e .stride = omega (arith, now .step-is) in
         record {
           rest = f .rest;
           rest-left = rw (c, m, is) (f .rest-left);
@@ -129,17 +132,18 @@ module _ {ms rows : List ℕ} {e count first j end : ℕ} {l : List ℕ} (now : 
               now .found y t .so-all l′ (λ i b. same i (omega arith) ∙ stored-below i b) (member-spotted f same all);
         }
 
-    pub finding-next : Finding ms rows e count first (j + 1) (p .end) stored
+    pub finding-next : Finding ms table e count first step (j + 1) (p .end) stored
     finding-next =
         record {
           within = omega arith;
+          step-is = now .step-is;
           long = length-set (set l (2 * j) (p .start)) (2 * j + 1) (p .words) ∙ length-set l (2 * j) (p .start) ∙ now .long;
           found = λ y t. found-next t (finding-first t);
         }
 
-pub finding-none : {ms rows : List ℕ} {e count first j end : ℕ} {l : List ℕ} → Finding ms rows e count first j end l → count ≤ j → count ≤ 8 → (y : Shape) → Tree ms rows e y → Spotted y count l
+pub finding-none : {ms : List ℕ} {table : List (List ℕ)} {e count first step j end : ℕ} {l : List ℕ} → Finding ms table e count first step j end l → count ≤ j → count ≤ 8 → (y : Shape) → Tree ms table e y → Spotted y count l
 unfolding spotPlaces SpotsFit
-finding-none {ms} {rows} {e} {count} {first} {j} {end} {l} now h few y t =
+finding-none {ms} {table} {e} {count} {first} {step} {j} {end} {l} now h few y t =
     record {
       all = now .found y t .so-all l (λ i b. refl) (nothing (count - j) (omega (arith, now .within)));
       long = now .long;

@@ -8,7 +8,7 @@ use mathlib.Core.List.{List, [], _++_}
 use lib.ListN.{length, getD}
 use Rattle.wgsl.specs.Place.{Shape, Place, placesOf}
 use Rattle.folds.specs.Run.{runPlaces}
-use Rattle.rows.specs.Tree.{Room}
+use Rattle.trees.specs.Tree.{Room}
 
 -- spot j of the numbers l: its start in the struct, and its words
 abbrev pub startOf : List ℕ → ℕ → ℕ

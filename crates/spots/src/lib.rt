@@ -1,15 +1,17 @@
 // Spots: the places of a small struct's members, worked out once for all structs of an array.
 use file::trailer::wide;
-use rows::place;
-use rows::row_at;
+use kinds::value::Value;
+use kinds::value::layout_at;
 use runs::write_few;
+use trees::packed;
+use trees::place;
 ghost use mathlib.Core.Path.{_≡_};
 ghost use Prim.Native.Nat.{_+_, _*_, _<_, _≤_};
 ghost use lib.ListN.{length};
 ghost use Rattle.wgsl.specs.Place.{Shape, repeated};
 ghost use Rattle.folds.specs.Fold.{overPlaces, storing};
-ghost use Rattle.rows.specs.Row.{rowAt};
-ghost use Rattle.rows.specs.Tree.{Tree};
+ghost use Rattle.kinds.specs.Value.{layoutAt};
+ghost use Rattle.trees.specs.Tree.{Tree};
 ghost use Rattle.spots.specs.Spot.{spotPlaces, SpotsFit, Spotted, EachFits};
 
 // Spots before they are found.
@@ -23,29 +25,30 @@ pub fn no_spots() -> [usize; 16]
 // 0 where there are more than eight members, or one is no run of at most four words, or less than two such structs are written.
 pub fn spots_of(
     members: &[u8],
-    rows: &[u32],
+    table: &[Value],
     e: usize,
     structs: usize,
     spots: &mut [usize],
 ) -> usize
-    requires { ⌜ ((y : Shape) × Tree (now members) (now rows) e y × (rowAt (now rows) e .kind ≡ 12)) × (length (now spots) ≡ 16) ⌝ }
-    ensures { λ r. ⌜ (0 < r → (y : Shape) → Tree (now (members .entry)) (now (rows .entry)) e y → Spotted y r (now (spots .exit))) ⌝ }
+    requires { ⌜ ((y : Shape) × Tree (now members) (now table) e y × (layoutAt (now table) e .kind ≡ 12)) × (length (now spots) ≡ 16) ⌝ }
+    ensures { λ r. ⌜ (0 < r → (y : Shape) → Tree (now (members .entry)) (now (table .entry)) e y → Spotted y r (now (spots .exit))) ⌝ }
 {
     if structs < 2 {
         return 0;
     }
-    let r = row_at(rows, e);
+    let r = layout_at(table, e);
     let count = wide(r.count);
     if 8 < count {
         return 0;
     }
-    let first = wide(r.reference);
+    let length = wide(r.stride);
+    let first = wide(r.reference) * length;
     let mut end: usize = 0;
     let mut j: usize = 0;
     while j < count {
-        let p = place(members, rows, first + j, end);
-        let q = row_at(rows, p.ty);
-        if q.run != 4 {
+        let p = place(members, table, first + j * length, end);
+        let q = layout_at(table, p.ty);
+        if packed(q) != 4 {
             return 0;
         }
         if 4 < p.words {

@@ -1,6 +1,6 @@
 -- Each turn of the loop tests one word of what is left; the first that does not fit decides.
 -- Assumes nothing.
-use Prim.Native.Nat.{ℕ, _+_, _-_, _*_, _≤_}
+use Prim.Native.Nat.{_+_, _-_, _*_, _≤_}
 use mathlib.Core.Path.{_≡_, sym, _∙_}
 use native.Mathlib.Omega.{arith}
 use borrow.Author.Needs.{needs}
@@ -32,7 +32,7 @@ returns c =
     let next = run-next (testing ws) (a .n) 2 0 (a .k) (good tt) (l .i) (omega arith) in
     let past = test-past ws (record { at = 0 + l .i * 2; width = 2 }) (a .k + l .i) (omega arith) in
     let stays = tested-refused ws (runPlaces (a .n - (l .i + 1)) 2 (0 + (l .i + 1) * 2)) (a .k + (l .i + 1)) 16 (a .k + l .i) in
-    (sym stays ∙ (rw past at next) ∙ l .inv .0, λ e. let z : _≡_ {A = ℕ} 0 1 = cc in omega arith)
+    sym stays ∙ (rw past at next) ∙ l .inv .0
 
 loop-again : tie.Need-loop-again Inv-loop μ-loop
 loop-again c =
@@ -47,7 +47,7 @@ returns-2 : tie.Need-returns-2 Inv-loop μ-loop
 returns-2 c =
     let l = c .before .loop in
     let a = c .before .before .args in
-    (sym (run-none (testing (now (a .words))) (a .n) 2 (0 + l .i * 2) (a .k + l .i) (good tt) (l .i) (omega arith)) ∙ l .inv .0, λ e. let z : _≡_ {A = ℕ} 0 1 = cc in omega arith)
+    sym (run-none (testing (now (a .words))) (a .n) 2 (0 + l .i * 2) (a .k + l .i) (good tt) (l .i) (omega arith)) ∙ l .inv .0
 
 pub scan-two-spec : {M : Type 1} → statement M
 scan-two-spec =
