@@ -4,7 +4,7 @@ use Prim.Native.Nat.{ℕ, _+_, _*_, _<_, _≤_}
 use mathlib.Core.Bool.{Bool, true, false, _||_}
 use mathlib.Core.List.{List}
 use mathlib.Core.Option.{Option·some-injective}
-use mathlib.Core.Path.{_≡_, refl, sym, _∙_}
+use mathlib.Core.Path.{_≡_, refl, sym, ap, _∙_}
 use native.Mathlib.Omega.{arith}
 use native.Mathlib.Nat.{mul-le-mul-left}
 use Rattle.wgsl.specs.Types.{Ty, isOpen, everywhere}
@@ -18,11 +18,11 @@ use Rattle.wgsl.proofs.Elements.{open-tail}
 use Rattle.wgsl.proofs.Opened.{opened-words, opened-extent}
 use Rattle.kinds.specs.declared.value.Layout.{Layout}
 use Rattle.kinds.specs.Value.{valueOf}
-use Rattle.decide.specs.Decide.{runtimeRow}
+use Rattle.decide.specs.Decide.{tailFrom}
 use Rattle.decide.specs.Whole.{Ready, Tailed}
 use Rattle.decide.proofs.Wholes.{ready-words}
 
-module _ {ms rows : List ℕ} {e : ℕ} {l : Layout} {t : Ty} (r : Ready ms rows e l t) where
+module _ {ms : List ℕ} {table : List (List ℕ)} {e : ℕ} {l : Layout} {t : Ty} (r : Ready ms table e l t) where
   -- Each word takes at least two bytes.
   pub words-few : (n : ℕ) → 2 * wordCount n t ≤ extentOf n t
   unfolding isStorable hasLayout
@@ -33,16 +33,11 @@ module _ {ms rows : List ℕ} {e : ℕ} {l : Layout} {t : Ty} (r : Ready ms rows
       let x = laid n t (a .0) (r .well-formed) (a .1) (both .1) in
       omega (arith, words-room (shapeOf n t) (x .sound), count-words n t, x .span)
 
-  -- Whether it is open stands in the layout, and so does its size.
-  pub opens-is : l .opens ≡ isOpen t
-  unfolding valueOf
-  opens-is = rw (r .layout-is) refl
-
   pub size-is : l .size ≡ present (sizeOf t)
   unfolding valueOf
-  size-is = rw (r .layout-is) refl
+  size-is = ap (λ (x : Layout). x .size) (r .layout-is)
 
-module _ {ms rows : List ℕ} {e : ℕ} {l : Layout} {t : Ty} (x : Tailed ms rows e l t) where
+module _ {ms : List ℕ} {table : List (List ℕ)} {e : ℕ} {l : Layout} {t : Ty} (x : Tailed ms table e l t) where
   -- It is open.
   pub tailed-open : isOpen t ≡ true
   tailed-open = go (isOpen t) refl
@@ -51,16 +46,20 @@ module _ {ms rows : List ℕ} {e : ℕ} {l : Layout} {t : Ty} (x : Tailed ms row
       go true q = refl
       go false q = some-not-none (x .opened .tail-is) (closed-tail t q)
 
-  pub stride-above : 0 < l .stride
+  pub stride-above : 0 < tailFrom ms table l .layout .stride
   stride-above =
       let (y, is, pos) = open-tail t (x .ready .well-formed) tailed-open in
-      let same : y ≡ record { offset = l .offset; stride = l .stride } = Option·some-injective _ _ (sym is ∙ x .opened .tail-is) in
+      let same : y ≡ record { offset = tailFrom ms table l .offset; stride = tailFrom ms table l .layout .stride } = Option·some-injective _ _ (sym is ∙ x .opened .tail-is) in
       rw same at pos
 
-  pub tailed-words : (n : ℕ) → wordCount n t ≡ l .words + n * runtimeRow ms rows e .unit
+  pub tailed-words : (n : ℕ) → wordCount n t ≡ tailFrom ms table l .fixed + n * tailFrom ms table l .layout .unit
   tailed-words n =
       opened-words (x .opened) n
-      ∙ (λ i. ready-words (x .ready) i + n * x .unit-is n i)
+      ∙ (λ i. x .fixed-is i + n * x .unit-is n i)
+
+  -- Its fixed words are within the limit.
+  pub fixed-few : tailFrom ms table l .fixed ≤ 4294967295
+  fixed-few = omega (arith, ready-words (x .ready), x .fixed-is, x .ready .counted)
 
   -- Its array takes a byte for each element at least.
   pub elements-few : (n bytes : ℕ) → extentOf n t ≤ bytes → n ≤ bytes

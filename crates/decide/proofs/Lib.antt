@@ -4,3 +4,5 @@ pub mod Wholes
 pub mod Bounds
 pub mod Calls
 pub mod Stored
+pub mod Tails
+pub mod Entries

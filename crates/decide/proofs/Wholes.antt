@@ -20,20 +20,21 @@ use Rattle.wgsl.proofs.Count as counting
 use Rattle.wgsl.proofs.Count.{places-words}
 use Rattle.wgsl.proofs.Opened.{opened-extent}
 use Rattle.kinds.specs.declared.value.Layout.{Layout}
-use Rattle.kinds.specs.Value.{fixedWords, valueOf}
+use Rattle.kinds.specs.Value.{wordsIn}
+use Rattle.kinds.proofs.Presence.{value-words, words-fixed}
 use Rattle.folds.specs.Fold.{overPlaces, storing, loading, testing}
 use Rattle.folds.specs.Run.{partPlaces}
 use Rattle.folds.proofs.Folds.{over-append, stored-words, loaded-words, tested-words, tested-refused}
 use Rattle.folds.proofs.Covered.{covers}
-use Rattle.rows.specs.Row.{rowAt}
-use Rattle.rows.specs.Tree.{Runs, runs, Room}
+use Rattle.trees.specs.Placed.{partWidth, runAt}
+use Rattle.trees.specs.Tree.{Runs, runs, Room}
 use Rattle.decide.specs.declared.Tail.{Tail}
-use Rattle.decide.specs.Decide.{runtimeRow, openTail, closedTail}
+use Rattle.decide.specs.Decide.{tailFrom, openTail, closedTail}
 use Rattle.decide.specs.Whole.{Ready, Tailed, Whole}
 
 -- ---- a storable type
 
-module _ {ms rows : List ℕ} {e : ℕ} {l : Layout} {t : Ty} (r : Ready ms rows e l t) where
+module _ {ms : List ℕ} {table : List (List ℕ)} {e : ℕ} {l : Layout} {t : Ty} (r : Ready ms table e l t) where
   has-layout : hasLayout t ≡ true
   unfolding isStorable
   has-layout = both-hold (hasLayout t) (everywhere isPlain t) (r .storable) .0
@@ -47,22 +48,21 @@ module _ {ms rows : List ℕ} {e : ℕ} {l : Layout} {t : Ty} (r : Ready ms rows
       laid n t (a .0) (r .well-formed) (a .1) (both .1) .span
 
   -- Its layout counts its fixed words.
-  pub ready-words : wordCount 0 t ≡ l .words
-  unfolding valueOf fixedWords
-  ready-words = rw (r .layout-is, has-layout) refl
+  pub ready-words : wordCount 0 t ≡ wordsIn l
+  ready-words = sym (ap wordsIn (r .layout-is) ∙ value-words (l .reference) t ∙ words-fixed t has-layout)
 
   -- ---- a type of fixed size
 
-  nothing-runs : Runs (closedTail l .row) (whole 0)
-  unfolding closedTail spanOf placesOf partPlaces repeated counting.words
+  nothing-runs : Runs table (closedTail l .layout) (whole 0)
+  unfolding closedTail partWidth spanOf placesOf partPlaces repeated counting.words
   nothing-runs =
-      record { width = inr refl; fits = omega arith; places-are = λ at. refl; span-is = refl; words-are = refl }
+      record { referring = record { inside = λ h g. absurd (omega arith); counted = λ h g. absurd (omega arith) }; narrow-is = refl; width = inr refl; fits = omega arith; places-are = λ at. refl; span-is = refl; words-are = refl }
 
-  pub closed-whole : Whole ms rows e (closedTail l) t 0
+  pub closed-whole : Whole ms table e (closedTail l) t 0
   unfolding closedTail spanOf placesOf
   closed-whole =
       record {
-        inside = r .inside;
+        run-asks = r .run-asks;
         tree = r .tree;
         rest = whole 0;
         many = runs nothing-runs;
@@ -75,17 +75,17 @@ module _ {ms rows : List ℕ} {e : ℕ} {l : Layout} {t : Ty} (r : Ready ms rows
 
 -- ---- an open type
 
-pub open-whole : {ms rows : List ℕ} {e : ℕ} {l : Layout} {t : Ty} → Tailed ms rows e l t → (n : ℕ) → Whole ms rows e (openTail (runtimeRow ms rows e) l n) t n
+pub open-whole : {ms : List ℕ} {table : List (List ℕ)} {e : ℕ} {l : Layout} {t : Ty} → Tailed ms table e l t → (n : ℕ) → Whole ms table e (openTail (tailFrom ms table l) n) t n
 unfolding openTail shapeOf spanOf
-open-whole {l = l} x n =
+open-whole x n =
     let r = x .ready in
     record {
-      inside = r .inside;
+      run-asks = r .run-asks;
       tree = r .tree;
       rest = shapeOf n (runtime (x .element));
       many = x .many n;
       places-are = x .opened .places-are n;
-      fixed-is = ready-words r;
+      fixed-is = x .fixed-is;
       fixed-inside = omega (arith, ready-span r 0, opened-extent (x .opened) 0, opened-extent (x .opened) n);
       rest-inside = rw (← x .opened .stride-is) (omega (arith, opened-extent (x .opened) n));
       covered = λ h. r .covered h n;
@@ -93,7 +93,7 @@ open-whole {l = l} x n =
 
 -- ---- words and room
 
-module _ {ms rows : List ℕ} {e : ℕ} {x : Tail} {t : Ty} {n : ℕ} (w : Whole ms rows e x t n) where
+module _ {ms : List ℕ} {table : List (List ℕ)} {e : ℕ} {x : Tail} {t : Ty} {n : ℕ} (w : Whole ms table e x t n) where
   pub fixed-words : counting.words (shapeOf 0 t) ≡ x .fixed
   unfolding wordCount places
   fixed-words = sym (places-words (shapeOf 0 t) 0) ∙ w .fixed-is
@@ -132,7 +132,7 @@ module _ {ms rows : List ℕ} {e : ℕ} {x : Tail} {t : Ty} {n : ℕ} (w : Whole
       ∙ ap (λ (d : List ℕ). overPlaces (storing ws) (places n t) 0 d) e
       ∙ stored-words ws (places n t) 0 _ (omega arith)
 
-  pub stored-covered : (ws b c : List ℕ) → length ws ≡ wordCount n t → extentOf n t ≤ length b → (rowAt rows e .run ≡ 0 → ⊥) → c ≡ b → overPlaces (storing ws) (placesOf (w .rest) (x .offset)) (x .fixed) (overPlaces (storing ws) (placesOf (shapeOf 0 t) 0) 0 c) ≡ written n t ws b
+  pub stored-covered : (ws b c : List ℕ) → length ws ≡ wordCount n t → extentOf n t ≤ length b → (runAt table e ≡ 0 → ⊥) → c ≡ b → overPlaces (storing ws) (placesOf (w .rest) (x .offset)) (x .fixed) (overPlaces (storing ws) (placesOf (shapeOf 0 t) 0) 0 c) ≡ written n t ws b
   unfolding written wordCount
   stored-covered ws b c l z h e =
       let v = w .covered h in

@@ -1,8 +1,8 @@
 -- What reading and writing decide before they store anything, in the words of crates/wgsl (specs/Call).
 --
--- In order: 17, 9 and 10; how many elements there are; an open entry's runtime array; what lies after the fixed part.
+-- In order: 17, 9 and 10; how many elements there are; what lies after the fixed part.
 -- Definitions only. Assumes nothing.
-use Prim.Native.Nat.{ℕ, _+_, _-_, _*_, _/_, _≤_}
+use Prim.Native.Nat.{ℕ, _+_, _-_, _*_, _/_, _<_, _≤_}
 use mathlib.Core.Path.{_≡_}
 use mathlib.Core.Bool.{cond, not, _&&_}
 use mathlib.Core.List.{List}
@@ -14,8 +14,9 @@ use Rattle.wgsl.specs.Size.{hasLayout, isStorable}
 use Rattle.wgsl.specs.Said.{Said, good, refused, _>>_, refuse}
 use Rattle.file.specs.Refusal.{numberOf, placeOf}
 use Rattle.kinds.specs.declared.value.Layout.{Layout}
-use Rattle.rows.specs.declared.Row.{Row}
-use Rattle.rows.specs.Row.{rowAt, withCount, memberAt}
+use Rattle.kinds.specs.Value.{layoutAt, wordsIn}
+use Rattle.trees.specs.declared.Placed.{Placed}
+use Rattle.trees.specs.Placed.{withCount, placedIn, Placeables}
 use Rattle.decide.specs.declared.Allowed.{Allowed}
 use Rattle.decide.specs.declared.Allowed.the-variants.{Yes, Refused}
 use Rattle.decide.specs.declared.Tail.{Tail}
@@ -52,34 +53,33 @@ elementsFound bytes offset stride =
     let n : ℕ = (bytes - offset) / stride in
     cond (eqb n 0) No (Is n)
 
--- ---- an open entry's runtime array
-
--- the entry of the runtime array that entry e is or ends in
-unfoldable pub runtimeOf : List ℕ → List ℕ → ℕ → ℕ
-runtimeOf ms rows e =
-    let r : Row = rowAt rows e in
-    cond (eqb (r .kind) 10) e (memberAt ms (r .reference + r .count - 1) .type)
-
-abbrev pub runtimeRow : List ℕ → List ℕ → ℕ → Row
-runtimeRow ms rows e = rowAt rows (runtimeOf ms rows e)
-
--- what finding it asks
-pub record Findable (ms rows : List ℕ) (e : ℕ) : Type 0 where
-  pub inside : 10 * e + 10 ≤ length rows
-  pub some-members : (rowAt rows e .kind ≡ 10 → ⊥) → 1 ≤ rowAt rows e .count
-  pub member-inside : (rowAt rows e .kind ≡ 10 → ⊥) → 12 * (rowAt rows e .reference + rowAt rows e .count) ≤ length ms
-
 -- ---- what lies after the fixed part
 
--- n elements of the runtime array of the row r
-unfoldable pub openTail : Row → Layout → ℕ → Tail
-openTail r l n = record { row = withCount n r; offset = l .offset; fixed = l .words }
+-- the last member of a struct with the layout l
+abbrev pub lastPlaced : List ℕ → List (List ℕ) → Layout → Placed
+lastPlaced ms table l = placedIn ms table (l .stride) (l .reference * l .stride) 0 (l .count - 1)
+
+-- the runtime array that an entry with the layout l is or ends in
+unfoldable pub tailFrom : List ℕ → List (List ℕ) → Layout → Tail
+tailFrom ms table l =
+    cond (eqb (l .kind) 10) (record { layout = l; offset = 0; fixed = 0 })
+    (record { layout = layoutAt table (lastPlaced ms table l .ty); offset = lastPlaced ms table l .start; fixed = l .unit })
+
+-- what finding it asks
+pub record Findable (ms : List ℕ) (table : List (List ℕ)) (l : Layout) : Type 0 where
+  pub some-members : (l .kind ≡ 10 → ⊥) → 1 ≤ l .count
+  pub placeables : (l .kind ≡ 10 → ⊥) → Placeables ms table (l .stride) (l .reference * l .stride) 0 (l .count - 1)
+  pub inside : (l .kind ≡ 10 → ⊥) → lastPlaced ms table l .ty < length table
+
+-- so many of its elements
+unfoldable pub openTail : Tail → ℕ → Tail
+openTail x n = record { layout = withCount n (x .layout); offset = x .offset; fixed = x .fixed }
 
 -- nothing after the fixed part: no words of four bytes
 unfoldable pub closedTail : Layout → Tail
 closedTail l =
     record {
-      row = record { kind = 0; run = 0; width = 4; reference = 0; count = 0; unit = 0; stride = 0; size = 0; align = 0; words = 0 };
+      layout = record { kind = 0; narrow = 4; reference = 0; count = 0; unit = 0; stride = 0; size = 0; align = 0 };
       offset = 0;
-      fixed = l .words;
+      fixed = wordsIn l;
     }

@@ -1,2 +1,3 @@
 pub mod Decide
 pub mod Whole
+pub mod Entry

@@ -1,7 +1,7 @@
 -- Writing and reading whole entries, step by step: the calls of crates/wgsl (specs/Call) once the entry is found, and what the code's
 -- functions ask.
 --
--- In order: write and read after 10; an entry whose rows are there; an open entry; an entry with n elements.
+-- In order: write and read after 10; an entry of the table; an open entry; an entry with n elements.
 -- Definitions only. Assumes nothing.
 use Prim.Native.Nat.{ℕ, _+_, _*_, _<_, _≤_}
 use mathlib.Core.Path.{_≡_}
@@ -19,10 +19,10 @@ use Rattle.wgsl.proofs.Opened.{Opened}
 use Rattle.kinds.specs.declared.value.Layout.{Layout}
 use Rattle.kinds.specs.Value.{valueOf}
 use Rattle.folds.specs.Run.{runPlaces}
-use Rattle.rows.specs.Row.{rowAt, withCount}
-use Rattle.rows.specs.Tree.{Many, Tree}
+use Rattle.trees.specs.Placed.{runAt, Counted, RunAsks, withCount}
+use Rattle.trees.specs.Tree.{Many, Tree}
 use Rattle.decide.specs.declared.Tail.{Tail}
-use Rattle.decide.specs.Decide.{runtimeOf, runtimeRow, Findable}
+use Rattle.decide.specs.Decide.{tailFrom, Findable}
 
 -- ---- write and read after 10
 
@@ -41,7 +41,7 @@ readAs t b ws = do
   refuse 14 0 (ltb (length ws) (wordCount n t))
   good (record { value = wordCount n t; contents = wordsRead (places n t) b ++ drop (wordCount n t) ws })
 
--- ---- an entry whose rows are there
+-- ---- an entry of the table
 
 -- a run over all the bytes of the type with n elements
 pub record Covered (t : Ty) (n : ℕ) : Type 0 where
@@ -50,40 +50,47 @@ pub record Covered (t : Ty) (n : ℕ) : Type 0 where
   pub places-are : places n t ≡ runPlaces count width 0
   pub extent-is : extentOf n t ≡ count * width
 
--- entry e, of the type t and the layout l
-pub record Ready (ms rows : List ℕ) (e : ℕ) (l : Layout) (t : Ty) : Type 0 where
-  pub layout-is : l ≡ valueOf t
+-- entry e, of the storable type t and the layout l
+pub record Ready (ms : List ℕ) (table : List (List ℕ)) (e : ℕ) (l : Layout) (t : Ty) : Type 0 where
+  pub layout-is : l ≡ valueOf (l .reference) t
   pub well-formed : everywhere isWellFormed t ≡ true
   pub storable : isStorable t ≡ true
-  pub inside : 10 * e + 10 ≤ length rows
-  pub tree : Tree ms rows e (shapeOf 0 t)
-  pub covered : (rowAt rows e .run ≡ 0 → ⊥) → (n : ℕ) → Covered t n
+  pub counted : Counted l
+  pub run-asks : RunAsks table e
+  pub tree : Tree ms table e (shapeOf 0 t)
+  pub covered : (runAt table e ≡ 0 → ⊥) → (n : ℕ) → Covered t n
 
 -- ---- an open entry
 
-pub record Tailed (ms rows : List ℕ) (e : ℕ) (l : Layout) (t : Ty) : Type 0 where
-  pub ready : Ready ms rows e l t
-  pub findable : Findable ms rows e
+pub record Tailed (ms : List ℕ) (table : List (List ℕ)) (e : ℕ) (l : Layout) (t : Ty) : Type 0 where
+  pub ready : Ready ms table e l t
+  pub findable : Findable ms table l
   pub element : Ty
-  pub opened : Opened t element (record { offset = l .offset; stride = l .stride })
-  pub row-inside : 10 * runtimeOf ms rows e + 10 ≤ length rows
-  pub many : (n : ℕ) → Many ms rows (withCount n (runtimeRow ms rows e)) (shapeOf n (runtime element))
-  pub unit-is : (n : ℕ) → wordCount n element ≡ runtimeRow ms rows e .unit
-  pub unit-above : 0 < runtimeRow ms rows e .unit
+  pub opened : Opened t element (record { offset = tailFrom ms table l .offset; stride = tailFrom ms table l .layout .stride })
+  pub fixed-is : wordCount 0 t ≡ tailFrom ms table l .fixed
+  pub many : (n : ℕ) → Many ms table (withCount n (tailFrom ms table l .layout)) (shapeOf n (runtime element))
+  pub unit-is : (n : ℕ) → wordCount n element ≡ tailFrom ms table l .layout .unit
+  pub unit-above : 0 < tailFrom ms table l .layout .unit
+
+-- .. whose tail is x
+pub record TailedBy (ms : List ℕ) (table : List (List ℕ)) (e : ℕ) (x : Tail) (t : Ty) : Type 0 where
+  pub layout : Layout
+  pub tailed : Tailed ms table e layout t
+  pub tail-is : x ≡ tailFrom ms table layout
 
 -- ---- an entry with n elements
 
 -- entry e, of the type t with n elements: its fixed part, and the tail x after it
-pub record Whole (ms rows : List ℕ) (e : ℕ) (x : Tail) (t : Ty) (n : ℕ) : Type 0 where
-  pub inside : 10 * e + 10 ≤ length rows
-  pub tree : Tree ms rows e (shapeOf 0 t)
+pub record Whole (ms : List ℕ) (table : List (List ℕ)) (e : ℕ) (x : Tail) (t : Ty) (n : ℕ) : Type 0 where
+  pub run-asks : RunAsks table e
+  pub tree : Tree ms table e (shapeOf 0 t)
   pub rest : Shape
-  pub many : Many ms rows (x .row) rest
+  pub many : Many ms table (x .layout) rest
   pub places-are : places n t ≡ places 0 t ++ placesOf rest (x .offset)
   pub fixed-is : wordCount 0 t ≡ x .fixed
   pub fixed-inside : spanOf (shapeOf 0 t) ≤ extentOf n t
   pub rest-inside : x .offset + spanOf rest ≤ extentOf n t
-  pub covered : (rowAt rows e .run ≡ 0 → ⊥) → Covered t n
+  pub covered : (runAt table e ≡ 0 → ⊥) → Covered t n
 
 -- what is left of a write when 14 is decided, and when 15 is
 unfoldable pub heldAs : ℕ → Ty → List ℕ → List ℕ → Said Done

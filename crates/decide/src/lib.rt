@@ -1,21 +1,21 @@
 // What reading and writing decide before they store anything.
-use file::fields::member_at;
 use file::refusal::Refusal;
 use file::trailer::wide;
 use kinds::value::Layout;
-use rows::Row;
-use rows::row_at;
+use kinds::value::Value;
+use kinds::value::layout_at;
+use kinds::value::words_of;
 use runs::Scan;
+use trees::member_in;
 ghost use mathlib.Core.Path.{_≡_};
 ghost use mathlib.Core.Bool.{true};
 ghost use Rattle.wgsl.specs.Types.{Ty, everywhere};
 ghost use Rattle.wgsl.specs.Rule.{isWellFormed};
 ghost use Rattle.kinds.specs.Value.{valueOf};
 ghost use Rattle.runs.specs.Run.{saidScan};
-ghost use Rattle.rows.specs.Row.{withCount};
-ghost use Prim.Native.Nat.{_<_};
-ghost use lib.ListN.{length};
-ghost use Rattle.decide.specs.Decide.{allowedFor, saidAllowed, elementsOf, extentFor, elementsFound, runtimeOf, Findable, closedTail};
+ghost use Rattle.trees.specs.Placed.{Counted};
+ghost use Prim.Native.Nat.{_<_, _≤_};
+ghost use Rattle.decide.specs.Decide.{allowedFor, saidAllowed, elementsOf, extentFor, elementsFound, tailFrom, Findable, openTail, closedTail};
 
 pub enum Allowed {
     Yes,
@@ -24,7 +24,7 @@ pub enum Allowed {
 
 // 17, 9, 10: for an entry of the layout `l` and a buffer of so many bytes.
 pub fn allow(l: Layout, bytes: usize) -> Allowed
-    ensures { λ r. ⌜ ((t : Ty) → l ≡ valueOf t → everywhere isWellFormed t ≡ true → saidAllowed r ≡ allowedFor t bytes) ⌝ }
+    ensures { λ r. ⌜ ((t : Ty) → l ≡ valueOf (l .reference) t → everywhere isWellFormed t ≡ true → saidAllowed r ≡ allowedFor t bytes) ⌝ }
 {
     if 4294967295 < bytes {
         return Allowed::Refused(Refusal::Long);
@@ -33,7 +33,7 @@ pub fn allow(l: Layout, bytes: usize) -> Allowed
     if l.align == 0 {
         return Allowed::Refused(Refusal::Absent);
     }
-    if l.storable {
+    if l.narrow != 0 {
         return Allowed::Yes;
     }
     Allowed::Refused(Refusal::Unstorable)
@@ -44,7 +44,6 @@ pub fn fit(s: Scan) -> Allowed
     ensures { λ r. ⌜ saidAllowed r ≡ saidScan s ⌝ }
 {
     match s {
-        Scan::Any => Allowed::Yes,
         Scan::Fine => Allowed::Yes,
         Scan::Bad(k) => Allowed::Refused(Refusal::Word(k)),
     }
@@ -57,11 +56,10 @@ pub enum Found {
 }
 
 // How many elements so many words fill, after the fixed part.
-pub fn elements_for(words: usize, fixed: u32, unit: u32) -> Found
-    requires { ⌜ 0 < unit ⌝ }
-    ensures { λ r. ⌜ r ≡ elementsOf words fixed unit ⌝ }
+pub fn elements_for(words: usize, first: usize, unit: u32) -> Found
+    requires { ⌜ (0 < unit) × (first ≤ 4294967295) ⌝ }
+    ensures { λ r. ⌜ r ≡ elementsOf words first unit ⌝ }
 {
-    let first = wide(fixed);
     let each = wide(unit);
     if words < first + each {
         return Found::No;
@@ -74,11 +72,10 @@ pub fn elements_for(words: usize, fixed: u32, unit: u32) -> Found
 }
 
 // Where `n` elements end, if that is within so many bytes.
-pub fn extent_for(bytes: usize, offset: u32, stride: u32, n: usize) -> Found
+pub fn extent_for(bytes: usize, first: usize, stride: u32, n: usize) -> Found
     requires { ⌜ 0 < stride ⌝ }
-    ensures { λ r. ⌜ r ≡ extentFor bytes offset stride n ⌝ }
+    ensures { λ r. ⌜ r ≡ extentFor bytes first stride n ⌝ }
 {
-    let first = wide(offset);
     let each = wide(stride);
     if bytes < first {
         return Found::No;
@@ -90,11 +87,10 @@ pub fn extent_for(bytes: usize, offset: u32, stride: u32, n: usize) -> Found
 }
 
 // How many whole elements so many bytes hold.
-pub fn elements_in(bytes: usize, offset: u32, stride: u32) -> Found
+pub fn elements_in(bytes: usize, first: usize, stride: u32) -> Found
     requires { ⌜ 0 < stride ⌝ }
-    ensures { λ r. ⌜ r ≡ elementsFound bytes offset stride ⌝ }
+    ensures { λ r. ⌜ r ≡ elementsFound bytes first stride ⌝ }
 {
-    let first = wide(offset);
     if bytes < first {
         return Found::No;
     }
@@ -105,73 +101,71 @@ pub fn elements_in(bytes: usize, offset: u32, stride: u32) -> Found
     Found::Is(n)
 }
 
-// The entry of the runtime array that entry `e` is or ends in.
-pub fn runtime_of(members: &[u8], rows: &[u32], e: usize) -> usize
-    requires { ⌜ Findable (now members) (now rows) e ⌝ }
-    ensures { λ r. ⌜ r ≡ runtimeOf (now (members .entry)) (now (rows .entry)) e ⌝ }
-{
-    let r = row_at(rows, e);
-    if r.kind == 10 {
-        return e;
-    }
-    let m = member_at(members, 12 * (wide(r.reference) + wide(r.count) - 1));
-    wide(m.ty)
-}
-
-// What lies after the fixed part of an entry: parts as a row says, from a byte and from a word on.
+// What lies after the fixed part of an entry: parts as a layout says, from a byte and from a word on.
 pub struct Tail {
-    pub row: Row,
+    pub layout: Layout,
     pub offset: usize,
     pub fixed: usize,
 }
 
+// The runtime array that an open entry is or ends in.
+pub fn tail_of(members: &[u8], table: &[Value], l: Layout) -> Tail
+    requires { ⌜ Findable (now members) (now table) l ⌝ }
+    ensures { λ r. ⌜ r ≡ tailFrom (now (members .entry)) (now (table .entry)) l ⌝ }
+{
+    if l.kind == 10 {
+        return Tail {
+            layout: l,
+            offset: 0,
+            fixed: 0,
+        };
+    }
+    let p = member_in(members, table, l, l.count - 1);
+    Tail {
+        layout: layout_at(table, p.ty),
+        offset: p.start,
+        fixed: wide(l.unit),
+    }
+}
+
 // A type of fixed size: nothing.
 pub fn closed_tail(l: Layout) -> Tail
+    requires { ⌜ Counted l ⌝ }
     ensures { λ r. ⌜ r ≡ closedTail l ⌝ }
 {
     Tail {
-        row: Row {
+        layout: Layout {
             kind: 0,
-            run: 0,
-            width: 4,
+            narrow: 4,
             reference: 0,
             count: 0,
             unit: 0,
             stride: 0,
             size: 0,
             align: 0,
-            words: 0,
         },
         offset: 0,
-        fixed: wide(l.words),
+        fixed: wide(words_of(l)),
     }
 }
 
-// An open type: `n` elements of the runtime array of the row `r`.
-pub fn open_tail(r: Row, l: Layout, n: u32) -> Tail
-    ensures { λ s. ⌜ s ≡ record { row = withCount n r; offset = l .offset; fixed = l .words } ⌝ }
+// An open type: `n` elements.
+pub fn open_tail(x: Tail, n: u32) -> Tail
+    ensures { λ r. ⌜ r ≡ openTail x n ⌝ }
 {
+    let l = x.layout;
     Tail {
-        row: Row {
-            kind: r.kind,
-            run: r.run,
-            width: r.width,
-            reference: r.reference,
+        layout: Layout {
+            kind: l.kind,
+            narrow: l.narrow,
+            reference: l.reference,
             count: n,
-            unit: r.unit,
-            stride: r.stride,
-            size: r.size,
-            align: r.align,
-            words: r.words,
+            unit: l.unit,
+            stride: l.stride,
+            size: l.size,
+            align: l.align,
         },
-        offset: wide(l.offset),
-        fixed: wide(l.words),
+        offset: x.offset,
+        fixed: x.fixed,
     }
-}
-
-// Rows before they are laid.
-pub fn no_rows() -> [u32; 2560]
-    ensures { λ r. ⌜ 2560 ≡ length r ⌝ }
-{
-    [0u32; 2560]
 }

@@ -1,44 +1,51 @@
 -- What a buffer holds of an entry (specs/Locate), by its layout, and 15.
 --
--- In order: a type of fixed size; an open type; the target by what is held.
+-- In order: an entry; a type of fixed size; an open type; the target by what is held.
 -- Assumes nothing.
 use Prim.Native.Nat.{ℕ, suc, _+_, _*_, _<_, _≤_}
 use mathlib.Core.Bool.{Bool, true, false}
 use mathlib.Core.List.{List, map}
-use mathlib.Core.Option.{some, Option·some-injective}
+use mathlib.Core.Option.{Option·some-injective}
 use mathlib.Core.Path.{_≡_, refl, ap, sym, _∙_}
 use native.Mathlib.Omega.{arith}
 use borrow.Author.Tests.{lt-ltb, le-ltb}
 use lib.ListN.{length}
-use Rattle.wgsl.specs.Types.{Ty, scalar, vector, matrix, array, runtime, atomic, struct, isOpen}
+use Rattle.wgsl.specs.Types.{Ty, isOpen, everywhere}
 use Rattle.wgsl.specs.Size.{present, sizeOf}
 use Rattle.wgsl.specs.Said.{refused, _>>_, refuse}
-use Rattle.wgsl.specs.Place.{Tail, tailAt, tailOf, extentBy, extentOf, elementsBy, elementsIn, shapeOf}
+use Rattle.wgsl.specs.Place.{extentBy, extentOf, elementsBy, elementsIn, shapeOf}
+use Rattle.wgsl.specs.Rule.{isWellFormed}
 use Rattle.wgsl.specs.Path.{walk, stepOf}
 use Rattle.wgsl.specs.Call.{isShort, targetIn}
-use Rattle.wgsl.proofs.Absent.{some-not-none}
 use Rattle.wgsl.proofs.Call.{short-no}
 use Rattle.wgsl.proofs.Tail.{closed-tail, closed-extent}
 use Rattle.wgsl.proofs.Elements.{open-tail}
 use Rattle.kinds.specs.declared.value.Layout.{Layout}
-use Rattle.kinds.specs.Value.{tailStride, tailOffset, elementStride, valueOf}
+use Rattle.kinds.specs.Value.{valueOf}
+use Rattle.shapes.proofs.Sites.{site-well-formed}
+use Rattle.decide.specs.declared.Tail as declared
 use Rattle.decide.specs.declared.Found.the-variants as found
-use Rattle.decide.specs.Decide.{elementsFound}
+use Rattle.decide.specs.Decide.{elementsFound, tailFrom, Findable}
 use Rattle.decide.proofs.Calls.{found-short, found-there}
+use Rattle.decide.proofs.Tails.{layout-value, open-found, found-opened}
 use Rattle.paths.specs.declared.locate.Held.{Held}
 use Rattle.paths.specs.declared.locate.Held.the-variants.{Is, No}
-use Rattle.paths.specs.Locate.{Laid, heldOf}
+use Rattle.paths.specs.Locate.{heldOf, Viewable, Opening}
 
--- ---- a type of fixed size
+-- ---- an entry
 
-module _ {l : Layout} {t : Ty} (x : Laid l t) where
+module _ {f ms : List ℕ} {table : List (List ℕ)} {e : ℕ} {l : Layout} {t : Ty} (x : Viewable f ms table e l t) where
+  pub viewable-value : l ≡ valueOf (l .reference) t
+  viewable-value = rw (x .layout-is) (layout-value (x .site) e t (x .there))
+
+  pub viewable-well-formed : everywhere isWellFormed t ≡ true
+  viewable-well-formed = site-well-formed (x .site) e t (x .there)
+
   size-is : l .size ≡ present (sizeOf t)
   unfolding valueOf
-  size-is = rw (x .layout-is) refl
+  size-is = ap (λ (y : Layout). y .size) viewable-value
 
-  pub opens : {o : Bool} → l .opens ≡ o → isOpen t ≡ o
-  unfolding valueOf
-  opens h = sym (ap (λ (y : Layout). y .opens) (x .layout-is)) ∙ h
+  -- ---- a type of fixed size
 
   module _ (b : List ℕ) (o : isOpen t ≡ false) where
     pub closed-short : length b < l .size → heldOf t b ≡ No
@@ -50,43 +57,38 @@ module _ {l : Layout} {t : Ty} (x : Laid l t) where
     closed-there h =
         rw (o, le-ltb (length b) (present (sizeOf t)) (rw size-is at h), closed-tail t o, closed-extent 0 t o, ← size-is) refl
 
--- ---- an open type
+  -- ---- an open type
 
--- The stride of a type's elements is its tail's.
-tail-stride : (t : Ty) (tail : Tail) → tailOf t ≡ some tail → present (elementStride t) ≡ tail .stride
-unfolding tailOf tailAt elementStride tailStride present
-tail-stride (scalar s) tail e = some-not-none {a = tail} e refl
-tail-stride (vector n s) tail e = some-not-none {a = tail} e refl
-tail-stride (matrix c r s) tail e = some-not-none {a = tail} e refl
-tail-stride (array n t) tail e = some-not-none {a = tail} e refl
-tail-stride (runtime t) tail e = ap (λ (y : Tail). y .stride) (Option·some-injective _ _ e)
-tail-stride (atomic s) tail e = some-not-none {a = tail} e refl
-tail-stride (struct k ms) tail e = rw e refl
+  -- Its tail can be found,
+  pub open-findable : isOpen t ≡ true → Findable ms table l
+  open-findable o = rw (x .layout-is) (open-found (x .site) e t (x .there) o .2 .findable)
 
-module _ {l : Layout} {t : Ty} (x : Laid l t) (o : isOpen t ≡ true) where
-  -- The layout holds the tail.
-  layout-tail : tailOf t ≡ some (record { offset = l .offset; stride = l .stride })
-  unfolding valueOf tailOffset
-  layout-tail =
-      let y = open-tail t (x .well-formed) o in
-      rw (x .layout-is, tail-stride t (y .0) (y .1), y .1) refl
+  -- and is the type's.
+  pub open-opening : isOpen t ≡ true → {y : declared.Tail} → y ≡ tailFrom ms table l → Opening t y
+  open-opening o is =
+      record {
+        well-formed = viewable-well-formed;
+        opens = o;
+        tail-is = rw (is, x .layout-is) (found-opened (x .site) e (open-found (x .site) e t (x .there) o .2) .tail-is);
+      }
 
-  pub stride-above : 0 < l .stride
+module _ {t : Ty} {y : declared.Tail} (x : Opening t y) where
+  pub stride-above : 0 < y .layout .stride
   stride-above =
-      let y = open-tail t (x .well-formed) o in
-      let same : y .0 ≡ record { offset = l .offset; stride = l .stride } = Option·some-injective _ _ (sym (y .1) ∙ layout-tail) in
-      rw same at (y .2)
+      let z = open-tail t (x .well-formed) (x .opens) in
+      let same : z .0 ≡ record { offset = y .offset; stride = y .layout .stride } = Option·some-injective _ _ (sym (z .1) ∙ x .tail-is) in
+      rw same at (z .2)
 
   module _ (b : List ℕ) where
-    pub open-short : elementsFound (length b) (l .offset) (l .stride) ≡ found.No → heldOf t b ≡ No
+    pub open-short : elementsFound (length b) (y .offset) (y .layout .stride) ≡ found.No → heldOf t b ≡ No
     unfolding heldOf
-    open-short e = rw (found-short t o (l .offset) (l .stride) layout-tail b e) refl
+    open-short h = rw (found-short t (x .opens) (y .offset) (y .layout .stride) (x .tail-is) b h) refl
 
-    pub open-there : {n : ℕ} → elementsFound (length b) (l .offset) (l .stride) ≡ found.Is n → heldOf t b ≡ Is n (l .offset + n * l .stride)
+    pub open-there : {n : ℕ} → elementsFound (length b) (y .offset) (y .layout .stride) ≡ found.Is n → heldOf t b ≡ Is n (y .offset + n * y .layout .stride)
     unfolding heldOf extentOf extentBy
-    open-there e =
-        let y = found-there t o (l .offset) (l .stride) layout-tail b e in
-        rw (y .0, y .1, layout-tail) refl
+    open-there h =
+        let z = found-there t (x .opens) (y .offset) (y .layout .stride) (x .tail-is) b h in
+        rw (z .0, z .1, x .tail-is) refl
 
 -- ---- the target
 

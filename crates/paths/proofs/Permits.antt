@@ -20,7 +20,7 @@ use Rattle.wgsl.proofs.Said.{refuse-good, next-is, good-not-refused}
 use Rattle.wgsl.proofs.Call.{laid-good, stored-good}
 use Rattle.kinds.specs.declared.value.Layout.{Layout}
 use Rattle.kinds.specs.Value.{valueOf}
-use Rattle.over.proofs.Presence.{unaligned}
+use Rattle.kinds.proofs.Presence.{unaligned}
 use Rattle.decide.specs.Decide.{allowedFor}
 use Rattle.decide.proofs.Allowing.{has-layout}
 use Rattle.decide.proofs.Stored.{stored-refused, stored-allowed}
@@ -32,7 +32,7 @@ pub too-long : (t : Ty) (bytes : ℕ) → 4294967295 < bytes → allowedAs false
 unfolding allowedAs withinLimit limit _>>_ refuse
 too-long t bytes h = rw (lt-leb bytes 4294967295 h) refl
 
-module _ (t : Ty) (l : Layout) (is : l ≡ valueOf t) (w : everywhere isWellFormed t ≡ true) (bytes : ℕ) (fits : bytes ≤ 4294967295) where
+module _ (t : Ty) (l : Layout) (is : l ≡ valueOf (l .reference) t) (w : everywhere isWellFormed t ≡ true) (bytes : ℕ) (fits : bytes ≤ 4294967295) where
   pub no-layout : l .align ≡ 0 → allowedAs false t bytes ≡ refused 9 0
   unfolding allowedAs withinLimit limit _>>_ refuse hasLayout isPresent
   no-layout e = rw (le-leb bytes 4294967295 fits, unaligned t l is w e) refl

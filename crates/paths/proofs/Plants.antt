@@ -1,66 +1,27 @@
--- The entry that a call speaks of (specs/Locate), from what `plan::lay` ensures.
+-- The call once its entry is found, or not (specs/Locate).
 --
--- In order: an entry that is there; what its walk asks; an entry that is not there.
+-- In order: what its walk asks; the call.
 -- Assumes nothing.
-use Prim.Native.Nat.{ℕ, suc}
+use Prim.Native.Nat.{ℕ}
 use mathlib.Core.Bool.{Bool, true, false}
 use mathlib.Core.List.{List}
-use mathlib.Core.Option.{some}
-use mathlib.Core.Path.{_≡_, refl, ap}
-use lib.ListN.{getElem?}
-use Rattle.wgsl.specs.Types.{Ty, everywhere}
+use mathlib.Core.Path.{_≡_}
+use Rattle.wgsl.specs.Types.{Ty}
 use Rattle.wgsl.specs.Size.{hasLayout}
 use Rattle.wgsl.specs.Said.{good, refused}
-use Rattle.wgsl.specs.Rule.{isWellFormed, typesOf}
 use Rattle.wgsl.specs.Call.{entryOf, laidEntry, storedEntry, targetIn}
 use Rattle.wgsl.proofs.Said.{then-is, then-refused}
-use Rattle.wgsl.proofs.Accepted.{accepted-well-formed}
-use Rattle.kinds.specs.Value.{valueOf}
-use Rattle.plan.specs.declared.Ground.{Ground}
-use Rattle.plan.specs.Plan.{Rows, groundOf, plannedOf}
-use Rattle.plan.proofs.Grounds.{membersPart, members-part, entry-found, entry-missing}
-use Rattle.paths.specs.Locate.{Viewable, Planted, targetCall}
+use Rattle.table.specs.declared.Ground.{Ground}
+use Rattle.decide.specs.Entry.{membersPart, Entry}
+use Rattle.decide.proofs.Entries.{entry-site, entry-layout}
+use Rattle.paths.specs.Locate.{Viewable, targetCall}
 use Rattle.paths.proofs.Permits.{entryAs}
-
--- ---- an entry that is there
-
-pub planted : (f : List ℕ) (e : ℕ) (rows : List ℕ) (g : Ground) → good g ≡ plannedOf f e → ((ts : List Ty) (t : Ty) → typesOf f ≡ good ts → getElem? ts e ≡ some t → Rows f ts rows (suc e)) → (t : Ty) × Planted f e g rows t
-planted f e rows g p laid =
-    let x = entry-found f e g p in (
-      x .type,
-      record {
-        types = x .types;
-        site = record {
-          good-file = x .good-file;
-          members-are = refl;
-          rows-are = laid (x .types) (x .type) (x .good-file) (x .there);
-          few = x .few;
-        };
-        there = x .there;
-        entry-is = x .entry-is;
-        ground-is = x .ground-is;
-        bytes-inside = x .bytes-inside;
-      },
-    )
 
 -- ---- what its walk asks
 
-module _ {f : List ℕ} {e : ℕ} {g : Ground} {rows : List ℕ} {t : Ty} (x : Planted f e g rows t) where
-  pub planted-layout : g .layout ≡ valueOf t
-  unfolding groundOf
-  planted-layout = ap (λ (y : Ground). y .layout) (x .ground-is)
-
-  pub planted-well-formed : everywhere isWellFormed t ≡ true
-  planted-well-formed = accepted-well-formed f (x .types) (x .site .good-file) e t (x .there)
-
-  pub planted-viewable : hasLayout t ≡ true → Viewable f (membersPart f g) rows e (g .layout) t
-  planted-viewable h =
-      rw (members-part f t (x .ground-is)) (record {
-        types = x .types;
-        site = x .site;
-        there = x .there;
-        laid = record { layout-is = planted-layout; well-formed = planted-well-formed; has-layout = h };
-      })
+pub entry-viewable : {f : List ℕ} {e : ℕ} {g : Ground} {table : List (List ℕ)} {t : Ty} → Entry f e g table t → hasLayout t ≡ true → Viewable f (membersPart f g) table e (g .layout) t
+entry-viewable x h =
+    record { types = x .types; site = entry-site x; there = x .there; layout-is = entry-layout x; has-layout = h }
 
 -- ---- the call
 
@@ -79,5 +40,5 @@ module _ (stored : Bool) (f : List ℕ) (e : ℕ) (path b : List ℕ) where
   missing h true = then-refused _ (then-refused _ h)
   missing h false = then-refused _ h
 
-  pub target-missing : {number place : ℕ} → refused number place ≡ plannedOf f e → targetCall stored f e path b ≡ refused number place
-  target-missing h = target-refused (missing (entry-missing f e h) stored)
+  pub target-missing : {number place : ℕ} → entryOf f e ≡ refused number place → targetCall stored f e path b ≡ refused number place
+  target-missing h = target-refused (missing h stored)

@@ -1,6 +1,6 @@
--- Where a walk begins: an entry whose rows are there (specs/Locate), as crates/walker asks for it.
+-- Where a walk begins: an entry of the table (specs/Locate), as crates/walker asks for it.
 -- Assumes nothing.
-use Prim.Native.Nat.{ℕ, suc, _+_, _≤_}
+use Prim.Native.Nat.{ℕ, _+_, _≤_}
 use mathlib.Core.List.{List}
 use mathlib.Core.Path.{_≡_, refl, sym, _∙_}
 use native.Mathlib.Omega.{arith}
@@ -17,25 +17,25 @@ use Rattle.walker.specs.Way.{at-entry, Standing}
 use Rattle.paths.specs.Locate.{Viewable}
 use Rattle.paths.proofs.Holds.{There}
 
-module _ {f ms rows : List ℕ} {e : ℕ} {l : Layout} {t : Ty} (x : Viewable f ms rows e l t) where
+module _ {f ms : List ℕ} {table : List (List ℕ)} {e : ℕ} {l : Layout} {t : Ty} (x : Viewable f ms table e l t) where
   entry-is : entryOf f e ≡ good t
   unfolding entryOf _>>=_ orRefuse
   entry-is = rw (x .site .good-file, x .there) refl
 
   -- where it begins in a buffer that holds n elements of it
   pub record Begins (n size : ℕ) : Type 0 where
-    pub standing : Standing f (x .types) ms rows (suc e) n (Entry e) (shapeOf n t)
+    pub standing : Standing f (x .types) ms table n (Entry e) (shapeOf n t)
     pub size-is : size ≡ spanOf (shapeOf n t)
     pub within : 0 + spanOf (shapeOf n t) ≤ limit
 
   pub begins : {path b : List ℕ} {n size : ℕ} → There t path b n size → length b ≤ limit → Begins n size
   begins {n = n} y h =
       -- its shape takes its extent
-      let span = entry-sound f e t entry-is (x .laid .has-layout) n .1 in
+      let span = entry-sound f e t entry-is (x .has-layout) n .1 in
       record {
         standing = record {
           site = x .site;
-          stands = at-entry {e = e} (omega arith) (x .there) (x .laid .has-layout);
+          stands = at-entry {e = e} (x .there) (x .has-layout);
           within = omega (arith, span, y .inside);
         };
         size-is = y .size-is ∙ sym span;

@@ -1,15 +1,21 @@
 // What a path leads to. Document 01's order is 1 to 8, 17, 9, for a set 10, then 15 and the first bad step.
 use decide::Allowed;
 use decide::Found;
+use decide::Tail;
 use decide::allow;
 use decide::elements_in;
-use decide::no_rows;
+use decide::tail_of;
 use file::refusal::Refusal;
+use file::trailer::Trailered;
+use file::trailer::check_trailer;
 use file::trailer::wide;
 use kinds::value::Layout;
-use plan::Ground;
-use plan::Planned;
-use plan::lay;
+use kinds::value::Value;
+use kinds::value::blank;
+use kinds::value::opens;
+use table::Ground;
+use table::Grounded;
+use table::find;
 use walker::enter::Place;
 use walker::walk::Walked;
 use walker::walk::walk;
@@ -19,17 +25,18 @@ ghost use mathlib.Core.List.{List};
 ghost use Prim.Native.Nat.{ℕ, _≤_};
 ghost use lib.ListN.{length};
 ghost use Rattle.wgsl.specs.Round.{limit};
-ghost use Rattle.wgsl.specs.Types.{Ty, isOpen, everywhere};
+ghost use Rattle.wgsl.specs.Types.{Ty, everywhere};
 ghost use Rattle.wgsl.specs.Rule.{isWellFormed};
 ghost use Rattle.wgsl.specs.Call.{targetIn};
 ghost use Rattle.kinds.specs.Value.{valueOf};
 ghost use Rattle.decide.specs.Decide.{saidAllowed};
+ghost use Rattle.decide.specs.Entry.{Entry};
 ghost use Rattle.walker.specs.Walk.{saidWalked, reached};
-ghost use Rattle.paths.specs.Locate.{allowedAs, Laid, heldOf, Viewable, Planted, targetCall};
+ghost use Rattle.paths.specs.Locate.{allowedAs, heldOf, Viewable, Opening, targetCall};
 
 // 17 and 9; 10 too, for an entry that is to be stored.
 fn permit(l: Layout, bytes: usize, stored: bool) -> Allowed
-    ensures { λ r. ⌜ ((t : Ty) → l ≡ valueOf t → everywhere isWellFormed t ≡ true → saidAllowed r ≡ allowedAs stored t bytes) ⌝ }
+    ensures { λ r. ⌜ ((t : Ty) → l ≡ valueOf (l .reference) t → everywhere isWellFormed t ≡ true → saidAllowed r ≡ allowedAs stored t bytes) ⌝ }
 {
     if stored {
         return allow(l, bytes);
@@ -49,24 +56,24 @@ pub enum Held {
     No,
 }
 
-// 15 for an open type: a buffer with no whole element.
-fn held_open(l: Layout, bytes: usize) -> Held
-    requires { ⌜ ((t : Ty) × Laid l t × (isOpen t ≡ true) × (bytes ≤ limit)) ⌝ }
-    ensures { λ r. ⌜ ((t : Ty) (b : List ℕ) → Laid l t → isOpen t ≡ true → length b ≡ bytes → r ≡ heldOf t b) ⌝ }
+// 15 for an open type with the tail `x`: a buffer with no whole element.
+fn held_open(x: Tail, bytes: usize) -> Held
+    requires { ⌜ ((t : Ty) × Opening t x × (bytes ≤ limit)) ⌝ }
+    ensures { λ r. ⌜ ((t : Ty) (b : List ℕ) → Opening t x → length b ≡ bytes → r ≡ heldOf t b) ⌝ }
 {
-    match elements_in(bytes, l.offset, l.stride) {
+    match elements_in(bytes, x.offset, x.layout.stride) {
         Found::No => Held::No,
-        Found::Is(n) => Held::Is(n, wide(l.offset) + n * wide(l.stride)),
+        Found::Is(n) => Held::Is(n, x.offset + n * wide(x.layout.stride)),
     }
 }
 
 // 15: for an entry of the layout `l` and a buffer of so many bytes.
-fn held_of(l: Layout, bytes: usize) -> Held
-    requires { ⌜ ((t : Ty) × Laid l t × (bytes ≤ limit)) ⌝ }
-    ensures { λ r. ⌜ ((t : Ty) (b : List ℕ) → Laid l t → length b ≡ bytes → r ≡ heldOf t b) ⌝ }
+fn held_of(members: &[u8], table: &[Value], l: Layout, bytes: usize) -> Held
+    requires { ⌜ ((f : List ℕ) × (e : ℕ) × (t : Ty) × Viewable f (now members) (now table) e l t × (bytes ≤ limit)) ⌝ }
+    ensures { λ r. ⌜ ((f : List ℕ) (e : ℕ) (t : Ty) (b : List ℕ) → Viewable f (now (members .entry)) (now (table .entry)) e l t → length b ≡ bytes → r ≡ heldOf t b) ⌝ }
 {
-    if l.opens {
-        return held_open(l, bytes);
+    if opens(l) {
+        return held_open(tail_of(members, table, l), bytes);
     }
     let size = wide(l.size);
     if bytes < size {
@@ -78,18 +85,18 @@ fn held_of(l: Layout, bytes: usize) -> Held
 // What lies under a path: 15, and then the first bad step.
 fn target_in(
     members: &[u8],
-    rows: &[u32],
+    table: &[Value],
     e: usize,
     l: Layout,
     path: &[u32],
     bytes: usize,
 ) -> Walked
-    requires { ⌜ ((f : List ℕ) × (t : Ty) × Viewable f (now members) (now rows) e l t × (bytes ≤ limit)) ⌝ }
-    ensures { λ r. ⌜ ((f : List ℕ) (t : Ty) (b : List ℕ) → Viewable f (now (members .entry)) (now (rows .entry)) e l t → length b ≡ bytes → saidWalked r ≡ reached (targetIn t (now (path .entry)) b)) ⌝ }
+    requires { ⌜ ((f : List ℕ) × (t : Ty) × Viewable f (now members) (now table) e l t × (bytes ≤ limit)) ⌝ }
+    ensures { λ r. ⌜ ((f : List ℕ) (t : Ty) (b : List ℕ) → Viewable f (now (members .entry)) (now (table .entry)) e l t → length b ≡ bytes → saidWalked r ≡ reached (targetIn t (now (path .entry)) b)) ⌝ }
 {
-    match held_of(l, bytes) {
+    match held_of(members, table, l, bytes) {
         Held::No => Walked::Refused(Refusal::Buffer),
-        Held::Is(n, size) => walk(members, rows, n, Place::Entry(e), size, path, 0, 0),
+        Held::Is(n, size) => walk(members, table, n, Place::Entry(e), size, path, 0, 0),
     }
 }
 
@@ -98,13 +105,13 @@ fn target_at(
     file: &[u8],
     e: usize,
     g: Ground,
-    rows: &[u32],
+    table: &[Value],
     path: &[u32],
     bytes: usize,
     stored: bool,
 ) -> Walked
-    requires { ⌜ ((t : Ty) × Planted (now file) e g (now rows) t) ⌝ }
-    ensures { λ r. ⌜ ((t : Ty) (b : List ℕ) → Planted (now (file .entry)) e g (now (rows .entry)) t → length b ≡ bytes → saidWalked r ≡ reached (targetCall stored (now (file .entry)) e (now (path .entry)) b)) ⌝ }
+    requires { ⌜ ((t : Ty) × Entry (now file) e g (now table) t) ⌝ }
+    ensures { λ r. ⌜ ((t : Ty) (b : List ℕ) → Entry (now (file .entry)) e g (now (table .entry)) t → length b ≡ bytes → saidWalked r ≡ reached (targetCall stored (now (file .entry)) e (now (path .entry)) b)) ⌝ }
 {
     let l = g.layout;
     match permit(l, bytes, stored) {
@@ -112,7 +119,7 @@ fn target_at(
         Allowed::Yes => {
             let start = g.start;
             let end = g.end;
-            target_in(&file[start..end], rows, e, l, path, bytes)
+            target_in(&file[start..end], table, e, l, path, bytes)
         }
     }
 }
@@ -122,9 +129,14 @@ fn target_at(
 pub fn locate(file: &[u8], entry: u32, path: &[u32], bytes: usize, stored: bool) -> Walked
     ensures { λ r. ⌜ ((b : List ℕ) → length b ≡ bytes → saidWalked r ≡ reached (targetCall stored (now (file .entry)) entry (now (path .entry)) b)) ⌝ }
 {
-    let mut rows = no_rows();
-    match lay(file, entry, &mut rows) {
-        Planned::Refused(r) => Walked::Refused(r),
-        Planned::Is(g) => target_at(file, wide(entry), g, &rows, path, bytes, stored),
+    match check_trailer(file) {
+        Trailered::Refused(r) => Walked::Refused(r),
+        Trailered::Good(t) => {
+            let mut table = blank();
+            match find(file, t, entry, &mut table) {
+                Grounded::Refused(r) => Walked::Refused(r),
+                Grounded::Is(g) => target_at(file, wide(entry), g, &table, path, bytes, stored),
+            }
+        }
     }
 }

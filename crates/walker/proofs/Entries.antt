@@ -1,4 +1,4 @@
--- What a walk finds at an entry, by its row (specs/Way): a scalar, parts, or a struct.
+-- What a walk finds at an entry, by its layout (specs/Way): a scalar, parts, or a struct.
 --
 -- In order: a part; what an entry is; types with a size; every kind.
 -- Assumes nothing.
@@ -7,47 +7,46 @@ use mathlib.Core.Bool.{true, _||_, or-true}
 use mathlib.Core.List.{List}
 use mathlib.Core.Logic.{inl}
 use mathlib.Core.Option.{Option, some}
-use mathlib.Core.Path.{_≡_, refl, sym, ap, _∙_}
+use mathlib.Core.Path.{_≡_, sym, ap, _∙_}
 use native.Mathlib.Omega.{arith}
 use borrow.Author.Tests.{eq-eqb, ne-eqb}
-use lib.ListN.{getElem?}
+use lib.ListN.{length, getElem?}
 use Rattle.wgsl.specs.Round.{up}
 use Rattle.wgsl.specs.Types.{Scalar, Ty, scalar, vector, matrix, array, runtime, Members, isOpen}
-use Rattle.wgsl.specs.Size.{both, isPresent, widthOf, vectorSize, vectorAlign, sizeOf, alignOf, hasLayout}
+use Rattle.wgsl.specs.Size.{both, isPresent, present, widthOf, vectorSize, vectorAlign, sizeOf, alignOf, hasLayout}
 use Rattle.wgsl.specs.File.{typeEntryAt}
-use Rattle.wgsl.specs.Rule.{scalarIn}
 use Rattle.wgsl.specs.Rank.{kindOf}
 use Rattle.wgsl.specs.Place.{Shape, one, parts, column, shapeOf, fieldsOf, spanOf}
 use Rattle.wgsl.proofs.Absent.{both-hold, hold-both, present-some, some-present, both-some}
 use Rattle.wgsl.proofs.Passed.{matrix-passed, runtime-passed}
 use Rattle.wgsl.proofs.Align.{vector-align}
-use Rattle.wgsl.proofs.AtEntry.{Refers, to-none, to-vector, to-matrix, to-array, to-runtime, to-atomic, to-members, refers}
-use Rattle.kinds.specs.Value.{kindOfType, valueOf}
-use Rattle.kinds.proofs.Scalar.{scalar-kind}
-use Rattle.rows.specs.declared.Row.{Row}
-use Rattle.rows.specs.Row.{rowAt}
-use Rattle.plan.specs.Plan.{partWords, partStride, partCount, rowOf}
+use Rattle.wgsl.proofs.AtEntry.{Refers, to-none, to-vector, to-matrix, to-array, to-runtime, to-atomic, to-members}
+use Rattle.kinds.specs.declared.value.Layout.{Layout}
+use Rattle.kinds.specs.Value.{kindOfType, partsOf, partWords, partStride, valueOf, layoutAt}
+use Rattle.kinds.proofs.Scalar.{kind-bounded}
+use Rattle.shapes.specs.Site.{Site}
+use Rattle.shapes.proofs.Sites.{site-inside, site-layout, site-well-formed, site-refers}
 use Rattle.walker.specs.declared.enter.Place.the-variants.{Entry, Column}
-use Rattle.walker.specs.Way.{sizeAt, partsAt, Site, Stands, at-entry, at-column}
-use Rattle.walker.proofs.Sizes.{row-there, kind-there, well-there, inner-size}
+use Rattle.walker.specs.Way.{sizeAt, partsAt, Stands, at-entry, at-column}
+use Rattle.walker.proofs.Sizes.{kind-there, inner-size}
 
 -- ---- a part
 
--- a part, of the shape y, of an entry with the row r: a column over the entry that it refers to, or that entry
-pub record Part (ts : List Ty) (rows : List ℕ) (k n : ℕ) (r : Row) (y : Shape) : Type 0 where
-  pub lower : r .reference < k
-  pub as-column : r .kind ≡ 8 → Stands ts k n (Column (r .unit) (r .reference)) y × (r .unit * rowAt rows (r .reference) .size ≡ spanOf y)
-  pub as-entry : (r .kind ≡ 8 → ⊥) → Stands ts k n (Entry (r .reference)) y × (sizeAt rows n (r .reference) ≡ spanOf y)
+-- a part, of the shape y, of an entry with the layout l: a column over the entry that it refers to, or that entry
+pub record Part (ts : List Ty) (table : List (List ℕ)) (n : ℕ) (l : Layout) (y : Shape) : Type 0 where
+  pub inside : l .reference < length table
+  pub as-column : l .kind ≡ 8 → Stands ts n (Column (l .unit) (l .reference)) y × (l .unit * layoutAt table (l .reference) .size ≡ spanOf y)
+  pub as-entry : (l .kind ≡ 8 → ⊥) → Stands ts n (Entry (l .reference)) y × (sizeAt table n (l .reference) ≡ spanOf y)
 
 -- ---- what an entry is
 
-pub data Found (ts : List Ty) (rows : List ℕ) (k n e : ℕ) : Shape → Type 0 where
+pub data Found (ts : List Ty) (table : List (List ℕ)) (n e : ℕ) : Shape → Type 0 where
   -- kinds 0 to 6
-  a-scalar : (s : Scalar) → rowAt rows e .kind ≡ kindOf s → rowAt rows e .kind ≤ 6 → Found ts rows k n e (one s)
-  an-atomic : (s : Scalar) → rowAt rows e .kind ≡ 11 → rowAt rows e .reference < k → rowAt rows (rowAt rows e .reference) .kind ≡ kindOf s → Found ts rows k n e (one s)
+  a-scalar : (s : Scalar) → layoutAt table e .kind ≡ kindOf s → layoutAt table e .kind ≤ 6 → Found ts table n e (one s)
+  an-atomic : (s : Scalar) → layoutAt table e .kind ≡ 11 → layoutAt table e .reference < length table → layoutAt table (layoutAt table e .reference) .kind ≡ kindOf s → Found ts table n e (one s)
   -- kinds 7 to 10
-  of-parts : {count stride : ℕ} {y : Shape} → 7 ≤ rowAt rows e .kind → rowAt rows e .kind ≤ 10 → partsAt rows n e ≡ count → rowAt rows e .stride ≡ stride → Part ts rows k n (rowAt rows e) y → Found ts rows k n e (parts count stride y)
-  of-members : (z : ℕ) (end : Option ℕ) (ms : Members) → rowAt rows e .kind ≡ 12 → Found ts rows k n e (fieldsOf n z end ms)
+  of-parts : {count stride : ℕ} {y : Shape} → 7 ≤ layoutAt table e .kind → layoutAt table e .kind ≤ 10 → partsAt table n e ≡ count → layoutAt table e .stride ≡ stride → Part ts table n (layoutAt table e) y → Found ts table n e (parts count stride y)
+  of-members : (z : ℕ) (end : Option ℕ) (ms : Members) → layoutAt table e .kind ≡ 12 → Found ts table n e (fieldsOf n z end ms)
 
 -- ---- types with a size
 
@@ -83,59 +82,57 @@ array-sized c t h =
 
 -- ---- every kind
 
-module _ {f : List ℕ} {ts : List Ty} {ms rows : List ℕ} {k : ℕ} (site : Site f ts ms rows k) (n e : ℕ) (low : e < k) where
+module _ {f : List ℕ} {ts : List Ty} {ms : List ℕ} {table : List (List ℕ)} (site : Site f ts ms table) (n e : ℕ) where
   -- the parts of a runtime array, and of the others
-  runtime-parts : rowAt rows e .kind ≡ 10 → partsAt rows n e ≡ n
+  runtime-parts : layoutAt table e .kind ≡ 10 → partsAt table n e ≡ n
   unfolding partsAt
-  runtime-parts is = rw (eq-eqb (rowAt rows e .kind) 10 is)
+  runtime-parts is = rw (eq-eqb (layoutAt table e .kind) 10 is)
 
-  other-parts : (rowAt rows e .kind ≡ 10 → ⊥) → partsAt rows n e ≡ rowAt rows e .count
+  other-parts : (layoutAt table e .kind ≡ 10 → ⊥) → partsAt table n e ≡ layoutAt table e .count
   unfolding partsAt
-  other-parts other = rw (ne-eqb (rowAt rows e .kind) 10 other)
+  other-parts other = rw (ne-eqb (layoutAt table e .kind) 10 other)
 
   module _ {t : Ty} (there : getElem? ts e ≡ some t) where
-    kind : rowAt rows e .kind ≡ kindOfType t
-    kind = kind-there site low there
+    kind : layoutAt table e .kind ≡ kindOfType t
+    kind = kind-there site e t there
 
-    reference : rowAt rows e .reference ≡ typeEntryAt f e .reference
-    unfolding rowOf
-    reference = ap (λ (r : Row). r .reference) (row-there site low there)
+    reference : layoutAt table e .reference ≡ typeEntryAt f e .reference
+    unfolding valueOf
+    reference = ap (λ (l : Layout). l .reference) (site-layout site e t there)
 
-    count : rowAt rows e .count ≡ partCount (typeEntryAt f e) t
-    unfolding rowOf
-    count = ap (λ (r : Row). r .count) (row-there site low there)
+    count : layoutAt table e .count ≡ partsOf t
+    unfolding valueOf
+    count = ap (λ (l : Layout). l .count) (site-layout site e t there)
 
-    unit : rowAt rows e .unit ≡ partWords t
-    unfolding rowOf
-    unit = ap (λ (r : Row). r .unit) (row-there site low there)
+    unit : hasLayout t ≡ true → layoutAt table e .unit ≡ partWords t
+    unfolding valueOf
+    unit h = ap (λ (l : Layout). l .unit) (site-layout site e t there) ∙ rw h
 
-    stride : rowAt rows e .stride ≡ partStride t
-    unfolding rowOf
-    stride = ap (λ (r : Row). r .stride) (row-there site low there)
+    stride : layoutAt table e .stride ≡ present (partStride t)
+    unfolding valueOf
+    stride = ap (λ (l : Layout). l .stride) (site-layout site e t there)
 
     -- a part that is an entry
-    entry-part : {u : Ty} → (kindOfType t ≡ 8 → ⊥) → typeEntryAt f e .reference < e → getElem? ts (typeEntryAt f e .reference) ≡ some u → Sized u → Part ts rows k n (rowAt rows e) (shapeOf n u)
-    entry-part other down found x =
-        let lower : typeEntryAt f e .reference < k = omega arith in
+    entry-part : {u : Ty} → (kindOfType t ≡ 8 → ⊥) → getElem? ts (typeEntryAt f e .reference) ≡ some u → Sized u → Part ts table n (layoutAt table e) (shapeOf n u)
+    entry-part {u} other found x =
         record {
-          lower = rw reference lower;
+          inside = rw reference (site-inside site _ u found);
           as-column = λ q. absurd (other (sym kind ∙ q));
           as-entry = λ q. rw reference (
-            at-entry lower found (sized-layout x),
-            inner-size site n lower found (sized-layout x) (inl (x .sized)),
+            at-entry found (sized-layout x),
+            inner-size site n _ u found (sized-layout x) (inl (x .sized)),
           );
         }
 
   -- a part that is a column
-  column-part : {c r : ℕ} {s : Scalar} → getElem? ts e ≡ some (matrix c r s) → typeEntryAt f e .reference < e → getElem? ts (typeEntryAt f e .reference) ≡ some (scalar s) → Sized (scalar s) → Part ts rows k n (rowAt rows e) (column r s)
-  unfolding kindOfType partWords rowOf column spanOf sizeOf
-  column-part {r = r} there down found x =
-      let lower : typeEntryAt f e .reference < k = omega arith in
+  column-part : {c r : ℕ} {s : Scalar} → getElem? ts e ≡ some (matrix c r s) → hasLayout (matrix c r s) ≡ true → getElem? ts (typeEntryAt f e .reference) ≡ some (scalar s) → Sized (scalar s) → Part ts table n (layoutAt table e) (column r s)
+  unfolding kindOfType partWords valueOf column spanOf sizeOf
+  column-part {r = r} {s} there h found x =
       record {
-        lower = rw (reference there) lower;
-        as-column = λ q. rw (reference there, unit there) (
-          at-column lower found (sized-layout x),
-          ap (λ (row : Row). r * row .size) (row-there site lower found),
+        inside = rw (reference there) (site-inside site _ (scalar s) found);
+        as-column = λ q. rw (reference there, unit there h) (
+          at-column found (sized-layout x),
+          ap (λ (l : Layout). r * l .size) (site-layout site _ (scalar s) found),
         );
         as-entry = λ q. absurd (q (kind there));
       }
@@ -145,39 +142,39 @@ module _ {f : List ℕ} {ts : List Ty} {ms rows : List ℕ} {k : ℕ} (site : Si
   unfolding hasLayout alignOf
   matrix-sized {c} {r} {s} there h =
       let a = present-some (vectorAlign r s) (both-hold (isPresent (vectorAlign r s)) _ h .0) in
-      wide-scalar (vector-align r s (a .0) (matrix-passed c r s (well-there site e there) .1) (a .1) .width-is)
+      wide-scalar (vector-align r s (a .0) (matrix-passed c r s (site-well-formed site e (matrix c r s) there) .1) (a .1) .width-is)
 
   runtime-sized : {t : Ty} → getElem? ts e ≡ some (runtime t) → Sized t
   runtime-sized {t} there =
-      let p = runtime-passed t (well-there site e there) in
+      let p = runtime-passed t (site-well-formed site e (runtime t) there) in
       record { aligned = some-present (p .aligned-is); sized = some-present (p .own-is) }
 
   -- An entry with a layout is a scalar, an atomic, has parts, or is a struct.
-  pub found : {t : Ty} → getElem? ts e ≡ some t → hasLayout t ≡ true → Found ts rows k n e (shapeOf n t)
-  unfolding kindOfType valueOf scalarIn partCount partStride shapeOf column
-  found {t} there h = go (refers (record { good-file = site .good-file; type-is = there; fields-are = refl })) there h
+  pub found : {t : Ty} → getElem? ts e ≡ some t → hasLayout t ≡ true → Found ts table n e (shapeOf n t)
+  unfolding kindOfType partsOf partStride shapeOf column
+  found {t} there h = go (site-refers site e t there) there h
     where
-      go : {t : Ty} → Refers f ts e (typeEntryAt f e) t → getElem? ts e ≡ some t → hasLayout t ≡ true → Found ts rows k n e (shapeOf n t)
+      go : {t : Ty} → Refers f ts e (typeEntryAt f e) t → getElem? ts e ≡ some t → hasLayout t ≡ true → Found ts table n e (shapeOf n t)
       go (to-none s) there h =
-          let is : rowAt rows e .kind ≡ kindOf s = kind there in
-          a-scalar s is (omega (arith, scalar-kind (scalar s) (valueOf (scalar s)) s refl refl .1))
+          let is : layoutAt table e .kind ≡ kindOf s = kind there in
+          a-scalar s is (omega (arith, kind-bounded s))
       go (to-vector s down found) there h =
-          let is : rowAt rows e .kind ≡ 7 = kind there in
+          let is : layoutAt table e .kind ≡ 7 = kind there in
           of-parts (omega arith) (omega arith) (other-parts (λ q. omega arith) ∙ count there) (stride there)
-          (entry-part there (λ q. omega arith) down found (vector-sized _ s h))
+          (entry-part there (λ q. omega arith) found (vector-sized _ s h))
       go (to-matrix s down found) there h =
-          let is : rowAt rows e .kind ≡ 8 = kind there in
+          let is : layoutAt table e .kind ≡ 8 = kind there in
           of-parts (omega arith) (omega arith) (other-parts (λ q. omega arith) ∙ count there) (stride there)
-          (column-part there down found (matrix-sized there h))
+          (column-part there h found (matrix-sized there h))
       go (to-array u down found) there h =
-          let is : rowAt rows e .kind ≡ 9 = kind there in
+          let is : layoutAt table e .kind ≡ 9 = kind there in
           of-parts (omega arith) (omega arith) (other-parts (λ q. omega arith) ∙ count there) (stride there)
-          (entry-part there (λ q. omega arith) down found (array-sized _ u h))
+          (entry-part there (λ q. omega arith) found (array-sized _ u h))
       go (to-runtime u no-count down found) there h =
-          let is : rowAt rows e .kind ≡ 10 = kind there in
+          let is : layoutAt table e .kind ≡ 10 = kind there in
           of-parts (omega arith) (omega arith) (runtime-parts is) (stride there)
-          (entry-part there (λ q. omega arith) down found (runtime-sized there))
+          (entry-part there (λ q. omega arith) found (runtime-sized there))
       go (to-atomic s down found) there h =
-          let lower : typeEntryAt f e .reference < k = omega arith in
-          an-atomic s (kind there) (rw (reference there) lower) (rw (reference there) (kind-there site lower found))
+          an-atomic s (kind there) (rw (reference there) (site-inside site _ (scalar s) found))
+          (rw (reference there) (kind-there site _ (scalar s) found))
       go (to-members ms are within) there h = of-members _ _ ms (kind there)

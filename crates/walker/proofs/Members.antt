@@ -1,82 +1,63 @@
--- The members of a struct of an accepted file, as member steps find them (specs/Member, specs/Way; 01, refusal 11).
+-- The members of a struct of an accepted file, as member steps find them (specs/Way; 01, refusal 11).
 --
--- In order: a member by those before it; what is found of a member; a member that is there; none past the last; none outside a struct;
+-- In order: what is found of a member; a member that is there; none past the last; none outside a struct;
 -- a step at an entry.
 -- Assumes nothing.
-use Prim.Native.Nat.{ℕ, zero, suc, _+_, _-_, _*_, _<_, _≤_}
+use Prim.Native.Nat.{ℕ, zero, suc, _+_, _*_, _<_, _≤_}
 use mathlib.Core.Bool.{true, _||_}
 use mathlib.Core.List.{List}
 use mathlib.Core.Logic.{_⊎_, inl, inr, ⊎-elim}
 use mathlib.Core.Option.{Option, some, Option·some-injective}
-use mathlib.Core.Path.{_≡_, refl, sym, ap, _∙_}
+use mathlib.Core.Path.{_≡_, refl, ap, _∙_}
 use native.Mathlib.Omega.{arith}
-use native.Mathlib.Numerals.{unary-clauses}
 use lib.ListN.{length, take, getElem?}
 use Rattle.wgsl.specs.Round.{limit}
 use Rattle.wgsl.specs.Types.{Ty, scalar, vector, matrix, array, runtime, atomic, struct, Members, no-more, isRuntime, isOpen}
 use Rattle.wgsl.specs.Types as types
-use Rattle.wgsl.specs.Size.{isPresent, sizeOf, alignOf, hasLayout}
+use Rattle.wgsl.specs.Size.{isPresent, present, sizeOf, alignOf, hasLayout}
 use Rattle.wgsl.specs.Said.{good, refused}
-use Rattle.wgsl.specs.File.{trailerOf, memberEntryAt, givenSize, givenAlign, typeEntryAt}
-use Rattle.wgsl.specs.Rule.{isLast, membersFrom}
+use Rattle.wgsl.specs.File.{trailerOf, memberEntryLength, memberEntryAt, givenSize, givenAlign, typeEntryAt}
+use Rattle.wgsl.specs.Rule.{isLast, countOf, membersFrom}
 use Rattle.wgsl.specs.Place.{Shape, field, extentOf, shapeOf, column, fieldsOf, spanOf}
 use Rattle.wgsl.specs.Path.{member, enter}
 use Rattle.wgsl.proofs.Absent.{hold-both, some-present}
 use Rattle.wgsl.proofs.Said.{when-some, andThen-some}
 use Rattle.wgsl.proofs.Members.{member-has}
-use Rattle.wgsl.proofs.AtEntry.{Refers, to-none, to-vector, to-matrix, to-array, to-runtime, to-atomic, to-members, refers}
-use Rattle.kinds.specs.Value.{kindOfType}
-use Rattle.rows.specs.declared.Row.{Row}
-use Rattle.rows.specs.Row.{rowAt, placedAt, Placeable}
-use Rattle.plan.specs.Plan.{partCount, rowOf, memberBytes}
-use Rattle.plan.proofs.MemberRead.{Ruled, struct-ruled, first-ruled, rest-ruled, last-none, Read, read, first-placeable, first-start, first-end}
-use Rattle.plan.proofs.Says.{kind-not}
-use Rattle.walker.specs.Member.{placedIn, Placeables}
+use Rattle.wgsl.proofs.AtEntry.{Refers, to-none, to-vector, to-matrix, to-array, to-runtime, to-atomic, to-members}
+use Rattle.file.specs.Members.{memberBytes}
+use Rattle.kinds.specs.declared.value.Layout.{Layout}
+use Rattle.kinds.specs.Value.{kindOfType, partsOf, partStride, valueOf, layoutAt}
+use Rattle.kinds.proofs.Scalar.{kind-bounded}
+use Rattle.trees.specs.Placed.{placedAt, Placeable, placedIn, Placeables}
+use Rattle.shapes.specs.Site.{Site}
+use Rattle.shapes.proofs.Sites.{site-inside, site-layout, site-well-formed, site-refers}
+use Rattle.shapes.proofs.MemberRead.{Ruled, struct-ruled, first-ruled, rest-ruled, last-none, count-from, Read, read, first-placeable, first-start, first-end}
 use Rattle.walker.specs.declared.enter.Place.the-variants.{Entry}
 use Rattle.walker.specs.declared.enter.Entered.the-variants.{Into}
-use Rattle.walker.specs.Way.{sizeAt, Site, Stands, at-entry, Standing, Enters}
-use Rattle.walker.proofs.Sizes.{step-inside, row-inside, kind-there, row-there, well-there, inner-size}
+use Rattle.walker.specs.Way.{sizeAt, Stands, at-entry, Standing, Enters}
+use Rattle.walker.proofs.Sizes.{step-inside, kind-there, inner-size}
 use Rattle.walker.proofs.Parts.{stands-sound}
 
--- ---- a member by those before it
+-- ---- what is found of member i
 
-module _ (ms rows : List ℕ) (m end : ℕ) where
-  pub next-placeable : (i : ℕ) → Placeables ms rows m end i → Placeable ms rows m end
-  unfolding Placeables
-  next-placeable zero p = p
-  next-placeable (suc i) p = p .0
-
-  pub rest-placeables : (i : ℕ) → 0 < i → Placeables ms rows m end i → Placeables ms rows (m + 1) (placedAt ms rows m end .end) (i - 1)
-  unfolding Placeables
-  rest-placeables zero h p = absurd (omega arith)
-  rest-placeables (suc i) h p = simp unary-clauses (p .1)
-
-  pub rest-placed : (i : ℕ) → 0 < i → placedIn ms rows m end i ≡ placedIn ms rows (m + 1) (placedAt ms rows m end .end) (i - 1)
-  unfolding placedIn
-  rest-placed zero h = absurd (omega arith)
-  rest-placed (suc i) h = simp unary-clauses
-
--- ---- what is found of member i, of those from number m on in entry e, the one before which ended at `end`; x is their shape
-
-pub record MemberFound (ts : List Ty) (ms rows : List ℕ) (n e m end i : ℕ) (x : Shape) : Type 0 where
-  pub placeables : Placeables ms rows m end i
-  pub lower : placedIn ms rows m end i .ty < e
+-- of the members whose entries, each of so many bytes, begin at byte m; the one before them ended at `end`; x is their shape
+pub record MemberFound (ts : List Ty) (ms : List ℕ) (table : List (List ℕ)) (n long m end i : ℕ) (x : Shape) : Type 0 where
+  pub placeables : Placeables ms table long m end i
   pub type : Ty
-  pub there : getElem? ts (placedIn ms rows m end i .ty) ≡ some type
+  pub there : getElem? ts (placedIn ms table long m end i .ty) ≡ some type
   pub laid : hasLayout type ≡ true
   pub sized : (isPresent (sizeOf type) ≡ true) ⊎ (isRuntime type ≡ true)
-  pub enters : (j : ℕ) → enter j x (member i) ≡ good (record { offset = placedIn ms rows m end i .start; shape = shapeOf n type })
+  pub enters : (j : ℕ) → enter j x (member i) ≡ good (record { offset = placedIn ms table long m end i .start; shape = shapeOf n type })
 
-module _ {f : List ℕ} {ts : List Ty} {ms rows : List ℕ} {k : ℕ} (site : Site f ts ms rows k) (n : ℕ) {e : ℕ} (low : e < k) where
+module _ {f : List ℕ} {ts : List Ty} {ms : List ℕ} {table : List (List ℕ)} (site : Site f ts ms table) (n e : ℕ) where
   -- ---- a member that is there
 
-  first-found : {m lo : ℕ} {t : Ty} {others : Members} (z : ℕ) → Read f ts rows e m t → Ruled (some lo) (types.member t (givenSize (memberEntryAt f m)) (givenAlign (memberEntryAt f m)) others) → MemberFound ts (memberBytes f) rows n e m lo 0 (fieldsOf n z (some lo) (types.member t (givenSize (memberEntryAt f m)) (givenAlign (memberEntryAt f m)) others))
+  first-found : {m lo : ℕ} {t : Ty} {others : Members} (z : ℕ) → Read f ts table e m t → Ruled (some lo) (types.member t (givenSize (memberEntryAt f m)) (givenAlign (memberEntryAt f m)) others) → MemberFound ts (memberBytes f) table n 12 (m * 12) lo 0 (fieldsOf n z (some lo) (types.member t (givenSize (memberEntryAt f m)) (givenAlign (memberEntryAt f m)) others))
   unfolding Placeables placedIn placedAt hasLayout fieldsOf enter
   first-found {m} {lo} {t} {others} z r x =
       let v = first-ruled x in
       record {
         placeables = first-placeable r x;
-        lower = r .lower-is;
         type = t;
         there = r .there;
         laid = hold-both (isPresent (alignOf t)) (isOpen t || isPresent (sizeOf t)) (some-present (v .own-is)) (member-has t _ _ others v);
@@ -86,55 +67,53 @@ module _ {f : List ℕ} {ts : List Ty} {ms rows : List ℕ} {k : ℕ} (site : Si
         enters = λ j. rw (first-start r x);
       }
 
-  later-found : {m end i : ℕ} {offset : ℕ} {y rest : Shape} → Placeable (memberBytes f) rows m end → MemberFound ts (memberBytes f) rows n e (suc m) (placedAt (memberBytes f) rows m end .end) i rest → MemberFound ts (memberBytes f) rows n e m end (suc i) (field offset y rest)
+  later-found : (m end : ℕ) {i : ℕ} {offset : ℕ} {y rest : Shape} → Placeable (memberBytes f) table (m * 12) end → MemberFound ts (memberBytes f) table n 12 (suc m * 12) (placedAt (memberBytes f) table (m * 12) end .end) i rest → MemberFound ts (memberBytes f) table n 12 (m * 12) end (suc i) (field offset y rest)
   unfolding Placeables placedIn enter
-  later-found p x =
+  later-found m end {i} {rest = rest} p x =
+      let next : suc m * 12 ≡ m * 12 + 12 = omega arith in
+      let on : MemberFound ts (memberBytes f) table n 12 (m * 12 + 12) (placedAt (memberBytes f) table (m * 12) end .end) i rest = rw next at x in
       record {
-        placeables = (p, x .placeables);
-        lower = x .lower;
-        type = x .type;
-        there = x .there;
-        laid = x .laid;
-        sized = x .sized;
-        enters = x .enters;
+        placeables = (p, on .placeables);
+        type = on .type;
+        there = on .there;
+        laid = on .laid;
+        sized = on .sized;
+        enters = on .enters;
       }
 
   -- one member, in front of those after it
-  more-found : (c m lo z i : ℕ) (t : Ty) (others : Members) → Read f ts rows e m t → membersFrom f (take e ts) c (suc m) ≡ some others → Ruled (some lo) (types.member t (givenSize (memberEntryAt f m)) (givenAlign (memberEntryAt f m)) others) → i < suc c → ((lo′ i′ : ℕ) → Ruled (some lo′) others → i′ < c → MemberFound ts (memberBytes f) rows n e (suc m) lo′ i′ (fieldsOf n z (some lo′) others)) → MemberFound ts (memberBytes f) rows n e m lo i (fieldsOf n z (some lo) (types.member t (givenSize (memberEntryAt f m)) (givenAlign (memberEntryAt f m)) others))
+  more-found : (c m lo z i : ℕ) (t : Ty) (others : Members) → Read f ts table e m t → membersFrom f (take e ts) c (suc m) ≡ some others → Ruled (some lo) (types.member t (givenSize (memberEntryAt f m)) (givenAlign (memberEntryAt f m)) others) → i < suc c → ((lo′ i′ : ℕ) → Ruled (some lo′) others → i′ < c → MemberFound ts (memberBytes f) table n 12 (suc m * 12) lo′ i′ (fieldsOf n z (some lo′) others)) → MemberFound ts (memberBytes f) table n 12 (m * 12) lo i (fieldsOf n z (some lo) (types.member t (givenSize (memberEntryAt f m)) (givenAlign (memberEntryAt f m)) others))
   unfolding fieldsOf
   more-found c m lo z zero t others r are x h later = first-found z r x
   more-found c m lo z (suc i) t others r are x h later =
       ⊎-elim
       (λ (p : isPresent (sizeOf t) ≡ true).
       let next = first-end r x p in
-      later-found (first-placeable r x)
-      (rw next (later (placedAt (memberBytes f) rows m lo .end) i (rw next at (rest-ruled x)) (omega arith))))
+      later-found m lo (first-placeable r x)
+      (rw next (later (placedAt (memberBytes f) table (m * 12) lo .end) i (rw next at (rest-ruled x)) (omega arith))))
       (λ (p : (isLast others ≡ true) × (isRuntime t ≡ true)).
       absurd (omega (arith, last-none f (take e ts) c (suc m) others are (p .0) .0)))
       (first-ruled x .sized-or-last)
 
-  found : (c m lo z i : ℕ) (members : Members) → membersFrom f (take e ts) c m ≡ some members → m + c ≤ trailerOf f .members → Ruled (some lo) members → i < c → MemberFound ts (memberBytes f) rows n e m lo i (fieldsOf n z (some lo) members)
+  found : (c m lo z i : ℕ) (members : Members) → membersFrom f (take e ts) c m ≡ some members → m + c ≤ trailerOf f .members → Ruled (some lo) members → i < c → MemberFound ts (memberBytes f) table n 12 (m * 12) lo i (fieldsOf n z (some lo) members)
   unfolding membersFrom
   found zero m lo z i members are within x h = absurd (omega arith)
   found (suc c) m lo z i members are within x h =
       let t = andThen-some _ _ (when-some _ _ are .1) in
       let rest = andThen-some _ _ (t .after) in
       let q = Option·some-injective _ _ (rest .after) in
-      let r = read (site .good-file) (site .rows-are) (site .few) low m (t .value) (omega arith) (t .first) in
+      let r = read site m (t .value) (omega arith) (t .first) in
       rw (← q)
       (more-found c m lo z i (t .value) (rest .value) r (rest .first) (rw (← q) at x) h
       (λ lo′ i′ y g. found c (suc m) lo′ z i′ (rest .value) (rest .first) (omega arith) y g))
 
 -- ---- none past the last
 
-past : (f : List ℕ) (ts : List Ty) (n z c m i : ℕ) (end : Option ℕ) (members : Members) → membersFrom f ts c m ≡ some members → c ≤ i → (j : ℕ) → enter j (fieldsOf n z end members) (member i) ≡ refused 11 j
-unfolding membersFrom fieldsOf enter
-past f ts n z zero m i end members are h j = let q : members ≡ no-more = cc in rw q
-past f ts n z (suc c) m zero end members are h j = absurd (omega arith)
-past f ts n z (suc c) m (suc i) end members are h j =
-    let t = andThen-some _ _ (when-some _ _ are .1) in
-    let rest = andThen-some _ _ (t .after) in
-    rw (← Option·some-injective _ _ (rest .after)) (past f ts n z c (suc m) i _ (rest .value) (rest .first) (omega arith) j)
+past : (n z i : ℕ) (end : Option ℕ) (members : Members) → countOf members ≤ i → (j : ℕ) → enter j (fieldsOf n z end members) (member i) ≡ refused 11 j
+unfolding countOf fieldsOf enter
+past n z i end no-more h j = refl
+past n z zero end (types.member t size align members) h j = absurd (omega arith)
+past n z (suc i) end (types.member t size align members) h j = past n z i _ members (omega arith) j
 
 -- ---- none outside a struct
 
@@ -150,71 +129,75 @@ outside n i (struct c members) h j = absurd (h refl)
 
 -- ---- a member step at an entry
 
-module _ {f : List ℕ} {ts : List Ty} {ms rows : List ℕ} {k : ℕ} (site : Site f ts ms rows k) (n : ℕ) {e : ℕ} (low : e < k) where
-  -- A struct's row names its members.
-  struct-found : {t : Ty} → Refers f ts e (typeEntryAt f e) t → getElem? ts e ≡ some t → rowAt rows e .kind ≡ 12 → (i : ℕ) → i < rowAt rows e .count → MemberFound ts ms rows n e (rowAt rows e .reference) 0 i (shapeOf n t)
-  unfolding kindOfType rowOf partCount shapeOf
-  struct-found (to-none s) there is i h = absurd (kind-not s (sym (kind-there site low there) ∙ is))
-  struct-found (to-vector s down below) there is i h = absurd (omega (arith, kind-there site low there))
-  struct-found (to-matrix s down below) there is i h = absurd (omega (arith, kind-there site low there))
-  struct-found (to-array u down below) there is i h = absurd (omega (arith, kind-there site low there))
-  struct-found (to-runtime u none down below) there is i h = absurd (omega (arith, kind-there site low there))
-  struct-found (to-atomic s down below) there is i h = absurd (omega (arith, kind-there site low there))
-  struct-found (to-members members are within) there is i h =
-      let row = row-there site low there in
-      let reference : rowAt rows e .reference ≡ typeEntryAt f e .reference = ap (λ (r : Row). r .reference) row in
-      let count : rowAt rows e .count ≡ typeEntryAt f e .count = ap (λ (r : Row). r .count) row in
-      rw (reference, site .members-are)
-      (found site n low (typeEntryAt f e .count) (typeEntryAt f e .reference) 0 (extentOf n (struct e members)) i members are within
-      (struct-ruled e members (well-there site e there)) (omega arith))
+module _ {f : List ℕ} {ts : List Ty} {ms : List ℕ} {table : List (List ℕ)} (site : Site f ts ms table) (n e : ℕ) where
+  module _ {members : Members} (there : getElem? ts e ≡ some (struct e members)) where
+    layout : layoutAt table e ≡ valueOf (typeEntryAt f e .reference) (struct e members)
+    layout = site-layout site e (struct e members) there
 
-  struct-past : {t : Ty} → Refers f ts e (typeEntryAt f e) t → getElem? ts e ≡ some t → (i : ℕ) → rowAt rows e .count ≤ i → (j : ℕ) → enter j (shapeOf n t) (member i) ≡ refused 11 j
-  unfolding rowOf partCount shapeOf column enter
+    count : layoutAt table e .count ≡ countOf members
+    unfolding valueOf partsOf
+    count = ap (λ (l : Layout). l .count) layout
+
+    reference : layoutAt table e .reference ≡ typeEntryAt f e .reference
+    unfolding valueOf
+    reference = ap (λ (l : Layout). l .reference) layout
+
+    stride : layoutAt table e .stride ≡ 12
+    unfolding valueOf partStride present memberEntryLength
+    stride = ap (λ (l : Layout). l .stride) layout
+
+  -- A struct's layout names its members.
+  struct-found : {t : Ty} → Refers f ts e (typeEntryAt f e) t → getElem? ts e ≡ some t → layoutAt table e .kind ≡ 12 → (i : ℕ) → i < layoutAt table e .count → MemberFound ts ms table n (layoutAt table e .stride) (layoutAt table e .reference * layoutAt table e .stride) 0 i (shapeOf n t)
+  unfolding kindOfType shapeOf
+  struct-found (to-none s) there is i h = absurd (omega (arith, kind-there site e (scalar s) there, kind-bounded s))
+  struct-found (to-vector s down below) there is i h = absurd (omega (arith, kind-there site e (vector _ s) there))
+  struct-found (to-matrix s down below) there is i h = absurd (omega (arith, kind-there site e (matrix _ _ s) there))
+  struct-found (to-array u down below) there is i h = absurd (omega (arith, kind-there site e (array _ u) there))
+  struct-found (to-runtime u none down below) there is i h = absurd (omega (arith, kind-there site e (runtime u) there))
+  struct-found (to-atomic s down below) there is i h = absurd (omega (arith, kind-there site e (atomic s) there))
+  struct-found (to-members members are within) there is i h =
+      let low : i < typeEntryAt f e .count = omega (arith, count there, count-from f (take e ts) (typeEntryAt f e .count) _ members are) in
+      rw (stride there, reference there, site .members-are)
+      (found site n e (typeEntryAt f e .count) (typeEntryAt f e .reference) 0 (extentOf n (struct e members)) i members are within
+      (struct-ruled e members (site-well-formed site e (struct e members) there)) low)
+
+  struct-past : {t : Ty} → Refers f ts e (typeEntryAt f e) t → getElem? ts e ≡ some t → (i : ℕ) → layoutAt table e .count ≤ i → (j : ℕ) → enter j (shapeOf n t) (member i) ≡ refused 11 j
+  unfolding shapeOf column enter
   struct-past (to-none s) there i h j = refl
   struct-past (to-vector s down below) there i h j = refl
   struct-past (to-matrix s down below) there i h j = refl
   struct-past (to-array u down below) there i h j = refl
   struct-past (to-runtime u none down below) there i h j = refl
   struct-past (to-atomic s down below) there i h j = refl
-  struct-past (to-members members are within) there i h j =
-      let count : rowAt rows e .count ≡ typeEntryAt f e .count = ap (λ (r : Row). r .count) (row-there site low there) in
-      past f (take e ts) n _ (typeEntryAt f e .count) (typeEntryAt f e .reference) i (some 0) members are (omega arith) j
+  struct-past (to-members members are within) there i h j = past n _ i (some 0) members (omega (arith, count there)) j
 
-refers-at : {f : List ℕ} {ts : List Ty} {ms rows : List ℕ} {k : ℕ} → Site f ts ms rows k → (e : ℕ) (t : Ty) → getElem? ts e ≡ some t → Refers f ts e (typeEntryAt f e) t
-refers-at site e t there = refers (record { good-file = site .good-file; type-is = there; fields-are = refl })
-
-module _ {f : List ℕ} {ts : List Ty} {ms rows : List ℕ} {k : ℕ} (site : Site f ts ms rows k) where
-  entry-low : {n e : ℕ} {x : Shape} → Stands ts k n (Entry e) x → e < k
-  entry-low (at-entry low there laid) = low
-
+module _ {f : List ℕ} {ts : List Ty} {ms : List ℕ} {table : List (List ℕ)} (site : Site f ts ms table) where
   -- Outside a struct there is no member,
-  pub member-outside : {n e : ℕ} {x : Shape} → Stands ts k n (Entry e) x → (rowAt rows e .kind ≡ 12 → ⊥) → (i j : ℕ) → enter j x (member i) ≡ refused 11 j
-  member-outside {n} (at-entry {e} {t} low there laid) h i j = outside n i t (λ q. h (kind-there site low there ∙ q)) j
+  pub member-outside : {n e : ℕ} {x : Shape} → Stands ts n (Entry e) x → (layoutAt table e .kind ≡ 12 → ⊥) → (i j : ℕ) → enter j x (member i) ≡ refused 11 j
+  member-outside {n} (at-entry {e} {t} there laid) h i j = outside n i t (λ q. h (kind-there site e t there ∙ q)) j
 
   -- nor past the last one;
-  pub member-past : {n e : ℕ} {x : Shape} → Stands ts k n (Entry e) x → (i : ℕ) → rowAt rows e .count ≤ i → (j : ℕ) → enter j x (member i) ≡ refused 11 j
-  member-past {n} (at-entry {e} {t} low there laid) i h j = struct-past site n low (refers-at site e t there) there i h j
+  pub member-past : {n e : ℕ} {x : Shape} → Stands ts n (Entry e) x → (i : ℕ) → layoutAt table e .count ≤ i → (j : ℕ) → enter j x (member i) ≡ refused 11 j
+  member-past {n} (at-entry {e} {t} there laid) i h j = struct-past site n e (site-refers site e t there) there i h j
 
   -- any other is there.
-  pub member-found : {n e : ℕ} {x : Shape} → Stands ts k n (Entry e) x → rowAt rows e .kind ≡ 12 → (i : ℕ) → i < rowAt rows e .count → {m : ℕ} → m ≡ rowAt rows e .reference → MemberFound ts ms rows n e m 0 i x
-  member-found {n} (at-entry {e} {t} low there laid) is i h m = rw m (struct-found site n low (refers-at site e t there) there is i h)
+  pub member-found : {n e : ℕ} {x : Shape} → Stands ts n (Entry e) x → {l : Layout} → l ≡ layoutAt table e → l .kind ≡ 12 → (i : ℕ) → i < l .count → MemberFound ts ms table n (l .stride) (l .reference * l .stride) 0 i x
+  member-found {n} (at-entry {e} {t} there laid) same is i h =
+      rw same (struct-found site n e (site-refers site e t there) there (rw same at is) i (rw same at h))
 
 -- What a walk finds of a member: its entry and the bytes of it, within the limit.
-module _ {f : List ℕ} {ts : List Ty} {ms rows : List ℕ} {k n e : ℕ} {x : Shape} {m i : ℕ} (s : Standing f ts ms rows k n (Entry e) x) (found : MemberFound ts ms rows n e m 0 i x) where
-  found-low : placedIn ms rows m 0 i .ty < k
-  found-low = omega (arith, found .lower, entry-low (s .site) (s .stands))
+module _ {f : List ℕ} {ts : List Ty} {ms : List ℕ} {table : List (List ℕ)} {n e : ℕ} {x : Shape} {long m i : ℕ} (s : Standing f ts ms table n (Entry e) x) (found : MemberFound ts ms table n long m 0 i x) where
+  pub found-inside : placedIn ms table long m 0 i .ty < length table
+  found-inside = site-inside (s .site) _ (found .type) (found .there)
 
-  pub found-inside : 10 * placedIn ms rows m 0 i .ty + 10 ≤ length rows
-  found-inside = row-inside (s .site) found-low
+  found-size : sizeAt table n (placedIn ms table long m 0 i .ty) ≡ spanOf (shapeOf n (found .type))
+  found-size = inner-size (s .site) n _ (found .type) (found .there) (found .laid) (found .sized)
 
-  found-size : sizeAt rows n (placedIn ms rows m 0 i .ty) ≡ spanOf (shapeOf n (found .type))
-  found-size = inner-size (s .site) n found-low (found .there) (found .laid) (found .sized)
-
-  pub found-within : sizeAt rows n (placedIn ms rows m 0 i .ty) ≤ limit
+  pub found-within : sizeAt table n (placedIn ms table long m 0 i .ty) ≤ limit
   found-within =
       let inside = step-inside 0 x (member i) _ (stands-sound (s .site) (s .stands)) (found .enters 0) .1 in
       rw found-size (omega (arith, s .within))
 
-  pub found-enters : Enters ts k n (Into (record { offset = placedIn ms rows m 0 i .start; size = sizeAt rows n (placedIn ms rows m 0 i .ty); place = Entry (placedIn ms rows m 0 i .ty) })) x (member i)
+  pub found-enters : Enters ts n (Into (record { offset = placedIn ms table long m 0 i .start; size = sizeAt table n (placedIn ms table long m 0 i .ty); place = Entry (placedIn ms table long m 0 i .ty) })) x (member i)
   unfolding Enters
-  found-enters = (shapeOf n (found .type), at-entry found-low (found .there) (found .laid), found-size, found .enters)
+  found-enters = (shapeOf n (found .type), at-entry (found .there) (found .laid), found-size, found .enters)

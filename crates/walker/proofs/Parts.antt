@@ -21,59 +21,60 @@ use Rattle.wgsl.proofs.Absent.{both-hold, present-some, present-is}
 use Rattle.wgsl.proofs.Align.{width-power}
 use Rattle.wgsl.proofs.Path.{target}
 use Rattle.wgsl.proofs.Shape.{Divides, Sound}
-use Rattle.rows.specs.declared.Row.{Row}
-use Rattle.rows.specs.Row.{rowAt}
-use Rattle.plan.specs.Plan.{rowOf}
+use Rattle.kinds.specs.declared.value.Layout.{Layout}
+use Rattle.kinds.specs.Value.{valueOf, layoutAt}
+use Rattle.shapes.specs.Site.{Site}
+use Rattle.shapes.proofs.Sites.{site-inside, site-layout}
 use Rattle.walker.specs.declared.enter.Place.{Place}
 use Rattle.walker.specs.declared.enter.Place.the-variants.{Entry, Column}
 use Rattle.walker.specs.declared.enter.Entered.the-variants.{Into}
-use Rattle.walker.specs.Way.{sizeAt, partsAt, Parted, Site, Stands, at-entry, at-column, Standing, Enters}
+use Rattle.walker.specs.Way.{sizeAt, partsAt, Parted, Stands, at-entry, at-column, Standing, Enters}
 use Rattle.walker.specs.Walk.{scalarIn}
-use Rattle.walker.proofs.Sizes.{step-inside, size-within, row-inside, row-there, sound-at}
+use Rattle.walker.proofs.Sizes.{step-inside, size-within, sound-at}
 use Rattle.walker.proofs.Entries.{Part, Found, a-scalar, an-atomic, of-parts, of-members, found}
 
 -- ---- where a walk stands
 
 -- a column of r scalars s over the entry e
-record InColumn (ts : List Ty) (rows : List ℕ) (k n r e : ℕ) (x : Shape) : Type 0 where
+record InColumn (ts : List Ty) (table : List (List ℕ)) (n r e : ℕ) (x : Shape) : Type 0 where
   s : Scalar
   shape-is : x ≡ column r s
-  row : 10 * e + 10 ≤ length rows
-  size-is : rowAt rows e .size ≡ present (widthOf s)
-  below : Stands ts k n (Entry e) (one s)
+  there : e < length table
+  size-is : layoutAt table e .size ≡ present (widthOf s)
+  below : Stands ts n (Entry e) (one s)
 
-module _ {f : List ℕ} {ts : List Ty} {ms rows : List ℕ} {k : ℕ} (site : Site f ts ms rows k) where
-  row-of : {n e : ℕ} {x : Shape} → Stands ts k n (Entry e) x → 10 * e + 10 ≤ length rows
-  row-of (at-entry low there has) = row-inside site low
+module _ {f : List ℕ} {ts : List Ty} {ms : List ℕ} {table : List (List ℕ)} (site : Site f ts ms table) where
+  inside-of : {n e : ℕ} {x : Shape} → Stands ts n (Entry e) x → e < length table
+  inside-of (at-entry {e} {t} there has) = site-inside site e t there
 
-  found-of : {n e : ℕ} {x : Shape} → Stands ts k n (Entry e) x → Found ts rows k n e x
-  found-of (at-entry low there has) = found site _ _ low there has
+  found-of : {n e : ℕ} {x : Shape} → Stands ts n (Entry e) x → Found ts table n e x
+  found-of (at-entry there has) = found site _ _ there has
 
-  in-column : {n r e : ℕ} {x : Shape} → Stands ts k n (Column r e) x → InColumn ts rows k n r e x
-  unfolding rowOf sizeOf shapeOf
-  in-column (at-column {s = s} low there has) =
+  in-column : {n r e : ℕ} {x : Shape} → Stands ts n (Column r e) x → InColumn ts table n r e x
+  unfolding valueOf sizeOf shapeOf
+  in-column (at-column {e = e} {s} there has) =
       record {
         s = s;
         shape-is = refl;
-        row = row-inside site low;
-        size-is = ap (λ (r : Row). r .size) (row-there site low there);
-        below = at-entry low there has;
+        there = site-inside site e _ there;
+        size-is = ap (λ (l : Layout). l .size) (site-layout site e _ there);
+        below = at-entry there has;
       }
 
   -- What a walk stands at is laid out soundly.
-  pub stands-sound : {n : ℕ} {p : Place} {x : Shape} → Stands ts k n p x → Sound x
+  pub stands-sound : {n : ℕ} {p : Place} {x : Shape} → Stands ts n p x → Sound x
   unfolding hasLayout alignOf column Sound spanOf Divides
-  stands-sound (at-entry low there has) = sound-at site _ _ there has .0
-  stands-sound (at-column {s = s} low there has) =
+  stands-sound (at-entry there has) = sound-at site _ _ there has .0
+  stands-sound (at-column {s = s} there has) =
       let w = present-some (widthOf s) (both-hold (isPresent (widthOf s)) _ has .0) in
       let wide : present (widthOf s) ≡ w .0 = ap present (w .1) ∙ present-is (w .0) in
       (omega (arith, width-power s (w .0) (w .1) .low), omega arith, mod-self (present (widthOf s)))
 
-module _ {f : List ℕ} {ts : List Ty} {ms rows : List ℕ} {k n e : ℕ} {x : Shape} (at : Standing f ts ms rows k n (Entry e) x) where
-  pub entry-row : 10 * e + 10 ≤ length rows
-  entry-row = row-of (at .site) (at .stands)
+module _ {f : List ℕ} {ts : List Ty} {ms : List ℕ} {table : List (List ℕ)} {n e : ℕ} {x : Shape} (at : Standing f ts ms table n (Entry e) x) where
+  pub entry-inside : e < length table
+  entry-inside = inside-of (at .site) (at .stands)
 
-  pub entry-found : Found ts rows k n e x
+  pub entry-found : Found ts table n e x
   entry-found = found-of (at .site) (at .stands)
 
 -- ---- an entry without parts
@@ -84,7 +85,7 @@ members-no-index n z end no-more i j = refl
 members-no-index n z end (types.member t size align ms) i j = refl
 
 -- "index step on a struct, scalar or atomic"
-pub no-index : {ts : List Ty} {rows : List ℕ} {k n e : ℕ} {x : Shape} → Found ts rows k n e x → (7 ≤ rowAt rows e .kind → rowAt rows e .kind ≤ 10 → ⊥) → (i j : ℕ) → enter j x (index i) ≡ refused 13 j
+pub no-index : {ts : List Ty} {table : List (List ℕ)} {n e : ℕ} {x : Shape} → Found ts table n e x → (7 ≤ layoutAt table e .kind → layoutAt table e .kind ≤ 10 → ⊥) → (i j : ℕ) → enter j x (index i) ≡ refused 13 j
 unfolding enter
 no-index (a-scalar s is low) none i j = refl
 no-index (an-atomic s is lower below) none i j = refl
@@ -94,7 +95,7 @@ no-index (of-members z end ms is) none i j = members-no-index _ z end ms i j
 -- ---- the part of an entry
 
 -- "index not below the count"
-pub past-end : {ts : List Ty} {rows : List ℕ} {k n e : ℕ} {x : Shape} → Found ts rows k n e x → 7 ≤ rowAt rows e .kind → rowAt rows e .kind ≤ 10 → (i : ℕ) → partsAt rows n e ≤ i → (j : ℕ) → enter j x (index i) ≡ refused 12 j
+pub past-end : {ts : List Ty} {table : List (List ℕ)} {n e : ℕ} {x : Shape} → Found ts table n e x → 7 ≤ layoutAt table e .kind → layoutAt table e .kind ≤ 10 → (i : ℕ) → partsAt table n e ≤ i → (j : ℕ) → enter j x (index i) ≡ refused 12 j
 unfolding enter
 past-end (a-scalar s is under) low high i h j = absurd (omega arith)
 past-end (an-atomic s is lower below) low high i h j = absurd (omega arith)
@@ -102,12 +103,12 @@ past-end (of-parts {count = c} under over count stride part) low high i h j = rw
 past-end (of-members z end ms is) low high i h j = absurd (omega arith)
 
 -- part i of entry e, of the shape x
-record Indexed (ts : List Ty) (rows : List ℕ) (k n e i : ℕ) (x : Shape) : Type 0 where
+record Indexed (ts : List Ty) (table : List (List ℕ)) (n e i : ℕ) (x : Shape) : Type 0 where
   y : Shape
-  part : Part ts rows k n (rowAt rows e) y
-  enters : (j : ℕ) → enter j x (index i) ≡ good (record { offset = i * rowAt rows e .stride; shape = y })
+  part : Part ts table n (layoutAt table e) y
+  enters : (j : ℕ) → enter j x (index i) ≡ good (record { offset = i * layoutAt table e .stride; shape = y })
 
-indexed : {ts : List Ty} {rows : List ℕ} {k n e i : ℕ} {x : Shape} → Found ts rows k n e x → Parted rows n e i → Indexed ts rows k n e i x
+indexed : {ts : List Ty} {table : List (List ℕ)} {n e i : ℕ} {x : Shape} → Found ts table n e x → Parted table n e i → Indexed ts table n e i x
 unfolding enter
 indexed (a-scalar s is under) has = absurd (omega (arith, has .low))
 indexed (an-atomic s is lower below) has = absurd (omega (arith, has .high))
@@ -116,36 +117,36 @@ indexed {i = i} (of-parts {count = c} {y = y} low high count stride part) has =
     record { y = y; part = part; enters = λ j. rw (lt-ltb i c h, stride) }
 indexed (of-members z end ms is) has = absurd (omega (arith, has .high))
 
-module _ {f : List ℕ} {ts : List Ty} {ms rows : List ℕ} {k n e i : ℕ} {x : Shape} (at : Standing f ts ms rows k n (Entry e) x) (has : Parted rows n e i) where
-  here : Indexed ts rows k n e i x
+module _ {f : List ℕ} {ts : List Ty} {ms : List ℕ} {table : List (List ℕ)} {n e i : ℕ} {x : Shape} (at : Standing f ts ms table n (Entry e) x) (has : Parted table n e i) where
+  here : Indexed ts table n e i x
   here = indexed (entry-found at) has
 
   -- it lies within the limit
-  inside : i * rowAt rows e .stride + spanOf (here .y) ≤ limit
+  inside : i * layoutAt table e .stride + spanOf (here .y) ≤ limit
   inside =
       let sound = stands-sound (at .site) (at .stands) in
-      omega (arith, step-inside 0 x (index i) (target (i * rowAt rows e .stride) (here .y)) sound (here .enters 0) .1, at .within)
+      omega (arith, step-inside 0 x (index i) (target (i * layoutAt table e .stride) (here .y)) sound (here .enters 0) .1, at .within)
 
-  -- So the row below is there, and the numbers that are worked out are within the limit.
-  pub part-row : 10 * rowAt rows e .reference + 10 ≤ length rows
-  part-row = row-inside (at .site) (here .part .lower)
+  -- So the layout below is there, and the numbers that are worked out are within the limit.
+  pub part-inside : layoutAt table e .reference < length table
+  part-inside = here .part .inside
 
-  pub part-offset : i * rowAt rows e .stride ≤ limit
+  pub part-offset : i * layoutAt table e .stride ≤ limit
   part-offset = omega (arith, inside)
 
-  pub column-size : rowAt rows e .kind ≡ 8 → rowAt rows e .unit * rowAt rows (rowAt rows e .reference) .size ≤ limit
+  pub column-size : layoutAt table e .kind ≡ 8 → layoutAt table e .unit * layoutAt table (layoutAt table e .reference) .size ≤ limit
   column-size is = omega (arith, inside, here .part .as-column is .1)
 
-  pub part-size : (rowAt rows e .kind ≡ 8 → ⊥) → rowAt rows (rowAt rows e .reference) .kind ≡ 10 → n * rowAt rows (rowAt rows e .reference) .stride ≤ limit
-  part-size other = size-within rows n (rowAt rows e .reference) (omega (arith, inside, here .part .as-entry other .1))
+  pub part-size : (layoutAt table e .kind ≡ 8 → ⊥) → layoutAt table (layoutAt table e .reference) .kind ≡ 10 → n * layoutAt table (layoutAt table e .reference) .stride ≤ limit
+  part-size other = size-within table n (layoutAt table e .reference) (omega (arith, inside, here .part .as-entry other .1))
 
   -- The step leads to a matrix's column,
-  pub column-enters : rowAt rows e .kind ≡ 8 → Enters ts k n (Into (record { offset = i * rowAt rows e .stride; size = rowAt rows e .unit * rowAt rows (rowAt rows e .reference) .size; place = Column (rowAt rows e .unit) (rowAt rows e .reference) })) x (index i)
+  pub column-enters : layoutAt table e .kind ≡ 8 → Enters ts n (Into (record { offset = i * layoutAt table e .stride; size = layoutAt table e .unit * layoutAt table (layoutAt table e .reference) .size; place = Column (layoutAt table e .unit) (layoutAt table e .reference) })) x (index i)
   unfolding Enters
   column-enters is = (here .y, here .part .as-column is .0, here .part .as-column is .1, here .enters)
 
   -- and else to the entry below.
-  pub part-enters : (rowAt rows e .kind ≡ 8 → ⊥) → Enters ts k n (Into (record { offset = i * rowAt rows e .stride; size = sizeAt rows n (rowAt rows e .reference); place = Entry (rowAt rows e .reference) })) x (index i)
+  pub part-enters : (layoutAt table e .kind ≡ 8 → ⊥) → Enters ts n (Into (record { offset = i * layoutAt table e .stride; size = sizeAt table n (layoutAt table e .reference); place = Entry (layoutAt table e .reference) })) x (index i)
   unfolding Enters
   part-enters other = (here .y, here .part .as-entry other .0, here .part .as-entry other .1, here .enters)
 
@@ -155,12 +156,12 @@ column-indexed : (r : ℕ) (s : Scalar) (i j : ℕ) → i < r → enter j (colum
 unfolding enter column
 column-indexed r s i j h = rw (lt-ltb i r h)
 
-module _ {f : List ℕ} {ts : List Ty} {ms rows : List ℕ} {k n r e : ℕ} {x : Shape} (at : Standing f ts ms rows k n (Column r e) x) where
-  own : InColumn ts rows k n r e x
+module _ {f : List ℕ} {ts : List Ty} {ms : List ℕ} {table : List (List ℕ)} {n r e : ℕ} {x : Shape} (at : Standing f ts ms table n (Column r e) x) where
+  own : InColumn ts table n r e x
   own = in-column (at .site) (at .stands)
 
-  pub column-row : 10 * e + 10 ≤ length rows
-  column-row = own .row
+  pub column-inside : e < length table
+  column-inside = own .there
 
   pub column-past : (i : ℕ) → r ≤ i → (j : ℕ) → enter j x (index i) ≡ refused 12 j
   unfolding enter column
@@ -170,14 +171,14 @@ module _ {f : List ℕ} {ts : List Ty} {ms rows : List ℕ} {k n r e : ℕ} {x :
   unfolding enter column
   column-no-member i j = rw (own .shape-is)
 
-  pub scalar-offset : (i : ℕ) → i < r → i * rowAt rows e .size ≤ limit
+  pub scalar-offset : (i : ℕ) → i < r → i * layoutAt table e .size ≤ limit
   unfolding column spanOf
   scalar-offset i h =
       let w : ℕ = present (widthOf (own .s)) in
       let span : r * w ≤ limit = rw (own .shape-is) at (at .within) in
       rw (own .size-is) (omega (arith, mul-le-mul-right w h, suc-mul i w))
 
-  pub scalar-enters : (i : ℕ) → i < r → Enters ts k n (Into (record { offset = i * rowAt rows e .size; size = rowAt rows e .size; place = Entry e })) x (index i)
+  pub scalar-enters : (i : ℕ) → i < r → Enters ts n (Into (record { offset = i * layoutAt table e .size; size = layoutAt table e .size; place = Entry e })) x (index i)
   unfolding Enters spanOf
   scalar-enters i h =
       let s : Scalar = own .s in (
@@ -199,27 +200,24 @@ unfolding scalarIn fieldsOf
 members-no-scalar n z end no-more = refl
 members-no-scalar n z end (types.member t size align ms) = refl
 
--- A scalar's row says its kind.
-pub its-scalar : {ts : List Ty} {rows : List ℕ} {k n e : ℕ} {x : Shape} → Found ts rows k n e x → rowAt rows e .kind ≤ 6 → rowAt rows e .kind ≡ scalarIn x
+-- A scalar's layout says its kind.
+pub its-scalar : {ts : List Ty} {table : List (List ℕ)} {n e : ℕ} {x : Shape} → Found ts table n e x → layoutAt table e .kind ≤ 6 → layoutAt table e .kind ≡ scalarIn x
 unfolding scalarIn
 its-scalar (a-scalar s is under) low = is
 its-scalar (an-atomic s is lower below) low = absurd (omega arith)
 its-scalar (of-parts under over count stride part) low = absurd (omega arith)
 its-scalar (of-members z end ms is) low = absurd (omega arith)
 
--- An atomic's row refers to its scalar's.
-pub atomic-scalar : {ts : List Ty} {rows : List ℕ} {k n e : ℕ} {x : Shape} → Found ts rows k n e x → rowAt rows e .kind ≡ 11 → (rowAt rows e .reference < k) × (rowAt rows (rowAt rows e .reference) .kind ≡ scalarIn x)
+-- An atomic's layout refers to its scalar's.
+pub atomic-scalar : {ts : List Ty} {table : List (List ℕ)} {n e : ℕ} {x : Shape} → Found ts table n e x → layoutAt table e .kind ≡ 11 → (layoutAt table e .reference < length table) × (layoutAt table (layoutAt table e .reference) .kind ≡ scalarIn x)
 unfolding scalarIn
 atomic-scalar (a-scalar s is under) eleven = absurd (omega arith)
 atomic-scalar (an-atomic s is lower below) eleven = (lower, below)
 atomic-scalar (of-parts under over count stride part) eleven = absurd (omega arith)
 atomic-scalar (of-members z end ms is) eleven = absurd (omega arith)
 
-pub atomic-row : {f : List ℕ} {ts : List Ty} {ms rows : List ℕ} {k n e : ℕ} {x : Shape} → Standing f ts ms rows k n (Entry e) x → rowAt rows e .kind ≡ 11 → 10 * rowAt rows e .reference + 10 ≤ length rows
-atomic-row at eleven = row-inside (at .site) (atomic-scalar (entry-found at) eleven .0)
-
 -- Parts and structs are no one scalar.
-pub no-scalar : {ts : List Ty} {rows : List ℕ} {k n e : ℕ} {x : Shape} → Found ts rows k n e x → 6 < rowAt rows e .kind → (rowAt rows e .kind ≡ 11 → ⊥) → scalarIn x ≡ 7
+pub no-scalar : {ts : List Ty} {table : List (List ℕ)} {n e : ℕ} {x : Shape} → Found ts table n e x → 6 < layoutAt table e .kind → (layoutAt table e .kind ≡ 11 → ⊥) → scalarIn x ≡ 7
 unfolding scalarIn
 no-scalar (a-scalar s is under) high other = absurd (omega arith)
 no-scalar (an-atomic s is lower below) high other = absurd (other is)

@@ -24,14 +24,14 @@ use Rattle.walker.proofs.Parts.{stands-sound}
 -- ---- the next place
 
 -- what a step into i leads to from the shape x
-pub record Next (f : List ℕ) (ts : List Ty) (ms rows : List ℕ) (k n : ℕ) (i : Inner) (x : Shape) (s : Step) : Type 0 where
+pub record Next (f : List ℕ) (ts : List Ty) (ms : List ℕ) (table : List (List ℕ)) (n : ℕ) (i : Inner) (x : Shape) (s : Step) : Type 0 where
   pub y : Shape
-  pub at : Standing f ts ms rows k n (i .place) y
+  pub at : Standing f ts ms table n (i .place) y
   pub size-is : i .size ≡ spanOf y
   pub inside : i .offset + spanOf y ≤ spanOf x
   pub enters : (j : ℕ) → enter j x s ≡ good (target (i .offset) y)
 
-pub next : {f : List ℕ} {ts : List Ty} {ms rows : List ℕ} {k n : ℕ} {p : Place} {x : Shape} {i : Inner} {s : Step} → Standing f ts ms rows k n p x → Enters ts k n (Into i) x s → Next f ts ms rows k n i x s
+pub next : {f : List ℕ} {ts : List Ty} {ms : List ℕ} {table : List (List ℕ)} {n : ℕ} {p : Place} {x : Shape} {i : Inner} {s : Step} → Standing f ts ms table n p x → Enters ts n (Into i) x s → Next f ts ms table n i x s
 unfolding Enters
 next {x = x} {i = i} {s = s} at (y, stands, size, enters) =
     let inside = step-inside 0 x s (target (i .offset) y) (stands-sound (at .site) (at .stands)) (enters 0) .1 in

@@ -1,4 +1,3 @@
 pub mod Step
-pub mod Member
 pub mod Way
 pub mod Walk

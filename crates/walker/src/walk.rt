@@ -5,6 +5,7 @@ use crate::enter::enter;
 use crate::enter::scalar_in;
 use crate::step::step_of;
 use file::refusal::Refusal;
+use kinds::value::Value;
 ghost use mathlib.Core.Path.{_≡_};
 ghost use mathlib.Core.List.{List, map};
 ghost use Prim.Native.Nat.{ℕ, _+_, _≤_};
@@ -32,7 +33,7 @@ pub enum Walked {
 // The steps from number `k` on, from a place that lies at `offset` and has `size` bytes. An open type has `n` elements.
 pub fn walk(
     members: &[u8],
-    rows: &[u32],
+    table: &[Value],
     n: usize,
     p: Place,
     size: usize,
@@ -40,22 +41,22 @@ pub fn walk(
     k: usize,
     offset: usize,
 ) -> Walked
-    requires { ⌜ ((f : List ℕ) × (ts : List Ty) × (j : ℕ) × (x : Shape) × Standing f ts (now members) (now rows) j n p x × (size ≡ spanOf x) × (offset + spanOf x ≤ limit) × (k ≤ length (now path))) ⌝ }
-    ensures { λ r. ⌜ ((f : List ℕ) (ts : List Ty) (j : ℕ) (x : Shape) → Standing f ts (now (members .entry)) (now (rows .entry)) j n p x → size ≡ spanOf x → saidWalked r ≡ reached (steps.walk k offset x (map stepOf (drop k (now (path .entry)))))) ⌝ }
+    requires { ⌜ ((f : List ℕ) × (ts : List Ty) × (x : Shape) × Standing f ts (now members) (now table) n p x × (size ≡ spanOf x) × (offset + spanOf x ≤ limit) × (k ≤ length (now path))) ⌝ }
+    ensures { λ r. ⌜ ((f : List ℕ) (ts : List Ty) (x : Shape) → Standing f ts (now (members .entry)) (now (table .entry)) n p x → size ≡ spanOf x → saidWalked r ≡ reached (steps.walk k offset x (map stepOf (drop k (now (path .entry)))))) ⌝ }
 {
     if k == path.len() {
         return Walked::To(Target {
             offset,
             size,
-            scalar: scalar_in(rows, p),
+            scalar: scalar_in(table, p),
         });
     }
-    match enter(members, rows, n, p, step_of(path[k])) {
+    match enter(members, table, n, p, step_of(path[k])) {
         Entered::Into(i) => {
             let next = i.place;
             walk(
                 members,
-                rows,
+                table,
                 n,
                 next,
                 i.size,

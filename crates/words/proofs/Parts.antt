@@ -1,44 +1,27 @@
--- What the code takes from the entry that a call speaks of (specs/Entry): its layout, what reading and writing ask of it, its refusals.
---
--- In order: its layout; what reading and writing ask; an entry that is not there.
+-- What reading and writing ask of the entry that a call speaks of (crates/decide, specs/Entry), and the refusal of one that is not there.
 -- Assumes nothing.
 use Prim.Native.Nat.{ℕ}
-use mathlib.Core.Bool.{Bool, true}
+use mathlib.Core.Bool.{true}
 use mathlib.Core.List.{List}
-use mathlib.Core.Path.{_≡_, ap, sym, _∙_}
+use mathlib.Core.Path.{_≡_}
 use Rattle.wgsl.specs.Types.{Ty, isOpen}
 use Rattle.wgsl.specs.Size.{isStorable}
 use Rattle.wgsl.specs.Said.{refused}
-use Rattle.wgsl.specs.Call.{laidEntry, storedEntry}
+use Rattle.wgsl.specs.Call.{entryOf, laidEntry, storedEntry}
 use Rattle.wgsl.proofs.Said.{then-refused}
-use Rattle.kinds.specs.Value.{valueOf}
-use Rattle.plan.specs.declared.Ground.{Ground}
-use Rattle.plan.specs.Plan.{groundOf, plannedOf}
-use Rattle.plan.proofs.Grounds.{membersPart, members-part, entry-missing}
+use Rattle.table.specs.declared.Ground.{Ground}
 use Rattle.decide.specs.Whole.{Ready, Tailed}
-use Rattle.words.specs.Entry.{Entry}
+use Rattle.decide.specs.Entry.{membersPart, Entry}
+use Rattle.decide.proofs.Tails.{ready-at, tailed-at}
+use Rattle.decide.proofs.Entries.{entry-site, entry-layout}
 
-module _ {f : List ℕ} {e : ℕ} {g : Ground} {rows : List ℕ} {t : Ty} (x : Entry f e g rows t) where
-  -- ---- its layout
+module _ {f : List ℕ} {e : ℕ} {g : Ground} {table : List (List ℕ)} {t : Ty} (x : Entry f e g table t) where
+  pub entry-ready : isStorable t ≡ true → Ready (membersPart f g) table e (g .layout) t
+  entry-ready s = rw (entry-layout x) (ready-at (entry-site x) e t (x .there) s)
 
-  pub entry-layout : g .layout ≡ valueOf t
-  unfolding groundOf
-  entry-layout = ap (λ (y : Ground). y .layout) (x .ground-is)
+  pub entry-tailed : isStorable t ≡ true → isOpen t ≡ true → Tailed (membersPart f g) table e (g .layout) t
+  entry-tailed s o = rw (entry-layout x) (tailed-at (entry-site x) e t (x .there) s o)
 
-  pub entry-open : {b : Bool} → g .layout .opens ≡ b → isOpen t ≡ b
-  unfolding valueOf
-  entry-open h = sym (ap (λ l. l .opens) entry-layout) ∙ h
-
-  -- ---- what reading and writing ask
-
-  pub entry-ready : isStorable t ≡ true → Ready (membersPart f g) rows e (g .layout) t
-  entry-ready s = rw (members-part f t (x .ground-is), entry-layout) (x .ready s)
-
-  pub entry-tailed : isStorable t ≡ true → isOpen t ≡ true → Tailed (membersPart f g) rows e (g .layout) t
-  entry-tailed s o = rw (members-part f t (x .ground-is), entry-layout) (x .tailed s o)
-
--- ---- an entry that is not there
-
-pub stored-missing : (f : List ℕ) (e : ℕ) (b : List ℕ) {number place : ℕ} → refused number place ≡ plannedOf f e → storedEntry f e b ≡ refused number place
+pub stored-missing : (f : List ℕ) (e : ℕ) (b : List ℕ) {number place : ℕ} → entryOf f e ≡ refused number place → storedEntry f e b ≡ refused number place
 unfolding storedEntry laidEntry
-stored-missing f e b h = then-refused _ (then-refused _ (entry-missing f e h))
+stored-missing f e b h = then-refused _ (then-refused _ h)

@@ -15,9 +15,11 @@ use Rattle.wgsl.specs.Call.{storedEntry, readCall}
 use Rattle.wgsl.proofs.Said.{then-is, then-refused}
 use Rattle.wgsl.proofs.Opened.{opened-extent}
 use Rattle.kinds.specs.declared.value.Layout.{Layout}
+use Rattle.kinds.specs.Value.{wordsIn}
+use Rattle.decide.specs.declared.Tail.{Tail}
 use Rattle.decide.specs.declared.Found.the-variants.{Is, No}
 use Rattle.decide.specs.Decide.{elementsFound}
-use Rattle.decide.specs.Whole.{readAs, Ready, Tailed, loadedAs}
+use Rattle.decide.specs.Whole.{readAs, Ready, TailedBy, loadedAs}
 use Rattle.decide.proofs.Wholes.{ready-words}
 use Rattle.decide.proofs.Bounds.{size-is, tailed-open}
 use Rattle.decide.proofs.Calls.{closed-short, closed-there, elements-short, elements-there, loaded-few, loaded-done}
@@ -35,26 +37,29 @@ module _ (f : List ℕ) (e : ℕ) (b ws : List ℕ) where
 
 -- ---- a type of fixed size
 
-module _ {ms rows : List ℕ} {e : ℕ} {l : Layout} {t : Ty} (r : Ready ms rows e l t) (o : isOpen t ≡ false) (b ws : List ℕ) where
+module _ {ms : List ℕ} {table : List (List ℕ)} {e : ℕ} {l : Layout} {t : Ty} (r : Ready ms table e l t) (o : isOpen t ≡ false) (b ws : List ℕ) where
   pub few-bytes : length b < l .size → readAs t b ws ≡ refused 15 0
   few-bytes h = closed-short t (r .well-formed) o ws b (rw (size-is r) at h)
 
   enough : l .size ≤ length b → readAs t b ws ≡ loadedAs 0 t b ws
   enough h = closed-there t (r .well-formed) o ws b (rw (size-is r) at h)
 
-  pub few-words : l .size ≤ length b → length ws < l .words → readAs t b ws ≡ refused 14 0
+  pub few-words : l .size ≤ length b → length ws < wordsIn l → readAs t b ws ≡ refused 14 0
   few-words h k = enough h ∙ loaded-few 0 t ws b (omega (arith, ready-words r))
 
-  pub all-read : l .size ≤ length b → l .words ≤ length ws → readAs t b ws ≡ good (record { value = wordCount 0 t; contents = wordsRead (places 0 t) b ++ drop (wordCount 0 t) ws })
+  pub all-read : l .size ≤ length b → wordsIn l ≤ length ws → readAs t b ws ≡ good (record { value = wordCount 0 t; contents = wordsRead (places 0 t) b ++ drop (wordCount 0 t) ws })
   all-read h k = enough h ∙ loaded-done 0 t ws b (omega (arith, ready-words r))
 
 -- ---- an open type
 
-module _ {ms rows : List ℕ} {e : ℕ} {l : Layout} {t : Ty} (x : Tailed ms rows e l t) (b ws : List ℕ) where
-  pub no-elements : elementsFound (length b) (l .offset) (l .stride) ≡ No → readAs t b ws ≡ refused 15 0
-  no-elements h = elements-short t (tailed-open x) (l .offset) (l .stride) (x .opened .tail-is) ws b h
+module _ {ms : List ℕ} {table : List (List ℕ)} {e : ℕ} {x : Tail} {t : Ty} (y : TailedBy ms table e x t) (b ws : List ℕ) where
+  pub no-elements : elementsFound (length b) (x .offset) (x .layout .stride) ≡ No → readAs t b ws ≡ refused 15 0
+  no-elements h =
+      let z = y .tailed in
+      elements-short t (tailed-open z) (x .offset) (x .layout .stride) (rw (y .tail-is) (z .opened .tail-is)) ws b h
 
-  pub some-elements : {n : ℕ} → elementsFound (length b) (l .offset) (l .stride) ≡ Is n → (extentOf n t ≤ length b) × (readAs t b ws ≡ loadedAs n t b ws)
+  pub some-elements : {n : ℕ} → elementsFound (length b) (x .offset) (x .layout .stride) ≡ Is n → (extentOf n t ≤ length b) × (readAs t b ws ≡ loadedAs n t b ws)
   some-elements {n} h =
-      let there = elements-there t (tailed-open x) (l .offset) (l .stride) (x .opened .tail-is) ws b h in
-      (omega (arith, opened-extent (x .opened) n, there .0), there .1)
+      let z = y .tailed in
+      let there = elements-there t (tailed-open z) (x .offset) (x .layout .stride) (rw (y .tail-is) (z .opened .tail-is)) ws b h in
+      (rw (opened-extent (z .opened) n, ← y .tail-is) (there .0), there .1)

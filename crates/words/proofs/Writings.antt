@@ -1,14 +1,12 @@
 -- Writing (crates/wgsl, specs/Call) by what the code finds: the laws of crates/decide (proofs/Calls), over the numbers of a layout.
 --
--- In order: once the entry is decided; a scan's answer; both parts stored; a type of fixed size; an open type.
+-- In order: once the entry is decided; both parts stored; a type of fixed size; an open type.
 -- Assumes nothing.
-use Prim.Native.Nat.{ℕ, _<_, _≤_}
+use Prim.Native.Nat.{ℕ, _+_, _*_, _<_, _≤_}
 use mathlib.Core.Bool.{Bool, true, false}
-use mathlib.Core.List.{List, [], _∷_, _++_}
+use mathlib.Core.List.{List, _++_}
 use mathlib.Core.Path.{_≡_, refl, sym, _∙_}
 use borrow.Author.Tests.{eqb-true, eqb-false}
-use types.Run.{OneOf, miss}
-use denote.Enum.Declared.{tagOf}
 use lib.Dec.{eqb}
 use lib.ListN.{length, drop, replicate}
 use Rattle.wgsl.specs.Types.{Ty, isOpen}
@@ -19,16 +17,13 @@ use Rattle.wgsl.proofs.Said.{then-is, then-refused}
 use Rattle.wgsl.proofs.Opened.{opened-extent}
 use Rattle.wgsl.proofs.Tail.{closed-extent}
 use Rattle.kinds.specs.declared.value.Layout.{Layout}
-use Rattle.runs.specs.declared.Scan.{Scan}
-use Rattle.runs.specs.declared.Scan.the-variants.{Any, Fine, Bad}
-use Rattle.runs.proofs.Scan as scan
-use Rattle.runs.specs.Run.{saidScan}
+use Rattle.kinds.specs.Value.{wordsIn}
 use Rattle.folds.specs.Fold.{overPlaces, storing}
-use Rattle.rows.specs.Row.{rowAt}
+use Rattle.trees.specs.Placed.{runAt}
 use Rattle.decide.specs.declared.Tail.{Tail}
 use Rattle.decide.specs.declared.Found.the-variants.{Is, No}
-use Rattle.decide.specs.Decide.{runtimeRow, elementsOf, extentFor}
-use Rattle.decide.specs.Whole.{writtenAs, Ready, Tailed, Whole, heldAs, storedAs}
+use Rattle.decide.specs.Decide.{elementsOf, extentFor}
+use Rattle.decide.specs.Whole.{writtenAs, Ready, TailedBy, Whole, heldAs, storedAs}
 use Rattle.decide.proofs.Wholes.{ready-words, stored-cleared, stored-covered}
 use Rattle.decide.proofs.Bounds.{size-is, tailed-open, tailed-words}
 use Rattle.decide.proofs.Calls.{closed-wrong, closed-right, open-wrong, open-right, extent-short, extent-there, held-short, held-there}
@@ -44,55 +39,50 @@ module _ (f : List ℕ) (e : ℕ) (ws b : List ℕ) where
   unfolding writeCall writtenAs
   write-allowed h = then-is _ h
 
--- ---- a scan's answer
-
--- the numbers of the answers that refuse nothing
-abbrev fits : List ℕ
-fits = 0 ∷ 1 ∷ []
-
-pub nothing-bad : (r : Scan) → OneOf fits (tagOf scan.the-type r) → good tt ≡ saidScan r
-nothing-bad Any h = refl
-nothing-bad Fine h = refl
-nothing-bad (Bad k) h = absurd (miss fits 2 tt h)
-
 -- ---- both parts, stored over zeros or over what they cover
 
-pub stored-either : {ms rows : List ℕ} {e : ℕ} {x : Tail} {t : Ty} {n : ℕ} (w : Whole ms rows e x t n) (ws b c : List ℕ) (z : ℕ) → length ws ≡ wordCount n t → z ≡ extentOf n t → z ≤ length b → ((rowAt rows e .run ≡ 0 → ⊥) → c ≡ b) → (rowAt rows e .run ≡ 0 → c ≡ replicate z 0 ++ drop z b) → overPlaces (storing ws) (placesOf (w .rest) (x .offset)) (x .fixed) (overPlaces (storing ws) (placesOf (shapeOf 0 t) 0) 0 c) ≡ written n t ws b
-stored-either {rows = rows} {e = e} {x = x} {t = t} {n = n} w ws b c z l is room kept cleared = go (eqb (rowAt rows e .run) 0) refl
+pub stored-either : {ms : List ℕ} {table : List (List ℕ)} {e : ℕ} {x : Tail} {t : Ty} {n : ℕ} (w : Whole ms table e x t n) (ws b c : List ℕ) (z : ℕ) → length ws ≡ wordCount n t → z ≡ extentOf n t → z ≤ length b → ((runAt table e ≡ 0 → ⊥) → c ≡ b) → (runAt table e ≡ 0 → c ≡ replicate z 0 ++ drop z b) → overPlaces (storing ws) (placesOf (w .rest) (x .offset)) (x .fixed) (overPlaces (storing ws) (placesOf (shapeOf 0 t) 0) 0 c) ≡ written n t ws b
+stored-either {table = table} {e = e} {x = x} {t = t} {n = n} w ws b c z l is room kept cleared = go (eqb (runAt table e) 0) refl
   where
-    go : (p : Bool) → eqb (rowAt rows e .run) 0 ≡ p → overPlaces (storing ws) (placesOf (w .rest) (x .offset)) (x .fixed) (overPlaces (storing ws) (placesOf (shapeOf 0 t) 0) 0 c) ≡ written n t ws b
+    go : (p : Bool) → eqb (runAt table e) 0 ≡ p → overPlaces (storing ws) (placesOf (w .rest) (x .offset)) (x .fixed) (overPlaces (storing ws) (placesOf (shapeOf 0 t) 0) 0 c) ≡ written n t ws b
     go true q = stored-cleared w ws b c l (rw (← is) (cleared (eqb-true _ _ q)))
     go false q = stored-covered w ws b c l (rw (← is) room) (eqb-false _ _ q) (kept (eqb-false _ _ q))
 
 -- ---- a type of fixed size
 
-pub fixed-extent : {ms rows : List ℕ} {e : ℕ} {l : Layout} {t : Ty} → Ready ms rows e l t → isOpen t ≡ false → l .size ≡ extentOf 0 t
+pub fixed-extent : {ms : List ℕ} {table : List (List ℕ)} {e : ℕ} {l : Layout} {t : Ty} → Ready ms table e l t → isOpen t ≡ false → l .size ≡ extentOf 0 t
 fixed-extent {t = t} r o = size-is r ∙ sym (closed-extent 0 t o)
 
-module _ {ms rows : List ℕ} {e : ℕ} {l : Layout} {t : Ty} (r : Ready ms rows e l t) (o : isOpen t ≡ false) (ws b : List ℕ) where
-  pub wrong-words : (length ws ≡ l .words → ⊥) → writtenAs t ws b ≡ refused 14 0
+module _ {ms : List ℕ} {table : List (List ℕ)} {e : ℕ} {l : Layout} {t : Ty} (r : Ready ms table e l t) (o : isOpen t ≡ false) (ws b : List ℕ) where
+  pub wrong-words : (length ws ≡ wordsIn l → ⊥) → writtenAs t ws b ≡ refused 14 0
   wrong-words h = closed-wrong t (r .well-formed) o ws b (λ q. h (q ∙ ready-words r))
 
-  right : length ws ≡ l .words → writtenAs t ws b ≡ heldAs 0 t ws b
+  right : length ws ≡ wordsIn l → writtenAs t ws b ≡ heldAs 0 t ws b
   right h = closed-right t (r .well-formed) o ws b (h ∙ sym (ready-words r))
 
-  pub few-bytes : length ws ≡ l .words → length b < l .size → writtenAs t ws b ≡ refused 15 0
+  pub few-bytes : length ws ≡ wordsIn l → length b < l .size → writtenAs t ws b ≡ refused 15 0
   few-bytes h k = right h ∙ held-short 0 t ws b (rw (fixed-extent r o) at k)
 
-  pub all-there : length ws ≡ l .words → l .size ≤ length b → writtenAs t ws b ≡ storedAs 0 t ws b
+  pub all-there : length ws ≡ wordsIn l → l .size ≤ length b → writtenAs t ws b ≡ storedAs 0 t ws b
   all-there h k = right h ∙ held-there 0 t ws b (rw (fixed-extent r o) at k)
 
 -- ---- an open type
 
-module _ {ms rows : List ℕ} {e : ℕ} {l : Layout} {t : Ty} (x : Tailed ms rows e l t) (ws b : List ℕ) where
-  pub no-elements : elementsOf (length ws) (l .words) (runtimeRow ms rows e .unit) ≡ No → writtenAs t ws b ≡ refused 14 0
-  no-elements h = open-wrong t (tailed-open x) (l .words) (runtimeRow ms rows e .unit) (tailed-words x) ws b h
+module _ {ms : List ℕ} {table : List (List ℕ)} {e : ℕ} {x : Tail} {t : Ty} (y : TailedBy ms table e x t) (ws b : List ℕ) where
+  words-are : (n : ℕ) → wordCount n t ≡ x .fixed + n * x .layout .unit
+  words-are n = rw (y .tail-is) (tailed-words (y .tailed) n)
 
-  pub some-elements : {n : ℕ} → elementsOf (length ws) (l .words) (runtimeRow ms rows e .unit) ≡ Is n → (length ws ≡ wordCount n t) × (1 ≤ n) × (writtenAs t ws b ≡ heldAs n t ws b)
-  some-elements h = open-right t (tailed-open x) (l .words) (runtimeRow ms rows e .unit) (tailed-words x) ws b h
+  extent-is : (n : ℕ) → extentOf n t ≡ x .offset + n * x .layout .stride
+  extent-is n = rw (y .tail-is) (opened-extent (y .tailed .opened) n)
 
-  pub no-room : (n : ℕ) → extentFor (length b) (l .offset) (l .stride) n ≡ No → heldAs n t ws b ≡ refused 15 0
-  no-room n h = extent-short t (l .offset) (l .stride) (opened-extent (x .opened)) n ws b h
+  pub no-elements : elementsOf (length ws) (x .fixed) (x .layout .unit) ≡ No → writtenAs t ws b ≡ refused 14 0
+  no-elements h = open-wrong t (tailed-open (y .tailed)) (x .fixed) (x .layout .unit) words-are ws b h
 
-  pub room : (n : ℕ) {k : ℕ} → extentFor (length b) (l .offset) (l .stride) n ≡ Is k → (k ≡ extentOf n t) × (k ≤ length b) × (heldAs n t ws b ≡ storedAs n t ws b)
-  room n h = extent-there t (l .offset) (l .stride) (opened-extent (x .opened)) n ws b h
+  pub some-elements : {n : ℕ} → elementsOf (length ws) (x .fixed) (x .layout .unit) ≡ Is n → (length ws ≡ wordCount n t) × (1 ≤ n) × (writtenAs t ws b ≡ heldAs n t ws b)
+  some-elements h = open-right t (tailed-open (y .tailed)) (x .fixed) (x .layout .unit) words-are ws b h
+
+  pub no-room : (n : ℕ) → extentFor (length b) (x .offset) (x .layout .stride) n ≡ No → heldAs n t ws b ≡ refused 15 0
+  no-room n h = extent-short t (x .offset) (x .layout .stride) extent-is n ws b h
+
+  pub room : (n : ℕ) {k : ℕ} → extentFor (length b) (x .offset) (x .layout .stride) n ≡ Is k → (k ≡ extentOf n t) × (k ≤ length b) × (heldAs n t ws b ≡ storedAs n t ws b)
+  room n h = extent-there t (x .offset) (x .layout .stride) extent-is n ws b h

@@ -7,35 +7,40 @@ use decide::closed_tail;
 use decide::elements_for;
 use decide::extent_for;
 use decide::fit;
-use decide::no_rows;
 use decide::open_tail;
-use decide::runtime_of;
+use decide::tail_of;
 use file::refusal::Refusal;
+use file::trailer::Trailered;
+use file::trailer::check_trailer;
 use file::trailer::wide;
 use kinds::value::Layout;
+use kinds::value::Value;
+use kinds::value::blank;
+use kinds::value::opens;
+use kinds::value::words_of;
 use layout::ask::Number;
-use plan::Ground;
-use plan::Planned;
-use plan::lay;
-use rows::row_at;
 use runs::Scan;
 use scanner::scan_entry;
 use scanner::scan_many;
+use table::Ground;
+use table::Grounded;
+use table::find;
+use trees::run_at;
 use writer::write_entry;
 use writer::write_many;
 ghost use mathlib.Core.Path.{_≡_};
 ghost use mathlib.Core.Bool.{false};
 ghost use mathlib.Core.List.{_++_};
-ghost use Prim.Native.Nat.{ℕ, _+_, _*_, _≤_};
+ghost use Prim.Native.Nat.{ℕ, _+_, _≤_};
 ghost use lib.ListN.{length, drop, replicate};
 ghost use Rattle.wgsl.specs.Types.{Ty, isOpen};
 ghost use Rattle.wgsl.specs.Place.{extentOf, places, wordCount, written, checkWords};
 ghost use Rattle.wgsl.specs.Call.{answerOf, contentsOf, writeCall};
 ghost use Rattle.layout.specs.Answer.{saidNumber};
 ghost use Rattle.runs.specs.Run.{saidScan};
-ghost use Rattle.rows.specs.Row.{rowAt};
-ghost use Rattle.decide.specs.Whole.{writtenAs, Ready, Tailed, Whole, heldAs, storedAs};
-ghost use Rattle.words.specs.Entry.{Entry};
+ghost use Rattle.trees.specs.Placed.{runAt, RunAsks};
+ghost use Rattle.decide.specs.Whole.{writtenAs, Ready, Tailed, TailedBy, Whole, heldAs, storedAs};
+ghost use Rattle.decide.specs.Entry.{Entry};
 
 // "zero where no scalar lies": the first `n` bytes.
 fn zero(buf: &mut [u8], n: usize)
@@ -50,65 +55,64 @@ fn zero(buf: &mut [u8], n: usize)
 }
 
 // The first `n` bytes become zero, unless the words of entry `e` will cover them all.
-fn clear(rows: &[u32], e: usize, buf: &mut [u8], n: usize)
-    requires { ⌜ (10 * e + 10 ≤ length (now rows)) × (n ≤ length (now buf)) ⌝ }
-    ensures covered { λ _. ⌜ ((rowAt (now (rows .entry)) e .run ≡ 0 → ⊥) → now (buf .exit) ≡ now (buf .entry)) ⌝ }
-    ensures cleared { λ _. ⌜ (rowAt (now (rows .entry)) e .run ≡ 0 → now (buf .exit) ≡ replicate n 0 ++ drop n (now (buf .entry))) ⌝ }
+fn clear(table: &[Value], e: usize, buf: &mut [u8], n: usize)
+    requires { ⌜ RunAsks (now table) e × (n ≤ length (now buf)) ⌝ }
+    ensures covered { λ _. ⌜ ((runAt (now (table .entry)) e ≡ 0 → ⊥) → now (buf .exit) ≡ now (buf .entry)) ⌝ }
+    ensures cleared { λ _. ⌜ (runAt (now (table .entry)) e ≡ 0 → now (buf .exit) ≡ replicate n 0 ++ drop n (now (buf .entry))) ⌝ }
 {
-    let r = row_at(rows, e);
-    if r.run != 0 {
+    if run_at(table, e) != 0 {
         return;
     }
     zero(buf, n);
 }
 
 // Tests the words of an entry: the fixed part, then the tail.
-fn scan(members: &[u8], rows: &[u32], e: usize, x: Tail, words: &[u32]) -> Scan
-    requires { ⌜ ((t : Ty) × (n : ℕ) × Whole (now members) (now rows) e x t n × (length (now words) ≡ wordCount n t)) ⌝ }
-    ensures { λ r. ⌜ ((t : Ty) (n : ℕ) → Whole (now (members .entry)) (now (rows .entry)) e x t n → length (now (words .entry)) ≡ wordCount n t → saidScan r ≡ checkWords 0 (places n t) (now (words .entry))) ⌝ }
+fn scan(members: &[u8], table: &[Value], e: usize, x: Tail, words: &[u32]) -> Scan
+    requires { ⌜ ((t : Ty) × (n : ℕ) × Whole (now members) (now table) e x t n × (length (now words) ≡ wordCount n t)) ⌝ }
+    ensures { λ r. ⌜ ((t : Ty) (n : ℕ) → Whole (now (members .entry)) (now (table .entry)) e x t n → length (now (words .entry)) ≡ wordCount n t → saidScan r ≡ checkWords 0 (places n t) (now (words .entry))) ⌝ }
 {
-    match scan_entry(members, rows, e, words, 0) {
+    match scan_entry(members, table, e, words, 0) {
         Scan::Bad(k) => Scan::Bad(k),
-        _ => scan_many(members, rows, x.row, words, x.fixed),
+        Scan::Fine => scan_many(members, table, x.layout, words, x.fixed),
     }
 }
 
 // Stores the words of an entry of so many bytes: the fixed part, then the tail.
 fn store(
     members: &[u8],
-    rows: &[u32],
+    table: &[Value],
     e: usize,
     x: Tail,
     extent: usize,
     words: &[u32],
     buf: &mut [u8],
 )
-    requires { ⌜ ((t : Ty) × (n : ℕ) × Whole (now members) (now rows) e x t n × (length (now words) ≡ wordCount n t) × (extent ≡ extentOf n t) × (extent ≤ length (now buf))) ⌝ }
-    ensures { λ _. ⌜ ((t : Ty) (n : ℕ) → Whole (now (members .entry)) (now (rows .entry)) e x t n → length (now (words .entry)) ≡ wordCount n t → extent ≡ extentOf n t → extent ≤ length (now (buf .entry)) → now (buf .exit) ≡ written n t (now (words .entry)) (now (buf .entry))) ⌝ }
+    requires { ⌜ ((t : Ty) × (n : ℕ) × Whole (now members) (now table) e x t n × (length (now words) ≡ wordCount n t) × (extent ≡ extentOf n t) × (extent ≤ length (now buf))) ⌝ }
+    ensures { λ _. ⌜ ((t : Ty) (n : ℕ) → Whole (now (members .entry)) (now (table .entry)) e x t n → length (now (words .entry)) ≡ wordCount n t → extent ≡ extentOf n t → extent ≤ length (now (buf .entry)) → now (buf .exit) ≡ written n t (now (words .entry)) (now (buf .entry))) ⌝ }
 {
-    clear(rows, e, buf, extent);
-    write_entry(members, rows, e, 0, words, 0, buf);
-    write_many(members, rows, x.row, x.offset, words, x.fixed, buf);
+    clear(table, e, buf, extent);
+    write_entry(members, table, e, 0, words, 0, buf);
+    write_many(members, table, x.layout, x.offset, words, x.fixed, buf);
 }
 
 // The words are right in number, and the bytes are there.
 fn write_whole(
     members: &[u8],
-    rows: &[u32],
+    table: &[Value],
     e: usize,
     x: Tail,
     extent: u32,
     words: &[u32],
     buf: &mut [u8],
 ) -> Number
-    requires { ⌜ ((t : Ty) × (n : ℕ) × Whole (now members) (now rows) e x t n × (length (now words) ≡ wordCount n t) × (extent ≡ extentOf n t) × (extent ≤ length (now buf))) ⌝ }
-    ensures answer { λ r. ⌜ ((t : Ty) (n : ℕ) → Whole (now (members .entry)) (now (rows .entry)) e x t n → length (now (words .entry)) ≡ wordCount n t → extent ≡ extentOf n t → extent ≤ length (now (buf .entry)) → saidNumber r ≡ answerOf (storedAs n t (now (words .entry)) (now (buf .entry)))) ⌝ }
-    ensures buffer { λ _. ⌜ ((t : Ty) (n : ℕ) → Whole (now (members .entry)) (now (rows .entry)) e x t n → length (now (words .entry)) ≡ wordCount n t → extent ≡ extentOf n t → extent ≤ length (now (buf .entry)) → now (buf .exit) ≡ contentsOf (now (buf .entry)) (storedAs n t (now (words .entry)) (now (buf .entry)))) ⌝ }
+    requires { ⌜ ((t : Ty) × (n : ℕ) × Whole (now members) (now table) e x t n × (length (now words) ≡ wordCount n t) × (extent ≡ extentOf n t) × (extent ≤ length (now buf))) ⌝ }
+    ensures answer { λ r. ⌜ ((t : Ty) (n : ℕ) → Whole (now (members .entry)) (now (table .entry)) e x t n → length (now (words .entry)) ≡ wordCount n t → extent ≡ extentOf n t → extent ≤ length (now (buf .entry)) → saidNumber r ≡ answerOf (storedAs n t (now (words .entry)) (now (buf .entry)))) ⌝ }
+    ensures buffer { λ _. ⌜ ((t : Ty) (n : ℕ) → Whole (now (members .entry)) (now (table .entry)) e x t n → length (now (words .entry)) ≡ wordCount n t → extent ≡ extentOf n t → extent ≤ length (now (buf .entry)) → now (buf .exit) ≡ contentsOf (now (buf .entry)) (storedAs n t (now (words .entry)) (now (buf .entry)))) ⌝ }
 {
-    match fit(scan(members, rows, e, x, words)) {
+    match fit(scan(members, table, e, x, words)) {
         Allowed::Refused(r) => Number::Refused(r),
         Allowed::Yes => {
-            store(members, rows, e, x, wide(extent), words, buf);
+            store(members, table, e, x, wide(extent), words, buf);
             Number::Is(extent)
         }
     }
@@ -117,48 +121,47 @@ fn write_whole(
 // 14, 15, 16 for a type of fixed size.
 fn write_closed(
     members: &[u8],
-    rows: &[u32],
+    table: &[Value],
     e: usize,
     l: Layout,
     words: &[u32],
     buf: &mut [u8],
 ) -> Number
-    requires { ⌜ ((t : Ty) × Ready (now members) (now rows) e l t × (isOpen t ≡ false)) ⌝ }
-    ensures answer { λ r. ⌜ ((t : Ty) → Ready (now (members .entry)) (now (rows .entry)) e l t → isOpen t ≡ false → saidNumber r ≡ answerOf (writtenAs t (now (words .entry)) (now (buf .entry)))) ⌝ }
-    ensures buffer { λ _. ⌜ ((t : Ty) → Ready (now (members .entry)) (now (rows .entry)) e l t → isOpen t ≡ false → now (buf .exit) ≡ contentsOf (now (buf .entry)) (writtenAs t (now (words .entry)) (now (buf .entry)))) ⌝ }
+    requires { ⌜ ((t : Ty) × Ready (now members) (now table) e l t × (isOpen t ≡ false)) ⌝ }
+    ensures answer { λ r. ⌜ ((t : Ty) → Ready (now (members .entry)) (now (table .entry)) e l t → isOpen t ≡ false → saidNumber r ≡ answerOf (writtenAs t (now (words .entry)) (now (buf .entry)))) ⌝ }
+    ensures buffer { λ _. ⌜ ((t : Ty) → Ready (now (members .entry)) (now (table .entry)) e l t → isOpen t ≡ false → now (buf .exit) ≡ contentsOf (now (buf .entry)) (writtenAs t (now (words .entry)) (now (buf .entry)))) ⌝ }
 {
-    if words.len() != wide(l.words) {
+    if words.len() != wide(words_of(l)) {
         return Number::Refused(Refusal::Count);
     }
     if buf.len() < wide(l.size) {
         return Number::Refused(Refusal::Buffer);
     }
-    write_whole(members, rows, e, closed_tail(l), l.size, words, buf)
+    write_whole(members, table, e, closed_tail(l), l.size, words, buf)
 }
 
 // 15 and 16 for an open type with `n` elements.
 fn write_elements(
     members: &[u8],
-    rows: &[u32],
+    table: &[Value],
     e: usize,
-    l: Layout,
+    x: Tail,
     n: usize,
     words: &[u32],
     buf: &mut [u8],
 ) -> Number
-    requires { ⌜ ((t : Ty) × Tailed (now members) (now rows) e l t × (length (now buf) ≤ 4294967295) × (length (now words) ≡ wordCount n t)) ⌝ }
-    ensures answer { λ r. ⌜ ((t : Ty) → Tailed (now (members .entry)) (now (rows .entry)) e l t → length (now (words .entry)) ≡ wordCount n t → saidNumber r ≡ answerOf (heldAs n t (now (words .entry)) (now (buf .entry)))) ⌝ }
-    ensures buffer { λ _. ⌜ ((t : Ty) → Tailed (now (members .entry)) (now (rows .entry)) e l t → length (now (words .entry)) ≡ wordCount n t → now (buf .exit) ≡ contentsOf (now (buf .entry)) (heldAs n t (now (words .entry)) (now (buf .entry)))) ⌝ }
+    requires { ⌜ ((t : Ty) × TailedBy (now members) (now table) e x t × (length (now buf) ≤ 4294967295) × (length (now words) ≡ wordCount n t)) ⌝ }
+    ensures answer { λ r. ⌜ ((t : Ty) → TailedBy (now (members .entry)) (now (table .entry)) e x t → length (now (words .entry)) ≡ wordCount n t → saidNumber r ≡ answerOf (heldAs n t (now (words .entry)) (now (buf .entry)))) ⌝ }
+    ensures buffer { λ _. ⌜ ((t : Ty) → TailedBy (now (members .entry)) (now (table .entry)) e x t → length (now (words .entry)) ≡ wordCount n t → now (buf .exit) ≡ contentsOf (now (buf .entry)) (heldAs n t (now (words .entry)) (now (buf .entry)))) ⌝ }
 {
-    match extent_for(buf.len(), l.offset, l.stride, n) {
+    match extent_for(buf.len(), x.offset, x.layout.stride, n) {
         Found::No => Number::Refused(Refusal::Buffer),
         Found::Is(extent) => {
-            let r = row_at(rows, runtime_of(members, rows, e));
             write_whole(
                 members,
-                rows,
+                table,
                 e,
-                open_tail(r, l, n as u32),
+                open_tail(x, n as u32),
                 extent as u32,
                 words,
                 buf,
@@ -170,20 +173,20 @@ fn write_elements(
 // 14, 15, 16 for an open type.
 fn write_open(
     members: &[u8],
-    rows: &[u32],
+    table: &[Value],
     e: usize,
     l: Layout,
     words: &[u32],
     buf: &mut [u8],
 ) -> Number
-    requires { ⌜ ((t : Ty) × Tailed (now members) (now rows) e l t × (length (now buf) ≤ 4294967295)) ⌝ }
-    ensures answer { λ r. ⌜ ((t : Ty) → Tailed (now (members .entry)) (now (rows .entry)) e l t → saidNumber r ≡ answerOf (writtenAs t (now (words .entry)) (now (buf .entry)))) ⌝ }
-    ensures buffer { λ _. ⌜ ((t : Ty) → Tailed (now (members .entry)) (now (rows .entry)) e l t → now (buf .exit) ≡ contentsOf (now (buf .entry)) (writtenAs t (now (words .entry)) (now (buf .entry)))) ⌝ }
+    requires { ⌜ ((t : Ty) × Tailed (now members) (now table) e l t × (length (now buf) ≤ 4294967295)) ⌝ }
+    ensures answer { λ r. ⌜ ((t : Ty) → Tailed (now (members .entry)) (now (table .entry)) e l t → saidNumber r ≡ answerOf (writtenAs t (now (words .entry)) (now (buf .entry)))) ⌝ }
+    ensures buffer { λ _. ⌜ ((t : Ty) → Tailed (now (members .entry)) (now (table .entry)) e l t → now (buf .exit) ≡ contentsOf (now (buf .entry)) (writtenAs t (now (words .entry)) (now (buf .entry)))) ⌝ }
 {
-    let r = row_at(rows, runtime_of(members, rows, e));
-    match elements_for(words.len(), l.words, r.unit) {
+    let x = tail_of(members, table, l);
+    match elements_for(words.len(), x.fixed, x.layout.unit) {
         Found::No => Number::Refused(Refusal::Count),
-        Found::Is(n) => write_elements(members, rows, e, l, n, words, buf),
+        Found::Is(n) => write_elements(members, table, e, x, n, words, buf),
     }
 }
 
@@ -192,13 +195,13 @@ fn write_entry_at(
     file: &[u8],
     e: usize,
     g: Ground,
-    rows: &[u32],
+    table: &[Value],
     words: &[u32],
     buf: &mut [u8],
 ) -> Number
-    requires { ⌜ ((t : Ty) × Entry (now file) e g (now rows) t) ⌝ }
-    ensures answer { λ r. ⌜ ((t : Ty) → Entry (now (file .entry)) e g (now (rows .entry)) t → saidNumber r ≡ answerOf (writeCall (now (file .entry)) e (now (words .entry)) (now (buf .entry)))) ⌝ }
-    ensures buffer { λ _. ⌜ ((t : Ty) → Entry (now (file .entry)) e g (now (rows .entry)) t → now (buf .exit) ≡ contentsOf (now (buf .entry)) (writeCall (now (file .entry)) e (now (words .entry)) (now (buf .entry)))) ⌝ }
+    requires { ⌜ ((t : Ty) × Entry (now file) e g (now table) t) ⌝ }
+    ensures answer { λ r. ⌜ ((t : Ty) → Entry (now (file .entry)) e g (now (table .entry)) t → saidNumber r ≡ answerOf (writeCall (now (file .entry)) e (now (words .entry)) (now (buf .entry)))) ⌝ }
+    ensures buffer { λ _. ⌜ ((t : Ty) → Entry (now (file .entry)) e g (now (table .entry)) t → now (buf .exit) ≡ contentsOf (now (buf .entry)) (writeCall (now (file .entry)) e (now (words .entry)) (now (buf .entry)))) ⌝ }
 {
     let l = g.layout;
     match allow(l, buf.len()) {
@@ -207,10 +210,10 @@ fn write_entry_at(
             let start = g.start;
             let end = g.end;
             let members = &file[start..end];
-            if l.opens {
-                return write_open(members, rows, e, l, words, buf);
+            if opens(l) {
+                return write_open(members, table, e, l, words, buf);
             }
-            write_closed(members, rows, e, l, words, buf)
+            write_closed(members, table, e, l, words, buf)
         }
     }
 }
@@ -221,9 +224,14 @@ pub fn write(file: &[u8], entry: u32, words: &[u32], buf: &mut [u8]) -> Number
     ensures answer { λ r. ⌜ saidNumber r ≡ answerOf (writeCall (now (file .entry)) entry (now (words .entry)) (now (buf .entry))) ⌝ }
     ensures buffer { λ _. ⌜ now (buf .exit) ≡ contentsOf (now (buf .entry)) (writeCall (now (file .entry)) entry (now (words .entry)) (now (buf .entry))) ⌝ }
 {
-    let mut rows = no_rows();
-    match lay(file, entry, &mut rows) {
-        Planned::Refused(r) => Number::Refused(r),
-        Planned::Is(g) => write_entry_at(file, wide(entry), g, &rows, words, buf),
+    match check_trailer(file) {
+        Trailered::Refused(r) => Number::Refused(r),
+        Trailered::Good(t) => {
+            let mut table = blank();
+            match find(file, t, entry, &mut table) {
+                Grounded::Refused(r) => Number::Refused(r),
+                Grounded::Is(g) => write_entry_at(file, wide(entry), g, &table, words, buf),
+            }
+        }
     }
 }

@@ -1,3 +1,4 @@
+-- By the definition.
 use borrow.Author.Needs.{needs}
 use Rattle.decide.specs.Decide.{closedTail}
 use Rattle.decide.proofs.closed_tail.Statement.{statement}
@@ -5,7 +6,7 @@ use Rattle.decide.proofs.closed_tail.Tie as tie
 
 returns : tie.Need-returns
 unfolding closedTail
-returns c = rw (c .wide .ensures .0)
+returns c = rw (c .wide .ensures .0, c .before .words-of .ensures)
 
 pub closed-tail-spec : {M : Type 1} → statement M
-closed-tail-spec = tie.close (tie.spec (λ c κs. search needs) returns)
+closed-tail-spec = tie.close (tie.spec (λ c κs. search needs) (λ c κs. search needs) returns)

@@ -8,20 +8,18 @@ use Rattle.decide.proofs.elements_in.Tie as tie
 
 returns : tie.Need-returns
 returns c =
-    let a = c .before .before .args in
-    sym (found-before (a .bytes) (a .offset) (a .stride) (c .before .before .pre) (omega arith))
+    let a = c .before .args in
+    sym (found-before (a .bytes) (a .first) (a .stride) (c .before .pre) (omega arith))
 
 returns-2 : tie.Need-returns-2
 returns-2 c =
-    let f = c .before .before .before .wide .ensures .0 in
-    let u = c .before .wide2 .ensures .0 in
-    rw (sym f, sym u) (sym (found-none _ _ _ (omega arith)))
+    let u = c .before .wide .ensures .0 in
+    rw (sym u) (sym (found-none _ _ _ (omega arith)))
 
 returns-3 : tie.Need-returns-3
 returns-3 c =
-    let f = c .before .before .before .wide .ensures .0 in
-    let u = c .before .wide2 .ensures .0 in
-    rw (sym f, sym u) (sym (found-some _ _ _ (λ e. omega (arith, e))))
+    let u = c .before .wide .ensures .0 in
+    rw (sym u) (sym (found-some _ _ _ (λ e. omega (arith, e))))
 
 pub elements-in-spec : {M : Type 1} → statement M
-elements-in-spec = tie.close (tie.spec (λ c κs. search needs) returns (λ c κs. search needs) (λ c. search needs) returns-2 returns-3)
+elements-in-spec = tie.close (tie.spec returns (λ c κs. search needs) (λ c. search needs) returns-2 returns-3)

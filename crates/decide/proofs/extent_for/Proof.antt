@@ -8,31 +8,31 @@ use Rattle.decide.proofs.extent_for.Tie as tie
 
 returns : tie.Need-returns
 returns c =
-    let a = c .before .before .before .args in
-    sym (extent-before (a .bytes) (a .offset) (a .stride) (a .n) (c .before .before .before .pre) (omega arith))
+    let a = c .before .before .args in
+    sym (extent-before (a .bytes) (a .first) (a .stride) (a .n) (c .before .before .pre) (omega arith))
 
 returns-2 : tie.Need-returns-2
 returns-2 c =
-    let f = c .before .before .before .wide .ensures .0 in
-    let u = c .before .before .wide2 .ensures .0 in
-    rw (sym f, sym u) (sym (extent-past _ _ _ _ (omega arith) (omega arith) (omega arith)))
+    let u = c .before .before .wide .ensures .0 in
+    rw (sym u) (sym (extent-past _ _ _ _ (omega arith) (omega arith) (omega arith)))
 
-mul-t8 : tie.Need-mul-t8
-mul-t8 c =
-    let a = c .before .before .before .before .args in
-    omega (arith, extent-inside (a .bytes) (c .before .before .before .wide .result) (c .before .before .wide2 .result) (a .n) (omega arith) (omega arith) (omega arith))
+mul-t7 : tie.Need-mul-t7
+mul-t7 c =
+    let a = c .before .before .before .args in
+    omega (arith, extent-inside (a .bytes) (a .first) (c .before .before .wide .result) (a .n) (omega arith) (omega arith) (omega arith))
 
-add-t9 : tie.Need-add-t9
-add-t9 c =
-    let a = c .before .before .before .before .args in
-    omega (arith, extent-inside (a .bytes) (c .before .before .before .wide .result) (c .before .before .wide2 .result) (a .n) (omega arith) (omega arith) (omega arith))
+add-t8 : tie.Need-add-t8
+add-t8 c =
+    let a = c .before .before .before .args in
+    omega (arith, extent-inside (a .bytes) (a .first) (c .before .before .wide .result) (a .n) (omega arith) (omega arith) (omega arith))
 
 returns-3 : tie.Need-returns-3
 returns-3 c =
-    let f = c .before .before .before .wide .ensures .0 in
-    let u = c .before .before .wide2 .ensures .0 in
-    rw (sym f, sym u)
+    let u = c .before .before .wide .ensures .0 in
+    rw (sym u)
     (sym (extent-right _ _ _ _ (omega arith) (extent-inside _ _ _ _ (omega arith) (omega arith) (omega arith))))
 
 pub extent-for-spec : {M : Type 1} → statement M
-extent-for-spec = tie.close (tie.spec (λ c κs. search needs) (λ c κs. search needs) returns (λ c. search needs) returns-2 mul-t8 add-t9 returns-3)
+extent-for-spec =
+    tie.close (tie.spec
+    (λ c κs. search needs) returns (λ c. search needs) returns-2 mul-t7 add-t8 returns-3)

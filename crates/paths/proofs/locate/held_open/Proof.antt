@@ -12,43 +12,40 @@ use Rattle.paths.proofs.locate.held_open.Statement.{statement}
 use Rattle.paths.proofs.locate.held_open.Tie as tie
 
 elements-in-requires : tie.Need-elements-in-requires
-elements-in-requires c κs = stride-above (c .pre .1) (c .pre .2)
+elements-in-requires c κs = stride-above (c .pre .1)
 
 -- the elements, found
 found : (c : tie.After-n) →
     let a = c .before .before .before .args in
-    elementsFound (a .bytes) (a .l .offset) (a .l .stride) ≡ Is (c .n .given .0 .0)
+    elementsFound (a .bytes) (a .x .offset) (a .x .layout .stride) ≡ Is (c .n .given .0 .0)
 found c = sym (c .before .before .elements-in .ensures) ∙ c .n .given .1
 
 -- they end within the limit
-inside : (c : tie.After-wide2) → c .before .wide .result + c .before .before .before .n .given .0 .0 * c .wide2 .result ≤ limit
+inside : (c : tie.After-wide) →
+    let n = c .before .before in
+    n .before .before .before .args .x .offset + n .n .given .0 .0 * c .wide .result ≤ limit
 inside c =
-    let n = c .before .before .before in
-    let first = c .before .wide .ensures .0 in
-    let each = c .wide2 .ensures .0 in
-    rw (first, each) (omega (arith, found-inside _ _ _ (found n), n .before .before .before .pre .3))
+    let n = c .before .before in
+    rw (c .wide .ensures .0) (omega (arith, found-inside _ _ _ (found n), n .before .before .before .pre .2))
 
-mul-t8 : tie.Need-mul-t8
+mul-t7 : tie.Need-mul-t7
 unfolding limit
-mul-t8 c = omega (arith, inside c)
+mul-t7 c = omega (arith, inside c)
 
-add-t9 : tie.Need-add-t9
+add-t8 : tie.Need-add-t8
 unfolding limit
-add-t9 c = omega (arith, inside c)
+add-t8 c = omega (arith, inside (c .before))
 
 returns : tie.Need-returns
-returns c t b x o l =
+returns c t b x l =
     let no = sym (c .before .before .elements-in .ensures) ∙ c .enum-told .given .1 in
-    sym (open-short x o b (rw l no))
+    sym (open-short x b (rw l no))
 
 returns-2 : tie.Need-returns-2
-returns-2 c t b x o l =
-    let first = c .before .wide .ensures .0 in
-    let each = c .wide2 .ensures .0 in
-    rw (first, each) (sym (open-there x o b (rw l (found (c .before .before .before)))))
+returns-2 c t b x l =
+    rw (c .before .wide .ensures .0) (sym (open-there x b (rw l (found (c .before .before .before)))))
 
 pub held-open-spec : {M : Type 1} → statement M
 held-open-spec =
     tie.close (tie.spec
-    elements-in-requires (λ c. search needs) (λ c. search needs) (λ c κs. search needs) (λ c κs. search needs) mul-t8
-    add-t9 returns returns-2)
+    elements-in-requires (λ c. search needs) (λ c. search needs) (λ c κs. search needs) mul-t7 add-t8 returns returns-2)

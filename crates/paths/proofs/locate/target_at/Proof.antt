@@ -6,34 +6,36 @@ use Rattle.wgsl.specs.Types.{Ty}
 use Rattle.wgsl.specs.Said.{good, refused}
 use Rattle.file.specs.Refusal.{numberOf, placeOf}
 use Rattle.walker.specs.Walk.{reached}
-use Rattle.paths.specs.Locate.{allowedAs, Planted}
+use Rattle.paths.specs.Locate.{allowedAs}
+use Rattle.decide.specs.Entry.{Entry}
+use Rattle.decide.proofs.Entries.{entry-value, entry-well-formed}
 use Rattle.paths.proofs.Permits.{allowed-laid, entry-refused, entry-allowed}
-use Rattle.paths.proofs.Plants.{planted-layout, planted-well-formed, planted-viewable, target-refused, target-allowed}
+use Rattle.paths.proofs.Plants.{entry-viewable, target-refused, target-allowed}
 use Rattle.paths.proofs.locate.target_at.Statement.{statement}
 use Rattle.paths.proofs.locate.target_at.Tie as tie
 
 -- 17, 9 and 10 let it pass
 allowed : {t : Ty} (c : tie.After-enum-told) →
-    let a = c .before .before .before .before .before .before .before .args in
-    Planted (now (a .file)) (a .e) (a .g) (now (a .rows)) t → good tt ≡ allowedAs (a .stored) t (a .bytes)
+    let a = c .before .before .before .before .before .before .args in
+    Entry (now (a .file)) (a .e) (a .g) (now (a .table)) t → good tt ≡ allowedAs (a .stored) t (a .bytes)
 allowed {t} c x =
-    rw (c .enum-told .given .1) at (c .before .before .permit .ensures t (planted-layout x) (planted-well-formed x))
+    rw (c .enum-told .given .1) at (c .before .before .permit .ensures t (entry-value x) (entry-well-formed x))
 
 -- or one of them stops it
 stopped : {t : Ty} (c : tie.After-r) →
-    let a = c .before .before .before .before .before .before .before .args in
+    let a = c .before .before .before .before .before .before .args in
     let r = c .r .given .0 .0 in
-    Planted (now (a .file)) (a .e) (a .g) (now (a .rows)) t → refused (numberOf r) (placeOf r) ≡ allowedAs (a .stored) t (a .bytes)
+    Entry (now (a .file)) (a .e) (a .g) (now (a .table)) t → refused (numberOf r) (placeOf r) ≡ allowedAs (a .stored) t (a .bytes)
 stopped {t} c x =
-    rw (c .r .given .1) at (c .before .before .permit .ensures t (planted-layout x) (planted-well-formed x))
+    rw (c .r .given .1) at (c .before .before .permit .ensures t (entry-value x) (entry-well-formed x))
 
 target-in-requires : tie.Need-target-in-requires
 target-in-requires c κs =
     let told = c .before in
-    let start = told .before .before .before .before .before .before .before in
+    let start = told .before .before .before .before .before .before in
     let pre = start .pre in
     let a = allowed-laid (start .args .stored) (pre .0) (start .args .bytes) (allowed told (pre .1)) in
-    (now (start .args .file), pre .0, planted-viewable (pre .1) (a .0), a .1)
+    (now (start .args .file), pre .0, entry-viewable (pre .1) (a .0), a .1)
 
 returns : tie.Need-returns
 returns c t b x l =
@@ -43,7 +45,7 @@ returns-2 : tie.Need-returns-2
 returns-2 c t b x l =
     let told = c .before .before in
     let a = allowed-laid _ t _ (allowed told x) in
-    c .target-in .ensures _ t b (planted-viewable x (a .0)) l
+    c .target-in .ensures _ t b (entry-viewable x (a .0)) l
     ∙ ap reached (sym (target-allowed _ _ _ _ b (entry-allowed _ _ b t (x .entry-is) _ (rw (← l) at (allowed told x)))))
 
 pub target-at-spec : {M : Type 1} → statement M

@@ -9,13 +9,13 @@ use Rattle.words.proofs.reading.load.Tie as tie
 
 read-entry-requires : tie.Need-read-entry-requires
 read-entry-requires c κs =
-    let pre = c .before .before .before .before .before .pre in
+    let pre = c .before .before .before .before .pre in
     (shapeOf 0 (pre .0), pre .2 .tree, fixed-room (pre .2) (pre .4) (pre .3))
 
 read-many-requires : tie.Need-read-many-requires
 read-many-requires c κs =
     let first = c .before .before .before in
-    let pre = first .before .before .before .before .before .before .pre in
+    let pre = first .before .before .before .before .before .pre in
     let same = first .read-entry .kept .1 .1 .1 .1 .1 .1 .0 in
     (pre .2 .rest, pre .2 .many, rw same (rest-room (pre .2) (pre .4) (pre .3)))
 

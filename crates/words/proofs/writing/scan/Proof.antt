@@ -5,14 +5,13 @@ use native.Mathlib.Omega.{arith}
 use Rattle.decide.proofs.Wholes.{fixed-words, whole-words, tested-bad, tested-good}
 use Rattle.folds.proofs.Folds.{tested-widths}
 use Rattle.scanner.proofs.Scans.{places-moved}
-use Rattle.words.proofs.Writings.{nothing-bad}
 use borrow.Author.Needs.{needs}
 use Rattle.words.proofs.writing.scan.Statement.{statement}
 use Rattle.words.proofs.writing.scan.Tie as tie
 
 scan-entry-requires : tie.Need-scan-entry-requires
 scan-entry-requires c κs =
-    let (t, n, w, l) = c .before .before .before .pre in
+    let (t, n, w, l) = c .before .before .pre in
     (_, w .tree, record { words-there = omega (arith, fixed-words w, whole-words w) })
 
 scan-many-requires : tie.Need-scan-many-requires
@@ -23,14 +22,14 @@ scan-many-requires c κs =
 returns : tie.Need-returns
 returns c t n w l =
     let first = c .before .before .before .scan-entry in
-    tested-bad w _ _ l (rw (c .before .k .given .1) at (first .ensures .0 _ (w .tree)))
+    tested-bad w _ _ l (rw (c .before .k .given .1) at (first .ensures _ (w .tree)))
 
 returns-2 : tie.Need-returns-2
 returns-2 c t n w l =
-    let at = c .before .before in
-    let none = nothing-bad (at .scan-entry .result) (c .before .match .keys2) in
-    tested-good w _ l (none ∙ at .scan-entry .ensures .0 _ (w .tree))
-    (c .scan-many .ensures .0 (w .rest) (w .many) ∙ tested-widths _ _ _ _ _ (places-moved (w .rest) 0 _))
+    let told = c .before in
+    let first = told .before .before .scan-entry in
+    tested-good w _ l (rw (told .enum-told .given .1) at (first .ensures _ (w .tree)))
+    (c .scan-many .ensures (w .rest) (w .many) ∙ tested-widths _ _ _ _ _ (places-moved (w .rest) 0 _))
 
 pub scan-spec : {M : Type 1} → statement M
-scan-spec = tie.close (tie.spec scan-entry-requires (λ c. search needs) scan-many-requires returns returns-2)
+scan-spec = tie.close (tie.spec scan-entry-requires (λ c. search needs) (λ c. search needs) scan-many-requires returns returns-2)

@@ -11,7 +11,7 @@ use Rattle.words.proofs.writing.store.Tie as tie
 write-entry-requires : tie.Need-write-entry-requires
 write-entry-requires c κs =
     let clear = c .before .before .before in
-    let pre = clear .before .before .before .before .before .before .pre in
+    let pre = clear .before .before .before .before .before .pre in
     let same = clear .clear .kept .1 .1 .0 in
     (shapeOf 0 (pre .0), pre .2 .tree, rw same (fixed-room (pre .2) (omega (arith, pre .4, pre .5)) (omega (arith, pre .3))))
 
@@ -19,7 +19,7 @@ write-many-requires : tie.Need-write-many-requires
 write-many-requires c κs =
     let entry = c .before .before .before in
     let clear = entry .before .before .before .before in
-    let pre = clear .before .before .before .before .before .before .pre in
+    let pre = clear .before .before .before .before .before .pre in
     let same = clear .clear .kept .1 .1 .0 in
     let then-same = entry .write-entry .kept .1 .1 .1 .1 .1 .1 .0 in
     (pre .2 .rest, pre .2 .many, rw (then-same, same) (rest-room (pre .2) (omega (arith, pre .4, pre .5)) (omega (arith, pre .3))))

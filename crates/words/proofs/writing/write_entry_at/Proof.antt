@@ -4,14 +4,15 @@ use mathlib.Core.Path.{_≡_, ap, sym, _∙_}
 use mathlib.Core.Bool.{true}
 use denote.Ref.{now}
 use lib.ListN.{length}
-use Rattle.wgsl.specs.Types.{Ty}
+use Rattle.wgsl.specs.Types.{Ty, isOpen}
 use Rattle.wgsl.specs.Size.{isStorable}
 use Rattle.wgsl.specs.Said.{good, refused}
 use Rattle.wgsl.specs.Call.{answerOf, contentsOf, storedEntry, writeCall}
 use Rattle.file.specs.Refusal.{numberOf, placeOf}
+use Rattle.decide.specs.Entry.{Entry}
 use Rattle.decide.proofs.Stored.{stored-refused, stored-allowed}
-use Rattle.words.specs.Entry.{Entry}
-use Rattle.words.proofs.Parts.{entry-layout, entry-open, entry-ready, entry-tailed}
+use Rattle.decide.proofs.Entries.{entry-value, entry-well-formed}
+use Rattle.words.proofs.Parts.{entry-ready, entry-tailed}
 use Rattle.words.proofs.Writings.{write-refused, write-allowed}
 use borrow.Author.Needs.{needs}
 use Rattle.words.proofs.writing.write_entry_at.Statement.{statement}
@@ -19,49 +20,54 @@ use Rattle.words.proofs.writing.write_entry_at.Tie as tie
 
 -- 17, 9 and 10 let it pass
 allowed : {t : Ty} (c : tie.After-enum-told) →
-    let a = c .before .before .before .before .before .before .before .before .args in
-    Entry (now (a .file)) (a .e) (a .g) (now (a .rows)) t → (storedEntry (now (a .file)) (a .e) (now (a .buf)) ≡ good t) × (isStorable t ≡ true) × (length (now (a .buf)) ≤ 4294967295)
+    let a = c .before .before .before .before .before .before .before .args in
+    Entry (now (a .file)) (a .e) (a .g) (now (a .table)) t → (storedEntry (now (a .file)) (a .e) (now (a .buf)) ≡ good t) × (isStorable t ≡ true) × (length (now (a .buf)) ≤ 4294967295)
 allowed {t} c x =
-    let says = c .before .before .allow .ensures t (entry-layout x) (x .well-formed) in
+    let says = c .before .before .allow .ensures t (entry-value x) (entry-well-formed x) in
     stored-allowed _ _ _ t (x .entry-is) (rw (c .enum-told .given .1) at says)
 
 -- or one of them stops it
 stopped : {t : Ty} (c : tie.After-r) →
-    let a = c .before .before .before .before .before .before .before .before .args in
+    let a = c .before .before .before .before .before .before .before .args in
     let r = c .r .given .0 .0 in
-    Entry (now (a .file)) (a .e) (a .g) (now (a .rows)) t → writeCall (now (a .file)) (a .e) (now (a .words)) (now (a .buf)) ≡ refused (numberOf r) (placeOf r)
+    Entry (now (a .file)) (a .e) (a .g) (now (a .table)) t → writeCall (now (a .file)) (a .e) (now (a .words)) (now (a .buf)) ≡ refused (numberOf r) (placeOf r)
 stopped {t} c x =
-    let says = c .before .before .allow .ensures t (entry-layout x) (x .well-formed) in
+    let says = c .before .before .allow .ensures t (entry-value x) (entry-well-formed x) in
     write-refused _ _ _ _ (stored-refused _ _ _ t (x .entry-is) (rw (c .r .given .1) at says))
+
+-- whether it is open
+opened : {t : Ty} (c : tie.After-opens) →
+    let a = c .before .before .before .before .before .before .before .before .before .args in
+    Entry (now (a .file)) (a .e) (a .g) (now (a .table)) t → isOpen t ≡ c .opens .result
+opened {t} c x = sym (c .opens .ensures t (entry-value x) (entry-well-formed x))
 
 write-open-requires : tie.Need-write-open-requires
 write-open-requires c κs =
     let then1 = c .before in
-    let told = then1 .before .before in
-    let pre = told .before .before .before .before .before .before .before .before .pre in
-    let s = allowed told (pre .1) in
-    (pre .0, entry-tailed (pre .1) (s .1) (entry-open (pre .1) (then1 .if1 .taken)), s .2)
+    let told = then1 .before .before .before in
+    let (t, x) = told .before .before .before .before .before .before .before .pre in
+    let s = allowed told x in
+    (t, entry-tailed x (s .1) (opened (then1 .before) x ∙ then1 .if1 .taken), s .2)
 
 returns : tie.Need-returns
 returns c =
     let write = c .before .before in
     let then1 = write .before .before in
-    let told = then1 .before .before in (
+    let told = then1 .before .before .before in (
       λ t x.
-          write .write-open .ensures .0 t (entry-tailed x (allowed told x .1) (entry-open x (then1 .if1 .taken)))
+          write .write-open .ensures .0 t (entry-tailed x (allowed told x .1) (opened (then1 .before) x ∙ then1 .if1 .taken))
           ∙ ap answerOf (sym (write-allowed _ _ _ _ (allowed told x .0))),
       λ t x.
-          write .write-open .ensures .1 t (entry-tailed x (allowed told x .1) (entry-open x (then1 .if1 .taken)))
+          write .write-open .ensures .1 t (entry-tailed x (allowed told x .1) (opened (then1 .before) x ∙ then1 .if1 .taken))
           ∙ ap (contentsOf _) (sym (write-allowed _ _ _ _ (allowed told x .0))),
     )
 
 write-closed-requires : tie.Need-write-closed-requires
 write-closed-requires c κs =
     let else1 = c .before in
-    let told = else1 .before .before in
-    let pre = told .before .before .before .before .before .before .before .before .pre in
-    let s = allowed told (pre .1) in
-    (pre .0, entry-ready (pre .1) (s .1), entry-open (pre .1) (else1 .if1 .left))
+    let told = else1 .before .before .before in
+    let (t, x) = told .before .before .before .before .before .before .before .pre in
+    (t, entry-ready x (allowed told x .1), opened (else1 .before) x ∙ else1 .if1 .left)
 
 returns-2 : tie.Need-returns-2
 unfolding answerOf contentsOf
@@ -73,12 +79,12 @@ returns-3 : tie.Need-returns-3
 returns-3 c =
     let write = c .before .before in
     let else1 = write .before .before in
-    let told = else1 .before .before in (
+    let told = else1 .before .before .before in (
       λ t x.
-          write .write-closed .ensures .0 t (entry-ready x (allowed told x .1)) (entry-open x (else1 .if1 .left))
+          write .write-closed .ensures .0 t (entry-ready x (allowed told x .1)) (opened (else1 .before) x ∙ else1 .if1 .left)
           ∙ ap answerOf (sym (write-allowed _ _ _ _ (allowed told x .0))),
       λ t x.
-          write .write-closed .ensures .1 t (entry-ready x (allowed told x .1)) (entry-open x (else1 .if1 .left))
+          write .write-closed .ensures .1 t (entry-ready x (allowed told x .1)) (opened (else1 .before) x ∙ else1 .if1 .left)
           ∙ ap (contentsOf _) (sym (write-allowed _ _ _ _ (allowed told x .0))),
     )
 
@@ -86,5 +92,5 @@ pub write-entry-at-spec : {M : Type 1} → statement M
 write-entry-at-spec =
     tie.close (tie.spec
     (λ c κs. search needs) (λ c. search needs) (λ c. search needs) (λ c. search needs) (λ c. search needs)
-    (λ c. search needs) write-open-requires (λ c. search needs) returns write-closed-requires returns-2
+    (λ c. search needs) (λ c κs. search needs) write-open-requires (λ c. search needs) returns write-closed-requires returns-2
     (λ c. search needs) returns-3)

@@ -11,7 +11,7 @@ use Rattle.words.proofs.writing.write_whole.Tie as tie
 store-requires : tie.Need-store-requires
 store-requires c κs =
     let wide = c .before in
-    let pre = wide .before .before .before .before .before .before .before .before .before .pre in
+    let pre = wide .before .before .before .before .before .before .before .before .pre in
     let (t, n, w, l, is, room) = pre in
     (t, n, w, l, wide .wide .ensures .0 ∙ is, omega (arith, wide .wide .ensures .0, room))
 
