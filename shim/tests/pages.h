@@ -18,10 +18,10 @@ static uint8_t *fresh(size_t length) {
     return pages + PAGE + room - length;
 }
 
-/* `length` bytes of `fresh`, from now on to be read and not written. */
+/* `length` bytes of `fresh`, from now on to be read and not written. Of no bytes nothing is asked: qemu 7.2 refuses to protect none. */
 static const uint8_t *sealed(uint8_t *bytes, size_t length) {
     size_t before = (uintptr_t)bytes % PAGE;
-    if (mprotect(bytes - before, before + length, PROT_READ)) exit(2);
+    if (length && mprotect(bytes - before, before + length, PROT_READ)) exit(2);
     return bytes;
 }
 
