@@ -1,10 +1,10 @@
 // Answers questions about layout files: reads them on standard input and writes a line for each (oracle/README.md, version 4).
-use file::refusal::Refusal;
-use file::refusal::number;
-use file::refusal::place;
-use layout::ask::Answer;
-use layout::ask::Maybe;
-use layout::ask::Number;
+use crate::lines::bytes;
+use crate::lines::copy;
+use crate::lines::next;
+use crate::lines::numbers;
+use crate::lines::same;
+use crate::lines::spell;
 use lepugaso::align;
 use lepugaso::check;
 use lepugaso::common;
@@ -24,17 +24,17 @@ use lepugaso::view_mut;
 use lepugaso::write;
 use libc::STDIN_FILENO;
 use libc::STDOUT_FILENO;
-use lines::bytes;
-use lines::copy;
-use lines::next;
-use lines::numbers;
-use lines::same;
-use lines::spell;
-use walker::walk::Walked;
+use said::answer::Answer;
+use said::answer::Maybe;
+use said::answer::Number;
+use said::refusal::Refusal;
+use said::refusal::number;
+use said::refusal::place;
+use said::target::Walked;
 ghost use mathlib.Core.Path.{_≡_};
 ghost use Prim.Native.Nat.{_≤_};
 ghost use lib.ListN.{length};
-ghost use Rattle.lines.specs.Count.{Counted};
+ghost use Rattle.answers.specs.Count.{Counted};
 
 fn say(text: &[u8]) {
     io::write_all(STDOUT_FILENO, text);

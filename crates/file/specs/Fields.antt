@@ -7,7 +7,7 @@ use Rattle.file.specs.declared.trailer.Trailered.{Trailered}
 use Rattle.file.specs.declared.trailer.Trailered.the-variants.{Good, Refused}
 use Rattle.file.specs.declared.fields.Entry.{Entry}
 use Rattle.file.specs.declared.fields.Member.{Member}
-use Rattle.file.specs.Refusal.{numberOf, placeOf}
+use Rattle.said.specs.Refusal.{numberOf, placeOf}
 
 abbrev pub trailerIs : Trailer → wgsl.Trailer
 trailerIs t = record { types = t .types; members = t .members; start = t .start; form = t .form }

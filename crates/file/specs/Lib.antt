@@ -1,3 +1,2 @@
-pub mod Refusal
 pub mod Fields
 pub mod Members

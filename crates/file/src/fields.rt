@@ -1,6 +1,8 @@
 // Type entries and member entries, field by field.
 use numbers::bytes::u16_at;
 use numbers::bytes::u32_at;
+use numbers::wide::wide8;
+use numbers::wide::wide16;
 ghost use mathlib.Core.Path.{_≡_};
 ghost use Prim.Native.Nat.{_+_, _≤_, _<_};
 ghost use lib.ListN.{length};
@@ -25,18 +27,6 @@ pub struct Member {
     pub flags: u32,
     pub size: u32,
     pub align: u32,
-}
-
-fn wide8(x: u8) -> u32
-    ensures { λ r. ⌜ (r ≡ x) × (r < 256) ⌝ }
-{
-    x as u32
-}
-
-fn wide16(x: u16) -> u32
-    ensures { λ r. ⌜ (r ≡ x) × (r < 65536) ⌝ }
-{
-    x as u32
 }
 
 // The number in one byte, and in two, with its bound.

@@ -1,7 +1,8 @@
 // The trailer, and the refusals 1 to 4.
 use crate::fields::half;
-use crate::refusal::Refusal;
 use numbers::bytes::u32_at;
+use numbers::wide::wide;
+use said::refusal::Refusal;
 ghost use mathlib.Core.Path.{_≡_};
 ghost use Prim.Native.Nat.{_≤_, _<_};
 ghost use lib.ListN.{length};
@@ -18,12 +19,6 @@ pub struct Trailer {
 pub enum Trailered {
     Good(Trailer),
     Refused(Refusal),
-}
-
-pub fn wide(x: u32) -> usize
-    ensures { λ r. ⌜ (r ≡ x) × (r < 4294967296) ⌝ }
-{
-    x as usize
 }
 
 // The fields of the trailer, where the file has one.

@@ -7,8 +7,8 @@ use Prim.Native.Nat.{ℕ}
 use mathlib.Core.List.{List}
 use contract.Lifetimes.{Lfts}
 use denote.Ref.{RefT, now, at-last}
-use Rattle.layout.specs.declared.ask.Number.{Number}
-use Rattle.walker.specs.declared.walk.Walked.{Walked}
+use Rattle.said.specs.declared.answer.Number.{Number}
+use Rattle.said.specs.declared.target.Walked.{Walked}
 use Rattle.words.proofs.reading.read.Reads as reading
 use Rattle.words.proofs.writing.write.Reads as writing
 use Rattle.paths.proofs.view.view_at.Reads as viewing

@@ -21,12 +21,12 @@ use Rattle.wgsl.specs.Demand.{Given, Leading, Words, SetThenRead}
 use Rattle.wgsl.proofs.Said.{good-not-refused}
 use Rattle.wgsl.proofs.Claims.{writing-good-if, writing, reading-what-was-written}
 use Rattle.wgsl.proofs.Demand.{demand-three}
-use Rattle.layout.specs.declared.ask.Number.{Number}
-use Rattle.layout.specs.declared.ask.Number.the-variants.{Is}
-use Rattle.layout.specs.Answer.{saidNumber}
-use Rattle.layout.proofs.Single.{single-number}
-use Rattle.walker.specs.declared.walk.Target.{Target}
-use Rattle.walker.specs.Walk.{targetIs, reached}
+use Rattle.said.specs.declared.answer.Number.{Number}
+use Rattle.said.specs.declared.answer.Number.the-variants.{Is}
+use Rattle.said.specs.Answer.{saidNumber}
+use Rattle.said.proofs.Single.{single-number}
+use Rattle.said.specs.declared.target.Target.{Target}
+use Rattle.said.specs.Target.{targetIs, reached}
 use Rattle.paths.proofs.Settings.{scalar-shape}
 use Rattle.lepugaso.specs.Claim.{Writes, Reads, Sets}
 use Rattle.lepugaso.specs.Demand.{Filled, TwoOnTheCode, ToScalar, IsSet, OneReplaced, ThreeOnTheCode}

@@ -6,10 +6,10 @@ use Prim.Native.Nat.{ℕ}
 use mathlib.Core.List.{List}
 use mathlib.Core.Path.{_≡_}
 use Rattle.wgsl.specs.Call.{answerOf, contentsOf, readCall, writeCall, viewCall, setCall}
-use Rattle.layout.specs.declared.ask.Number.{Number}
-use Rattle.layout.specs.Answer.{saidNumber}
-use Rattle.walker.specs.declared.walk.Walked.{Walked}
-use Rattle.walker.specs.Walk.{saidWalked, reached}
+use Rattle.said.specs.declared.answer.Number.{Number}
+use Rattle.said.specs.Answer.{saidNumber}
+use Rattle.said.specs.declared.target.Walked.{Walked}
+use Rattle.said.specs.Target.{saidWalked, reached}
 
 -- `write` of the words ws as entry e of the file f into the buffer b answers r and leaves b′ in the buffer
 pub record Writes (f : List ℕ) (e : ℕ) (ws b : List ℕ) (r : Number) (b′ : List ℕ) : Type 0 where

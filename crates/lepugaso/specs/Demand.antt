@@ -13,11 +13,11 @@ use Rattle.wgsl.specs.Types.{Ty, isOpen}
 use Rattle.wgsl.specs.Place.{extentOf, places, wordCount, wordsRead}
 use Rattle.wgsl.specs.Claim.{Outside, Apart, Uncovered, Stored, CanWrite}
 use Rattle.wgsl.specs.Demand.{Given, Words}
-use Rattle.file.specs.declared.refusal.Refusal.{Refusal}
-use Rattle.layout.specs.declared.ask.Number.{Number}
-use Rattle.layout.specs.declared.ask.Number.the-variants.{Is, Refused}
-use Rattle.walker.specs.declared.walk.Target.{Target}
-use Rattle.walker.specs.declared.walk.Walked.the-variants.{To}
+use Rattle.said.specs.declared.refusal.Refusal.{Refusal}
+use Rattle.said.specs.declared.answer.Number.{Number}
+use Rattle.said.specs.declared.answer.Number.the-variants.{Is, Refused}
+use Rattle.said.specs.declared.target.Target.{Target}
+use Rattle.said.specs.declared.target.Walked.the-variants.{To}
 use Rattle.lepugaso.specs.Claim.{Writes, Reads, Views, Sets}
 
 -- ---- demand 2

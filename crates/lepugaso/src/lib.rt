@@ -1,19 +1,19 @@
 // The public calls, in one place. None has a `requires`: any bytes of any length and any numbers are answered. Each answers a number or a
-// refusal (`layout::ask::Number`), but for `layout`, which answers all three numbers of an entry (`layout::ask::Answer`), `view_at`, which
-// answers a target (`walker::walk::Walked`), the two views, which hand back a part of the buffer that they were lent, and the four calls on
+// refusal (`layout_ask::Number`), but for `layout`, which answers all three numbers of an entry (`layout_ask::Answer`), `view_at`, which
+// answers a target (`walk_path::walk::Walked`), the two views, which hand back a part of the buffer that they were lent, and the four calls on
 // numbers alone, which answer a number.
 
 // How many entries an accepted file has; else 1 to 7.
-pub use layout::ask::check;
+pub use layout_ask::check;
 // The size, the alignment and the minimum size of an entry's type; else 1 to 9.
-pub use layout::ask::align;
-pub use layout::ask::min_size;
-pub use layout::ask::size;
+pub use layout_ask::align;
+pub use layout_ask::min_size;
+pub use layout_ask::size;
 // All three, absent ones marked; else 1 to 8.
-pub use layout::ask::layout;
+pub use layout_ask::layout;
 // The rank of one entry's type to another's, and the common type of a list of entries; else 1 to 8, 18.
-pub use convert::ask::common;
-pub use convert::ask::rank;
+pub use convert_ask::common;
+pub use convert_ask::rank;
 // The words of an entry into a buffer (the byte count), and out of one (the word count); else 1 to 10, 14 to 17.
 pub use words::reading::read;
 pub use words::writing::write;

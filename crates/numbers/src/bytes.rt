@@ -1,21 +1,15 @@
 // Little-endian numbers at an offset of a slice of bytes.
+use crate::wide::wide16;
 ghost use mathlib.Core.Path.{_≡_};
 ghost use Prim.Native.Nat.{_+_, _≤_, _<_};
 ghost use lib.ListN.{length};
 ghost use Rattle.wgsl.specs.Number.{load, store};
 
 // A byte as a number of 16 bits, with its bound.
-fn wide8(x: u8) -> u16
+fn doubled(x: u8) -> u16
     ensures { λ r. ⌜ (r ≡ x) × (r < 256) ⌝ }
 {
     x as u16
-}
-
-// A number of 16 bits as one of 32, with its bound.
-fn wide16(x: u16) -> u32
-    ensures { λ r. ⌜ (r ≡ x) × (r < 65536) ⌝ }
-{
-    x as u32
 }
 
 // The number that the two bytes from `at` hold.
@@ -23,8 +17,8 @@ pub fn u16_at(b: &[u8], at: usize) -> u16
     requires { ⌜ at + 2 ≤ length (now b) ⌝ }
     ensures { λ r. ⌜ r ≡ load 2 (now (b .entry)) at ⌝ }
 {
-    let low = wide8(b[at]);
-    let high = wide8(b[at + 1]);
+    let low = doubled(b[at]);
+    let high = doubled(b[at + 1]);
     low + 256 * high
 }
 

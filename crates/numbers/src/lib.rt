@@ -2,3 +2,4 @@
 pub mod bytes;
 pub mod limit;
 pub mod power;
+pub mod wide;

@@ -1,4 +1,5 @@
 // Numbers that are at most 4,294,967,295, or too large (document 01's refusal 7).
+use crate::wide::wide32;
 ghost use mathlib.Core.Path.{_≡_};
 ghost use Prim.Native.Nat.{_+_, _*_, _<_};
 ghost use Rattle.wgsl.specs.Round.{up};
@@ -7,13 +8,6 @@ ghost use Rattle.numbers.specs.Limit.{limited};
 pub enum Limited {
     Is(u32),
     TooLarge,
-}
-
-// A number of 32 bits as one of 64, with its bound.
-fn wide32(x: u32) -> u64
-    ensures { λ r. ⌜ (r ≡ x) × (r < 4294967296) ⌝ }
-{
-    x as u64
 }
 
 // The number itself, if it is within the limit.

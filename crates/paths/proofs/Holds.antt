@@ -20,14 +20,14 @@ use Rattle.wgsl.specs.Call.{isShort, targetIn}
 use Rattle.wgsl.proofs.Call.{short-no}
 use Rattle.wgsl.proofs.Tail.{closed-tail, closed-extent}
 use Rattle.wgsl.proofs.Elements.{open-tail}
-use Rattle.kinds.specs.declared.value.Layout.{Layout}
-use Rattle.kinds.specs.Value.{valueOf}
-use Rattle.shapes.proofs.Sites.{site-well-formed}
-use Rattle.decide.specs.declared.Tail as declared
-use Rattle.decide.specs.declared.Found.the-variants as found
-use Rattle.decide.specs.Decide.{elementsFound, tailFrom, Findable}
-use Rattle.decide.proofs.Calls.{found-short, found-there}
-use Rattle.decide.proofs.Tails.{layout-value, open-found, found-opened}
+use Rattle.layout_values.specs.declared.value.Layout.{Layout}
+use Rattle.layout_values.specs.Value.{valueOf}
+use Rattle.walk_shapes.proofs.Sites.{site-well-formed}
+use Rattle.walk_decide.specs.declared.Tail as declared
+use Rattle.walk_decide.specs.declared.Found.the-variants as found
+use Rattle.walk_decide.specs.Decide.{elementsFound, tailFrom, Findable}
+use Rattle.walk_decide.proofs.Calls.{found-short, found-there}
+use Rattle.walk_decide.proofs.Tails.{layout-value, open-found, found-opened}
 use Rattle.paths.specs.declared.locate.Held.{Held}
 use Rattle.paths.specs.declared.locate.Held.the-variants.{Is, No}
 use Rattle.paths.specs.Locate.{heldOf, Viewable, Opening}

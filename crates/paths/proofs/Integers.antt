@@ -20,8 +20,8 @@ use Rattle.wgsl.specs.BitField.{extractedU32, extractedI32, inserted}
 use Rattle.wgsl.specs.BitFieldCall.{isInteger, isSigned, Found, integerAt, wordOf, extractedAs, extractCall, insertCall}
 use Rattle.wgsl.proofs.Absent.{true-not-false}
 use Rattle.wgsl.proofs.Said.{good-not-refused, then-good, then-cases, then-is, then-refused}
-use Rattle.walker.specs.declared.walk.Target.{Target}
-use Rattle.walker.specs.Walk.{scalarIn, targetIs}
+use Rattle.said.specs.declared.target.Target.{Target}
+use Rattle.said.specs.Target.{scalarIn, targetIs}
 use Rattle.paths.specs.Locate.{targetCall}
 use Rattle.paths.specs.Field.{integerOf, foundIs, foundIn, Integer}
 use Rattle.wgsl.proofs.BitFieldCall.{integer-width, integer-room}

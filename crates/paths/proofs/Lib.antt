@@ -5,5 +5,5 @@ pub mod Targets
 pub mod Plants
 pub mod Rooms
 pub mod Settings
-pub mod Single
+pub mod PartLength
 pub mod Integers

@@ -18,12 +18,12 @@ use Rattle.wgsl.specs.Call.{entryOf, laidEntry, storedEntry}
 use Rattle.wgsl.specs.Claim.{LaidOut}
 use Rattle.wgsl.proofs.Said.{refuse-good, next-is, good-not-refused}
 use Rattle.wgsl.proofs.Call.{laid-good, stored-good}
-use Rattle.kinds.specs.declared.value.Layout.{Layout}
-use Rattle.kinds.specs.Value.{valueOf}
-use Rattle.kinds.proofs.Presence.{unaligned}
-use Rattle.decide.specs.Decide.{allowedFor}
-use Rattle.decide.proofs.Allowing.{has-layout}
-use Rattle.decide.proofs.Stored.{stored-refused, stored-allowed}
+use Rattle.layout_values.specs.declared.value.Layout.{Layout}
+use Rattle.layout_values.specs.Value.{valueOf}
+use Rattle.layout_values.proofs.Presence.{unaligned}
+use Rattle.walk_decide.specs.Decide.{allowedFor}
+use Rattle.walk_decide.proofs.Allowing.{has-layout}
+use Rattle.walk_decide.proofs.Stored.{stored-refused, stored-allowed}
 use Rattle.paths.specs.Locate.{allowedAs}
 
 -- ---- by the layout

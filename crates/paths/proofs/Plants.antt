@@ -11,9 +11,9 @@ use Rattle.wgsl.specs.Size.{hasLayout}
 use Rattle.wgsl.specs.Said.{good, refused}
 use Rattle.wgsl.specs.Call.{entryOf, laidEntry, storedEntry, targetIn}
 use Rattle.wgsl.proofs.Said.{then-is, then-refused}
-use Rattle.table.specs.declared.Ground.{Ground}
-use Rattle.decide.specs.Entry.{membersPart, Entry}
-use Rattle.decide.proofs.Entries.{entry-site, entry-layout}
+use Rattle.layout_table.specs.declared.Ground.{Ground}
+use Rattle.walk_decide.specs.Entry.{membersPart, Entry}
+use Rattle.walk_decide.proofs.Entries.{entry-site, entry-layout}
 use Rattle.paths.specs.Locate.{Viewable, targetCall}
 use Rattle.paths.proofs.Permits.{entryAs}
 

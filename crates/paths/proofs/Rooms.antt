@@ -18,8 +18,8 @@ use Rattle.wgsl.specs.Call.{targetIn, viewCall, partOf, partStart}
 use Rattle.wgsl.proofs.Said.{good-not-refused, then-good, refuse-good}
 use Rattle.wgsl.proofs.Path.{target-inside}
 use Rattle.wgsl.proofs.Call.{entry-sound, short-no}
-use Rattle.walker.specs.declared.walk.Target.{Target}
-use Rattle.walker.specs.Walk.{targetIs, reached}
+use Rattle.said.specs.declared.target.Target.{Target}
+use Rattle.said.specs.Target.{targetIs, reached}
 use Rattle.paths.specs.Locate.{targetCall}
 use Rattle.paths.specs.Set.{Roomy}
 use Rattle.paths.specs.View.{PartIs}

@@ -18,9 +18,9 @@ use Rattle.wgsl.specs.Path as path
 use Rattle.wgsl.specs.Call.{storedEntry, scalarAt, setCall}
 use Rattle.wgsl.proofs.Shape.{Sound}
 use Rattle.wgsl.proofs.Said.{then-good, then-cases, then-is, then-refused}
-use Rattle.kinds.proofs.Scalar.{kind-bounded}
-use Rattle.walker.specs.Walk.{scalarIn}
-use Rattle.walker.specs.declared.walk.Target.{Target}
+use Rattle.layout_values.proofs.Scalar.{kind-bounded}
+use Rattle.said.specs.Target.{scalarIn}
+use Rattle.said.specs.declared.target.Target.{Target}
 use Rattle.paths.specs.Locate.{targetCall}
 use Rattle.paths.specs.Set.{storedAs, setAs, Narrow, Roomy}
 

@@ -11,9 +11,9 @@ use Rattle.wgsl.specs.Said.{good, _>>=_, orRefuse}
 use Rattle.wgsl.specs.Place.{shapeOf, spanOf}
 use Rattle.wgsl.specs.Call.{entryOf}
 use Rattle.wgsl.proofs.Call.{entry-sound}
-use Rattle.kinds.specs.declared.value.Layout.{Layout}
-use Rattle.walker.specs.declared.enter.Place.the-variants.{Entry}
-use Rattle.walker.specs.Way.{at-entry, Standing}
+use Rattle.layout_values.specs.declared.value.Layout.{Layout}
+use Rattle.walk_path.specs.declared.enter.Place.the-variants.{Entry}
+use Rattle.walk_path.specs.Way.{at-entry, Standing}
 use Rattle.paths.specs.Locate.{Viewable}
 use Rattle.paths.proofs.Holds.{There}
 

@@ -10,7 +10,7 @@ use Rattle.wgsl.specs.Rank.{kindOf}
 use Rattle.wgsl.specs.Path as path
 use Rattle.wgsl.specs.Call.{scalarAt}
 use Rattle.wgsl.specs.BitFieldCall.{isInteger, Found}
-use Rattle.walker.specs.declared.walk.Target.{Target}
+use Rattle.said.specs.declared.target.Target.{Target}
 
 -- 14
 unfoldable pub integerOf : path.Target → Said Found

@@ -16,11 +16,11 @@ use Rattle.wgsl.specs.Rule.{isWellFormed}
 use Rattle.wgsl.specs.Place.{tailOf, extentOf, elementsIn}
 use Rattle.wgsl.specs.Path.{Target}
 use Rattle.wgsl.specs.Call.{laidEntry, storedEntry, isShort, targetIn}
-use Rattle.kinds.specs.declared.value.Layout.{Layout}
-use Rattle.kinds.specs.Value.{layoutAt}
-use Rattle.shapes.specs.Site.{Site}
-use Rattle.decide.specs.declared.Tail.{Tail}
-use Rattle.decide.specs.Decide.{allowedFor}
+use Rattle.layout_values.specs.declared.value.Layout.{Layout}
+use Rattle.layout_values.specs.Value.{layoutAt}
+use Rattle.walk_shapes.specs.Site.{Site}
+use Rattle.walk_decide.specs.declared.Tail.{Tail}
+use Rattle.walk_decide.specs.Decide.{allowedFor}
 use Rattle.paths.specs.declared.locate.Held.{Held}
 use Rattle.paths.specs.declared.locate.Held.the-variants.{Is, No}
 

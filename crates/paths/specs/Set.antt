@@ -12,8 +12,8 @@ use Rattle.wgsl.specs.Place.{spanOf, wordPlaces, storeWords, checkWords}
 use Rattle.wgsl.specs.Path as path
 use Rattle.wgsl.specs.Call.{Done, scalarAt}
 use Rattle.wgsl.proofs.Shape.{Sound}
-use Rattle.walker.specs.declared.walk.Target.{Target}
-use Rattle.walker.specs.Walk.{targetIs}
+use Rattle.said.specs.declared.target.Target.{Target}
+use Rattle.said.specs.Target.{targetIs}
 
 -- 16, and the word stored in a scalar
 unfoldable pub storedAs : Scalar → ℕ → ℕ → List ℕ → Said Done

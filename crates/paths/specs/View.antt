@@ -9,10 +9,6 @@ use Rattle.wgsl.specs.Path.{Target}
 use Rattle.wgsl.specs.Call.{partOf, partStart}
 use Rattle.paths.specs.declared.view.Part.{Part}
 
--- so many bytes after a place in memory, which is a block and an offset in it
-abbrev pub after : ℕ × ℕ → ℕ → ℕ × ℕ
-after p n = (p .0, n + p .1)
-
 -- the part p of a buffer b is the one that the call hands back
 pub record PartIs (p : Part) (said : Said Target) (b : List ℕ) : Type 0 where
   pub start-is : p .from ≡ partStart said

@@ -1,11 +1,11 @@
 // `set`: one scalar at a path. Document 01's order is that of a view with 10, then 14, 16.
 use crate::locate::locate;
-use file::refusal::Refusal;
-use layout::ask::Number;
 use numbers::bytes::store_u16;
 use numbers::bytes::store_u32;
-use walker::walk::Target;
-use walker::walk::Walked;
+use said::answer::Number;
+use said::refusal::Refusal;
+use said::target::Target;
+use said::target::Walked;
 ghost use mathlib.Core.Path.{_≡_};
 ghost use Prim.Native.Nat.{_+_, _≤_};
 ghost use lib.ListN.{length};
@@ -14,7 +14,7 @@ ghost use Rattle.wgsl.specs.Types.{Scalar};
 ghost use Rattle.wgsl.specs.Place.{one};
 ghost use Rattle.wgsl.specs.Path as path;
 ghost use Rattle.wgsl.specs.Call.{answerOf, contentsOf, setCall};
-ghost use Rattle.layout.specs.Answer.{saidNumber};
+ghost use Rattle.said.specs.Answer.{saidNumber};
 ghost use Rattle.paths.specs.Set.{setAs, storedAs, Roomy, Narrow};
 
 // 16 for an f16, and its two bytes at `at`.

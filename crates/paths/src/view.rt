@@ -1,14 +1,14 @@
 // `view` and `view_mut`: the bytes that a path leads to, as that part of the caller's own buffer.
 use crate::locate::locate;
-use walker::walk::Walked;
+use said::target::Walked;
 ghost use denote.Ref.{ptr};
 ghost use mathlib.Core.Path.{_≡_};
 ghost use mathlib.Core.List.{List};
 ghost use Prim.Native.Nat.{ℕ};
 ghost use lib.ListN.{length};
 ghost use Rattle.wgsl.specs.Call.{viewCall, partOf, partStart};
-ghost use Rattle.walker.specs.Walk.{saidWalked, reached};
-ghost use Rattle.paths.specs.View.{after, PartIs};
+ghost use Rattle.said.specs.Target.{saidWalked, reached, after};
+ghost use Rattle.paths.specs.View.{PartIs};
 
 // What `path` leads to from entry `entry`: its offset, its bytes and its scalar.
 // Refuses 1 to 7 (file), 8, 17, 9 (no layout), 15, then 11 to 13 (the first bad step).

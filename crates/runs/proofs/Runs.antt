@@ -14,11 +14,11 @@ use borrow.Author.Tests.{lt-ltb, le-ltb}
 use Rattle.wgsl.specs.Number.{bytesOf, store}
 use Rattle.wgsl.specs.Said.{good, refused, _>>_, refuse}
 use Rattle.wgsl.specs.Place.{Place, repeated, canHold}
-use Rattle.folds.specs.Fold.{overPlaces, testing}
-use Rattle.folds.specs.Run.{runPlaces}
-use Rattle.folds.proofs.Folds.{over-append, over-all, over-next, over-none, run-length, run-append}
+use Rattle.runs.specs.Fold.{overPlaces, testing}
+use Rattle.runs.specs.Run.{runPlaces}
+use Rattle.runs.proofs.Folds.{over-append, over-all, over-next, over-none, run-length, run-append}
 use Rattle.runs.specs.declared.Parts.{Parts}
-use Rattle.runs.specs.Run.{Room}
+use Rattle.runs.specs.Ask.{Room}
 
 -- ---- what is left of a run
 

@@ -1,1 +1,3 @@
+pub mod Fold
 pub mod Run
+pub mod Ask

@@ -1,21 +1,13 @@
--- What the functions over runs and parts ask, and what a scan says, in the words of crates/wgsl.
+-- Runs of words (01, "Sizes and places": "a column has rows x scalar size"), and parts, in the words of crates/wgsl.
 -- Definitions only. Assumes nothing.
-use Prim.Native.Nat.{ℕ, _+_, _*_, _≤_}
-use mathlib.Core.Path.{_≡_}
-use mathlib.Core.Logic.{_⊎_}
-use Rattle.wgsl.specs.Said.{Said, good, refused}
-use Rattle.runs.specs.declared.Parts.{Parts}
-use Rattle.runs.specs.declared.Scan.{Scan}
-use Rattle.runs.specs.declared.Scan.the-variants.{Fine, Bad}
+use Prim.Native.Nat.{ℕ}
+use mathlib.Core.List.{List, [], _∷_}
+use Rattle.wgsl.specs.Place.{Place, repeated}
 
--- parts from byte `at` and word `k` on lie inside so many bytes and words
-pub record Room (p : Parts) (at bytes k words : ℕ) : Type 0 where
-  pub width : (p .width ≡ 2) ⊎ (p .width ≡ 4)
-  pub fits : p .unit * p .width ≤ p .stride
-  pub bytes-there : at + p .count * p .stride ≤ bytes
-  pub words-there : k + p .count * p .unit ≤ words
+-- n words of one width, one after the other from `at` on
+unfoldable pub runPlaces : ℕ → ℕ → ℕ → List Place
+runPlaces n width at = repeated n width (λ p. record { at = p; width = width } ∷ []) at
 
--- refusal 16 at the first word that does not fit
-abbrev pub saidScan : Scan → Said (Unit {0})
-saidScan Fine = good tt
-saidScan (Bad k) = refused 16 k
+-- so many runs of `unit` words, each a stride after the one before
+unfoldable pub partPlaces : ℕ → ℕ → ℕ → ℕ → ℕ → List Place
+partPlaces count unit width stride at = repeated count stride (λ p. runPlaces unit width p) at

@@ -9,9 +9,9 @@ ghost use mathlib.Core.Logic.{_⊎_};
 ghost use Prim.Native.Nat.{_+_, _*_, _≤_};
 ghost use lib.ListN.{length};
 ghost use Rattle.wgsl.specs.Said.{good};
-ghost use Rattle.folds.specs.Fold.{overPlaces, storing, loading, testing};
-ghost use Rattle.folds.specs.Run.{runPlaces, partPlaces};
-ghost use Rattle.runs.specs.Run.{Room, saidScan};
+ghost use Rattle.runs.specs.Fold.{overPlaces, storing, loading, testing};
+ghost use Rattle.runs.specs.Run.{runPlaces, partPlaces};
+ghost use Rattle.runs.specs.Ask.{Room, saidScan};
 
 // `count` runs of `unit` words of `width` bytes, each a `stride` after the one before.
 pub struct Parts {

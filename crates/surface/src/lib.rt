@@ -1,16 +1,16 @@
 // The exports for C: numbers and slices in, one struct of 16 bytes out. Nothing is decided here. The shim declares each of them again, in
 // Rust (shim/src/surface.rs); a test holds it to this file.
-use file::refusal::number;
-use file::refusal::place;
-use layout::ask::Answer;
-use layout::ask::Maybe;
-use layout::ask::Number;
-use walker::walk::Walked;
+use said::answer::Answer;
+use said::answer::Maybe;
+use said::answer::Number;
+use said::refusal::number;
+use said::refusal::place;
+use said::target::Walked;
 ghost use mathlib.Core.Path.{_≡_};
 ghost use Rattle.wgsl.specs.Call.{checkOf, sizeCall, alignCall, minSizeCall, layoutCall, rankCall, commonCall, answerOf, contentsOf, readCall, writeCall, offsetOf, viewCall, setCall};
 ghost use Rattle.wgsl.specs.BitField.{extractedU32, extractedI32, inserted, patternOf, signedOf};
 ghost use Rattle.wgsl.specs.BitFieldCall.{extractCall, insertCall};
-ghost use Rattle.layout.specs.Answer.{saidNumber, maybeOf};
+ghost use Rattle.said.specs.Answer.{saidNumber, maybeOf};
 ghost use Rattle.surface.specs.Crossing.{crossed, crossedMaybe, told, laidOut, sizeOut};
 
 // An answer as it crosses to C: 0 or document 01's number, its place, the value (0 when refused).

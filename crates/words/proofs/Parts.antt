@@ -9,11 +9,11 @@ use Rattle.wgsl.specs.Size.{isStorable}
 use Rattle.wgsl.specs.Said.{refused}
 use Rattle.wgsl.specs.Call.{entryOf, laidEntry, storedEntry}
 use Rattle.wgsl.proofs.Said.{then-refused}
-use Rattle.table.specs.declared.Ground.{Ground}
-use Rattle.decide.specs.Whole.{Ready, Tailed}
-use Rattle.decide.specs.Entry.{membersPart, Entry}
-use Rattle.decide.proofs.Tails.{ready-at, tailed-at}
-use Rattle.decide.proofs.Entries.{entry-site, entry-layout}
+use Rattle.layout_table.specs.declared.Ground.{Ground}
+use Rattle.walk_decide.specs.Whole.{Ready, Tailed}
+use Rattle.walk_decide.specs.Entry.{membersPart, Entry}
+use Rattle.walk_decide.proofs.Tails.{ready-at, tailed-at}
+use Rattle.walk_decide.proofs.Entries.{entry-site, entry-layout}
 
 module _ {f : List ℕ} {e : ℕ} {g : Ground} {table : List (List ℕ)} {t : Ty} (x : Entry f e g table t) where
   pub entry-ready : isStorable t ≡ true → Ready (membersPart f g) table e (g .layout) t

@@ -14,15 +14,15 @@ use Rattle.wgsl.specs.Place.{extentOf, places, wordCount, wordsRead}
 use Rattle.wgsl.specs.Call.{storedEntry, readCall}
 use Rattle.wgsl.proofs.Said.{then-is, then-refused}
 use Rattle.wgsl.proofs.Opened.{opened-extent}
-use Rattle.kinds.specs.declared.value.Layout.{Layout}
-use Rattle.kinds.specs.Value.{wordsIn}
-use Rattle.decide.specs.declared.Tail.{Tail}
-use Rattle.decide.specs.declared.Found.the-variants.{Is, No}
-use Rattle.decide.specs.Decide.{elementsFound}
-use Rattle.decide.specs.Whole.{readAs, Ready, TailedBy, loadedAs}
-use Rattle.decide.proofs.Wholes.{ready-words}
-use Rattle.decide.proofs.Bounds.{size-is, tailed-open}
-use Rattle.decide.proofs.Calls.{closed-short, closed-there, elements-short, elements-there, loaded-few, loaded-done}
+use Rattle.layout_values.specs.declared.value.Layout.{Layout}
+use Rattle.layout_values.specs.Value.{wordsIn}
+use Rattle.walk_decide.specs.declared.Tail.{Tail}
+use Rattle.walk_decide.specs.declared.Found.the-variants.{Is, No}
+use Rattle.walk_decide.specs.Decide.{elementsFound}
+use Rattle.walk_decide.specs.Whole.{readAs, Ready, TailedBy, loadedAs}
+use Rattle.walk_decide.proofs.Wholes.{ready-words}
+use Rattle.walk_decide.proofs.Bounds.{size-is, tailed-open}
+use Rattle.walk_decide.proofs.Calls.{closed-short, closed-there, elements-short, elements-there, loaded-few, loaded-done}
 
 -- ---- once the entry is decided
 

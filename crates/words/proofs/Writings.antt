@@ -16,17 +16,17 @@ use Rattle.wgsl.specs.Call.{storedEntry, writeCall}
 use Rattle.wgsl.proofs.Said.{then-is, then-refused}
 use Rattle.wgsl.proofs.Opened.{opened-extent}
 use Rattle.wgsl.proofs.Tail.{closed-extent}
-use Rattle.kinds.specs.declared.value.Layout.{Layout}
-use Rattle.kinds.specs.Value.{wordsIn}
-use Rattle.folds.specs.Fold.{overPlaces, storing}
-use Rattle.trees.specs.Placed.{runAt}
-use Rattle.decide.specs.declared.Tail.{Tail}
-use Rattle.decide.specs.declared.Found.the-variants.{Is, No}
-use Rattle.decide.specs.Decide.{elementsOf, extentFor}
-use Rattle.decide.specs.Whole.{writtenAs, Ready, TailedBy, Whole, heldAs, storedAs}
-use Rattle.decide.proofs.Wholes.{ready-words, stored-cleared, stored-covered}
-use Rattle.decide.proofs.Bounds.{size-is, tailed-open, tailed-words}
-use Rattle.decide.proofs.Calls.{closed-wrong, closed-right, open-wrong, open-right, extent-short, extent-there, held-short, held-there}
+use Rattle.layout_values.specs.declared.value.Layout.{Layout}
+use Rattle.layout_values.specs.Value.{wordsIn}
+use Rattle.runs.specs.Fold.{overPlaces, storing}
+use Rattle.walk_trees.specs.Placed.{runAt}
+use Rattle.walk_decide.specs.declared.Tail.{Tail}
+use Rattle.walk_decide.specs.declared.Found.the-variants.{Is, No}
+use Rattle.walk_decide.specs.Decide.{elementsOf, extentFor}
+use Rattle.walk_decide.specs.Whole.{writtenAs, Ready, TailedBy, Whole, heldAs, storedAs}
+use Rattle.walk_decide.proofs.Wholes.{ready-words, stored-cleared, stored-covered}
+use Rattle.walk_decide.proofs.Bounds.{size-is, tailed-open, tailed-words}
+use Rattle.walk_decide.proofs.Calls.{closed-wrong, closed-right, open-wrong, open-right, extent-short, extent-there, held-short, held-there}
 
 -- ---- once the entry is decided
 

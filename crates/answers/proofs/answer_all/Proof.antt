@@ -1,5 +1,5 @@
 -- Each turn passes a newline; the sizes of the file and of the buffer are counts of the front of their rooms.
-use Rattle.lines.specs.Count.{Counted}
+use Rattle.answers.specs.Count.{Counted}
 use Prim.Native.Nat.{_-_}
 use native.Mathlib.Omega.{arith}
 use borrow.Author.Needs.{needs}

@@ -7,8 +7,8 @@ use native.Mathlib.Omega.{arith}
 use borrow.Author.Needs.{needs}
 use denote.Ref.{now}
 use lib.ListN.{set, length-set}
-use Rattle.folds.specs.Fold.{overPlaces, loading}
-use Rattle.folds.specs.Run.{runPlaces}
+use Rattle.runs.specs.Fold.{overPlaces, loading}
+use Rattle.runs.specs.Run.{runPlaces}
 use Rattle.wgsl.specs.Place.{repeated}
 use Rattle.runs.proofs.Runs.{run-more}
 use Rattle.runs.proofs.read_few.Statement.{statement}

@@ -6,9 +6,9 @@ use native.Mathlib.Omega.{arith}
 use borrow.Author.Needs.{needs}
 use denote.Ref.{now}
 use Rattle.wgsl.specs.Said.{good}
-use Rattle.folds.specs.Fold.{overPlaces, testing}
-use Rattle.folds.specs.Run.{runPlaces}
-use Rattle.folds.proofs.Folds.{tested-refused}
+use Rattle.runs.specs.Fold.{overPlaces, testing}
+use Rattle.runs.specs.Run.{runPlaces}
+use Rattle.runs.proofs.Folds.{tested-refused}
 use Rattle.runs.proofs.Runs.{run-all, run-next, run-none, test-fits, test-past}
 use Rattle.runs.proofs.scan_two.Statement.{statement}
 use Rattle.runs.proofs.scan_two.Tie as tie

@@ -6,8 +6,8 @@ use mathlib.Core.Path.{_≡_, _∙_}
 use native.Mathlib.Omega.{arith}
 use borrow.Author.Needs.{needs}
 use denote.Ref.{now}
-use Rattle.folds.specs.Fold.{overPlaces, storing}
-use Rattle.folds.specs.Run.{runPlaces}
+use Rattle.runs.specs.Fold.{overPlaces, storing}
+use Rattle.runs.specs.Run.{runPlaces}
 use Rattle.wgsl.specs.Place.{repeated}
 use Rattle.runs.proofs.Runs.{run-more}
 use Rattle.runs.proofs.write_few.Statement.{statement}

@@ -7,9 +7,9 @@ use native.Mathlib.Omega.{arith}
 use borrow.Author.Needs.{needs}
 use denote.Ref.{now}
 use lib.ListN.{length}
-use Rattle.folds.specs.Fold.{overPlaces, storing}
-use Rattle.folds.specs.Run.{runPlaces, partPlaces}
-use Rattle.folds.proofs.Folds.{over-all, over-next, over-none, run-length, parts-touch, length-storing}
+use Rattle.runs.specs.Fold.{overPlaces, storing}
+use Rattle.runs.specs.Run.{runPlaces, partPlaces}
+use Rattle.runs.proofs.Folds.{over-all, over-next, over-none, run-length, parts-touch, length-storing}
 use Rattle.runs.proofs.Runs.{part-room}
 use Rattle.runs.proofs.write_parts.Statement.{statement}
 use Rattle.runs.proofs.write_parts.Tie as tie

@@ -5,8 +5,8 @@ use mathlib.Core.List.{[], _∷_}
 use mathlib.Core.Path.{_≡_, ap, sym, _∙_}
 use Rattle.wgsl.specs.Said.{Said}
 use Rattle.wgsl.specs.Call.{Layout}
-use Rattle.layout.specs.Answer.{saidAnswer}
-use Rattle.layout.specs.declared.ask.Answer.{Answer}
+use Rattle.said.specs.Answer.{saidAnswer}
+use Rattle.said.specs.declared.answer.Answer.{Answer}
 use Rattle.surface.specs.Crossing.{crossed, told, laidOut}
 use Rattle.surface.proofs.lepugaso_surface_layout.Statement.{statement}
 use Rattle.surface.proofs.lepugaso_surface_layout.Tie as tie

@@ -6,8 +6,8 @@ use Rattle.wgsl.specs.Said.{Said, good, refused}
 use Rattle.wgsl.specs.Path as path
 use Rattle.wgsl.specs.Call.{offsetOf}
 use Rattle.wgsl.proofs.Said.{good-not-refused}
-use Rattle.walker.specs.declared.walk.Target.{Target}
-use Rattle.walker.specs.Walk.{targetIs, reached}
+use Rattle.said.specs.declared.target.Target.{Target}
+use Rattle.said.specs.Target.{targetIs, reached}
 use Rattle.surface.specs.Crossing.{crossed, sizeOut}
 use Rattle.surface.proofs.lepugaso_surface_view.Statement.{statement}
 use Rattle.surface.proofs.lepugaso_surface_view.Tie as tie

@@ -6,8 +6,8 @@ use lib.ListN.{length}
 use Rattle.wgsl.specs.Said.{good, refused}
 use Rattle.wgsl.specs.Call.{answerOf, contentsOf}
 use Rattle.wgsl.specs.BitFieldCall.{Found, integerAt, insertCall}
-use Rattle.file.specs.Refusal.{numberOf, placeOf}
-use Rattle.layout.specs.Answer.{saidNumber}
+use Rattle.said.specs.Refusal.{numberOf, placeOf}
+use Rattle.said.specs.Answer.{saidNumber}
 use Rattle.paths.specs.Field.{Integer}
 use Rattle.paths.proofs.Integers.{at-offset, integer-there, insert-refused, insert-found}
 use Rattle.paths.proofs.field.insert_bits.Statement.{statement}

@@ -3,8 +3,8 @@ use mathlib.Core.Logic.{inl, inr}
 use mathlib.Core.Path.{_≡_, ap, sym, _∙_}
 use Rattle.wgsl.specs.Said.{good}
 use Rattle.wgsl.specs.Path as path
-use Rattle.walker.specs.declared.walk.Target.{Target}
-use Rattle.walker.specs.Walk.{targetIs}
+use Rattle.said.specs.declared.target.Target.{Target}
+use Rattle.said.specs.Target.{targetIs}
 use Rattle.paths.specs.Field.{foundIn}
 use Rattle.paths.proofs.Integers.{found-integer, found-none}
 use Rattle.paths.proofs.field.integer_of.Statement.{statement}

@@ -4,9 +4,9 @@ use mathlib.Core.Path.{_≡_, sym, _∙_}
 use native.Mathlib.Omega.{arith}
 use borrow.Author.Needs.{needs}
 use Rattle.wgsl.specs.Round.{limit}
-use Rattle.decide.specs.declared.Found.the-variants.{Is}
-use Rattle.decide.specs.Decide.{elementsFound}
-use Rattle.decide.proofs.Calls.{found-inside}
+use Rattle.walk_decide.specs.declared.Found.the-variants.{Is}
+use Rattle.walk_decide.specs.Decide.{elementsFound}
+use Rattle.walk_decide.proofs.Calls.{found-inside}
 use Rattle.paths.proofs.Holds.{stride-above, open-short, open-there}
 use Rattle.paths.proofs.locate.held_open.Statement.{statement}
 use Rattle.paths.proofs.locate.held_open.Tie as tie

@@ -4,9 +4,9 @@ use denote.Ref.{now}
 use borrow.Author.Needs.{needs}
 use Rattle.wgsl.specs.Types.{Ty}
 use Rattle.file.specs.Fields.{saidTrailer}
-use Rattle.walker.specs.Walk.{reached}
-use Rattle.decide.specs.Entry.{Entry}
-use Rattle.decide.proofs.Entries.{entry-found, entry-missing, trailer-refused}
+use Rattle.said.specs.Target.{reached}
+use Rattle.walk_decide.specs.Entry.{Entry}
+use Rattle.walk_decide.proofs.Entries.{entry-found, entry-missing, trailer-refused}
 use Rattle.paths.proofs.Plants.{target-missing}
 use Rattle.paths.proofs.locate.locate.Statement.{statement}
 use Rattle.paths.proofs.locate.locate.Tie as tie

@@ -4,11 +4,11 @@ use denote.Ref.{now}
 use borrow.Author.Needs.{needs}
 use Rattle.wgsl.specs.Types.{Ty}
 use Rattle.wgsl.specs.Said.{good, refused}
-use Rattle.file.specs.Refusal.{numberOf, placeOf}
-use Rattle.walker.specs.Walk.{reached}
+use Rattle.said.specs.Refusal.{numberOf, placeOf}
+use Rattle.said.specs.Target.{reached}
 use Rattle.paths.specs.Locate.{allowedAs}
-use Rattle.decide.specs.Entry.{Entry}
-use Rattle.decide.proofs.Entries.{entry-value, entry-well-formed}
+use Rattle.walk_decide.specs.Entry.{Entry}
+use Rattle.walk_decide.proofs.Entries.{entry-value, entry-well-formed}
 use Rattle.paths.proofs.Permits.{allowed-laid, entry-refused, entry-allowed}
 use Rattle.paths.proofs.Plants.{entry-viewable, target-refused, target-allowed}
 use Rattle.paths.proofs.locate.target_at.Statement.{statement}

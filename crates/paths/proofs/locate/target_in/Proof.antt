@@ -8,7 +8,7 @@ use denote.Ref.{now}
 use lib.ListN.{length, replicate, length-replicate}
 use Rattle.wgsl.specs.Types.{Ty}
 use Rattle.wgsl.specs.Place.{shapeOf}
-use Rattle.walker.specs.Walk.{reached}
+use Rattle.said.specs.Target.{reached}
 use Rattle.paths.specs.Locate.{Viewable}
 use Rattle.paths.proofs.Holds.{There, target-short, target-there}
 use Rattle.paths.proofs.Targets.{begins}

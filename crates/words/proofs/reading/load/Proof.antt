@@ -2,7 +2,7 @@
 -- Assumes nothing.
 use mathlib.Core.Path.{_∙_}
 use Rattle.wgsl.specs.Place.{shapeOf}
-use Rattle.decide.proofs.Wholes.{fixed-room, rest-room, loaded-whole}
+use Rattle.walk_decide.proofs.Wholes.{fixed-room, rest-room, loaded-whole}
 use borrow.Author.Needs.{needs}
 use Rattle.words.proofs.reading.load.Statement.{statement}
 use Rattle.words.proofs.reading.load.Tie as tie

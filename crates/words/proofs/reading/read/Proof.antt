@@ -3,8 +3,8 @@ use mathlib.Core.Path.{ap, sym}
 use denote.Ref.{now}
 use Rattle.wgsl.specs.Types.{Ty}
 use Rattle.wgsl.specs.Call.{answerOf, contentsOf}
-use Rattle.decide.specs.Entry.{Entry}
-use Rattle.decide.proofs.Entries.{entry-found, entry-missing, trailer-refused}
+use Rattle.walk_decide.specs.Entry.{Entry}
+use Rattle.walk_decide.proofs.Entries.{entry-found, entry-missing, trailer-refused}
 use Rattle.words.proofs.Parts.{stored-missing}
 use Rattle.words.proofs.Readings.{read-refused}
 use borrow.Author.Needs.{needs}

@@ -7,9 +7,9 @@ use lib.ListN.{length}
 use Rattle.wgsl.specs.Said.{good}
 use Rattle.wgsl.specs.Call.{answerOf, contentsOf}
 use Rattle.wgsl.proofs.Tail.{closed-extent}
-use Rattle.kinds.specs.Value.{wordsIn}
-use Rattle.decide.proofs.Wholes.{ready-words, closed-whole}
-use Rattle.decide.proofs.Bounds.{size-is}
+use Rattle.layout_values.specs.Value.{wordsIn}
+use Rattle.walk_decide.proofs.Wholes.{ready-words, closed-whole}
+use Rattle.walk_decide.proofs.Bounds.{size-is}
 use Rattle.words.proofs.Readings.{few-bytes, few-words, all-read}
 use borrow.Author.Needs.{needs}
 use Rattle.words.proofs.reading.read_closed.Statement.{statement}

@@ -8,10 +8,10 @@ use Rattle.wgsl.specs.Types.{Ty}
 use Rattle.wgsl.specs.Said.{good}
 use Rattle.wgsl.specs.Place.{wordCount}
 use Rattle.wgsl.specs.Call.{answerOf, contentsOf}
-use Rattle.decide.specs.Whole.{TailedBy, Whole}
-use Rattle.decide.proofs.Wholes.{open-whole}
-use Rattle.decide.proofs.Bounds.{words-few, tailed-words, elements-few}
-use Rattle.decide.proofs.Calls.{loaded-few, loaded-done}
+use Rattle.walk_decide.specs.Whole.{TailedBy, Whole}
+use Rattle.walk_decide.proofs.Wholes.{open-whole}
+use Rattle.walk_decide.proofs.Bounds.{words-few, tailed-words, elements-few}
+use Rattle.walk_decide.proofs.Calls.{loaded-few, loaded-done}
 use borrow.Author.Needs.{needs}
 use Rattle.words.proofs.reading.read_elements.Statement.{statement}
 use Rattle.words.proofs.reading.read_elements.Tie as tie

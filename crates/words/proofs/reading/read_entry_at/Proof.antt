@@ -8,10 +8,10 @@ use Rattle.wgsl.specs.Types.{Ty, isOpen}
 use Rattle.wgsl.specs.Size.{isStorable}
 use Rattle.wgsl.specs.Said.{good, refused}
 use Rattle.wgsl.specs.Call.{answerOf, contentsOf, storedEntry, readCall}
-use Rattle.file.specs.Refusal.{numberOf, placeOf}
-use Rattle.decide.specs.Entry.{Entry}
-use Rattle.decide.proofs.Stored.{stored-refused, stored-allowed}
-use Rattle.decide.proofs.Entries.{entry-value, entry-well-formed}
+use Rattle.said.specs.Refusal.{numberOf, placeOf}
+use Rattle.walk_decide.specs.Entry.{Entry}
+use Rattle.walk_decide.proofs.Stored.{stored-refused, stored-allowed}
+use Rattle.walk_decide.proofs.Entries.{entry-value, entry-well-formed}
 use Rattle.words.proofs.Parts.{entry-ready, entry-tailed}
 use Rattle.words.proofs.Readings.{read-refused, read-allowed}
 use borrow.Author.Needs.{needs}

@@ -2,9 +2,9 @@
 -- matter for the test.
 use mathlib.Core.Path.{_∙_}
 use native.Mathlib.Omega.{arith}
-use Rattle.decide.proofs.Wholes.{fixed-words, whole-words, tested-bad, tested-good}
-use Rattle.folds.proofs.Folds.{tested-widths}
-use Rattle.scanner.proofs.Scans.{places-moved}
+use Rattle.walk_decide.proofs.Wholes.{fixed-words, whole-words, tested-bad, tested-good}
+use Rattle.runs.proofs.Folds.{tested-widths}
+use Rattle.words_test.proofs.Scans.{places-moved}
 use borrow.Author.Needs.{needs}
 use Rattle.words.proofs.writing.scan.Statement.{statement}
 use Rattle.words.proofs.writing.scan.Tie as tie

@@ -2,7 +2,7 @@
 use mathlib.Core.Path.{_∙_}
 use native.Mathlib.Omega.{arith}
 use Rattle.wgsl.specs.Place.{shapeOf}
-use Rattle.decide.proofs.Wholes.{fixed-room, rest-room}
+use Rattle.walk_decide.proofs.Wholes.{fixed-room, rest-room}
 use Rattle.words.proofs.Writings.{stored-either}
 use borrow.Author.Needs.{needs}
 use Rattle.words.proofs.writing.store.Statement.{statement}

@@ -2,8 +2,8 @@
 use mathlib.Core.Path.{_≡_, ap, sym, _∙_}
 use native.Mathlib.Omega.{arith}
 use Rattle.wgsl.specs.Call.{answerOf, contentsOf}
-use Rattle.kinds.specs.Value.{wordsIn}
-use Rattle.decide.proofs.Wholes.{ready-words, closed-whole}
+use Rattle.layout_values.specs.Value.{wordsIn}
+use Rattle.walk_decide.proofs.Wholes.{ready-words, closed-whole}
 use Rattle.words.proofs.Writings.{wrong-words, fixed-extent, few-bytes, all-there}
 use borrow.Author.Needs.{needs}
 use Rattle.words.proofs.writing.write_closed.Statement.{statement}

@@ -7,9 +7,9 @@ use lib.ListN.{length}
 use Rattle.wgsl.specs.Types.{Ty}
 use Rattle.wgsl.specs.Place.{extentOf}
 use Rattle.wgsl.specs.Call.{answerOf, contentsOf}
-use Rattle.decide.specs.Whole.{TailedBy, Whole}
-use Rattle.decide.proofs.Wholes.{open-whole}
-use Rattle.decide.proofs.Bounds.{stride-above, elements-few}
+use Rattle.walk_decide.specs.Whole.{TailedBy, Whole}
+use Rattle.walk_decide.proofs.Wholes.{open-whole}
+use Rattle.walk_decide.proofs.Bounds.{stride-above, elements-few}
 use Rattle.words.proofs.Writings.{no-room, room}
 use borrow.Author.Needs.{needs}
 use Rattle.words.proofs.writing.write_elements.Statement.{statement}

@@ -1,0 +1,62 @@
+// The rank of one scalar to another, by their kinds.
+ghost use mathlib.Core.Path.{_≡_};
+ghost use Rattle.wgsl.specs.Types.{Scalar};
+ghost use Rattle.wgsl.specs.Rank.{kindOf, fromAbstractInt, fromAbstractFloat, scalarRank};
+ghost use Rattle.convert_rank.specs.Ranked.{rankIs};
+
+// A rank, or none.
+pub enum Ranked {
+    Is(u32),
+    No,
+}
+
+// "abstract int to i32 3, u32 4, abstract float 5, f32 6, f16 7"
+fn from_abstract_int(kind: u32) -> Ranked
+    ensures { λ r. ⌜ ((s : Scalar) → kindOf s ≡ kind → (kind ≡ 5 → ⊥) → rankIs r ≡ fromAbstractInt s) ⌝ }
+{
+    if kind == 1 {
+        return Ranked::Is(3);
+    }
+    if kind == 2 {
+        return Ranked::Is(4);
+    }
+    if kind == 6 {
+        return Ranked::Is(5);
+    }
+    if kind == 3 {
+        return Ranked::Is(6);
+    }
+    if kind == 4 {
+        return Ranked::Is(7);
+    }
+    Ranked::No
+}
+
+// "abstract float to f32 1, f16 2"
+fn from_abstract_float(kind: u32) -> Ranked
+    ensures { λ r. ⌜ ((s : Scalar) → kindOf s ≡ kind → (kind ≡ 6 → ⊥) → rankIs r ≡ fromAbstractFloat s) ⌝ }
+{
+    if kind == 3 {
+        return Ranked::Is(1);
+    }
+    if kind == 4 {
+        return Ranked::Is(2);
+    }
+    Ranked::No
+}
+
+// The rank of the scalar of kind `a` to that of kind `b`.
+pub fn scalar_rank(a: u32, b: u32) -> Ranked
+    ensures { λ r. ⌜ ((s t : Scalar) → kindOf s ≡ a → kindOf t ≡ b → rankIs r ≡ scalarRank s t) ⌝ }
+{
+    if a == b {
+        return Ranked::Is(0);
+    }
+    if a == 5 {
+        return from_abstract_int(b);
+    }
+    if a == 6 {
+        return from_abstract_float(b);
+    }
+    Ranked::No
+}

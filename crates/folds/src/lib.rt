@@ -1,1 +1,0 @@
-// No code: passes over places (specs/Fold), runs of places (specs/Run), and the laws of both (proofs/).

@@ -1,2 +1,0 @@
-pub mod Asks
-pub mod Single

@@ -1,0 +1,25 @@
+-- Each answer is a law of `Asks`, over what `layout_of`, `mark` and `least` ensure.
+use Rattle.wgsl.specs.Call.{layoutCall}
+use Rattle.layout_ask.proofs.Asks.{ask-refused, ask-layout}
+use borrow.Author.Needs.{needs}
+use Rattle.layout_ask.proofs.layout.Statement.{statement}
+use Rattle.layout_ask.proofs.layout.Tie as tie
+
+returns : tie.Need-returns
+returns c =
+    let found = c .before .before .before .before .before .before .before .layout-of in
+    ask-layout _ _ (found .result) (found .ensures) _ (c .before .before .before .before .before .l .given .1) _
+    (c .before .least .ensures) (c .before .before .before .mark .ensures) (c .before .before .mark2 .ensures)
+    (c .mark3 .ensures)
+
+returns-2 : tie.Need-returns-2
+unfolding layoutCall
+returns-2 c =
+    let found = c .before .before .before .layout-of in
+    ask-refused _ _ (found .result) (found .ensures) _ _ (c .before .r .given .1)
+
+pub layout-spec : {M : Type 1} → statement M
+layout-spec =
+    tie.close (tie.spec
+    (λ c κs. search needs) (λ c. search needs) (λ c κs. search needs) (λ c κs. search needs) (λ c κs. search needs)
+    (λ c κs. search needs) (λ c. search needs) returns returns-2)

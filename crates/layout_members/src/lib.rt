@@ -1,0 +1,87 @@
+// One member entry of a struct: its flags, tested by masks, and the rules 5 and 6 for it.
+use file::fields::Member;
+use layout_values::value::Layout;
+use numbers::power::is_power;
+ghost use mathlib.Core.Path.{_≡_};
+ghost use mathlib.Core.Bool.{true};
+ghost use Prim.Native.Nat.{_<_};
+ghost use Rattle.wgsl.specs.Types.{Ty, everywhere};
+ghost use Rattle.wgsl.specs.File.{sizeIsGiven, alignIsGiven, givenSize, givenAlign, restIsZero};
+ghost use Rattle.wgsl.specs.Rule.{memberAllowed, givenSizeFits, givenAlignFits, isWellFormed};
+ghost use Rattle.file.specs.Fields.{memberIs};
+ghost use Rattle.layout_values.specs.Value.{valueOf};
+
+// "Flag bit 0 says a size is given"
+pub fn size_given(m: Member) -> bool
+    ensures { λ r. ⌜ r ≡ sizeIsGiven (memberIs m) ⌝ }
+{
+    m.flags & 1 == 1
+}
+
+// "bit 1 an align"
+pub fn align_given(m: Member) -> bool
+    ensures { λ r. ⌜ r ≡ alignIsGiven (memberIs m) ⌝ }
+{
+    m.flags & 2 == 2
+}
+
+// "other bits and fields not given are zero"
+pub fn rest_is_zero(m: Member) -> bool
+    ensures { λ r. ⌜ r ≡ restIsZero (memberIs m) ⌝ }
+{
+    if m.flags & 0xffff_fffc != 0 {
+        return false;
+    }
+    if !size_given(m) {
+        if m.size != 0 {
+            return false;
+        }
+    }
+    if align_given(m) {
+        return true;
+    }
+    m.align == 0
+}
+
+// "A member type has size and alignment, except that the last may be a runtime array."
+pub fn is_allowed(l: Layout, last: bool) -> bool
+    ensures { λ r. ⌜ ((t : Ty) → l ≡ valueOf (l .reference) t → everywhere isWellFormed t ≡ true → r ≡ memberAllowed last t) ⌝ }
+{
+    if l.align == 0 {
+        return false;
+    }
+    if l.size != 0 {
+        return true;
+    }
+    if last {
+        return l.kind == 10;
+    }
+    false
+}
+
+// "A given size is at least the type's size and never stands on a runtime array."
+pub fn size_fits(m: Member, l: Layout) -> bool
+    ensures { λ r. ⌜ ((t : Ty) → l ≡ valueOf (l .reference) t → everywhere isWellFormed t ≡ true → r ≡ givenSizeFits t (givenSize (memberIs m))) ⌝ }
+{
+    if !size_given(m) {
+        return true;
+    }
+    if l.kind == 10 {
+        return false;
+    }
+    l.size <= m.size
+}
+
+// "A given align is a power of two and a multiple of the type's alignment."
+pub fn align_fits(m: Member, l: Layout) -> bool
+    requires { ⌜ 0 < l .align ⌝ }
+    ensures { λ r. ⌜ ((t : Ty) → l ≡ valueOf (l .reference) t → everywhere isWellFormed t ≡ true → r ≡ givenAlignFits t (givenAlign (memberIs m))) ⌝ }
+{
+    if !align_given(m) {
+        return true;
+    }
+    if !is_power(m.align) {
+        return false;
+    }
+    m.align % l.align == 0
+}

@@ -1,0 +1,229 @@
+// The kinds that refer to one lower entry: 7 to 11. Each is handed that entry's layout.
+use file::fields::Entry;
+use layout_values::scalars::scalar_size;
+use layout_values::scalars::unless_absent;
+use layout_values::scalars::vector_align;
+use layout_values::scalars::zeros;
+use layout_values::value::Layout;
+use layout_values::value::Made;
+use layout_values::value::opens;
+use layout_values::value::words_of;
+use numbers::limit::Limited;
+use numbers::limit::product;
+use numbers::limit::round_up;
+ghost use mathlib.Core.Path.{_≡_};
+ghost use mathlib.Core.Option.{some};
+ghost use mathlib.Core.Bool.{true};
+ghost use Rattle.wgsl.specs.Types.{Ty, everywhere};
+ghost use Rattle.wgsl.specs.Rule.{isWellFormed, vectorMade, matrixMade, arrayMade, runtimeMade, atomicMade, overMade};
+ghost use Rattle.file.specs.Fields.{entryIs};
+ghost use Rattle.layout_values.specs.Value.{madeOf, Known, valueOf};
+
+// "7 vector: rows 2-4, reference to a kind 0-6"
+pub fn vector(e: Entry, l: Layout) -> Made
+    requires { ⌜ Known l ⌝ }
+    ensures { λ r. ⌜ ((t : Ty) → l ≡ valueOf (l .reference) t → r ≡ madeOf (e .reference) (vectorMade (some t) (entryIs e))) ⌝ }
+{
+    let rows = e.rows;
+    let kind = l.kind;
+    if !zeros(e.columns, e.count, 0, 0) {
+        return Made::Rule;
+    }
+    if 6 < kind {
+        return Made::Rule;
+    }
+    if rows < 2 {
+        return Made::Rule;
+    }
+    if 4 < rows {
+        return Made::Rule;
+    }
+    let w = scalar_size(kind);
+    let align = vector_align(rows, kind);
+    let unit = unless_absent(align, 1);
+    Made::Laid(Layout {
+        kind: 7,
+        narrow: l.narrow,
+        reference: e.reference,
+        count: rows,
+        unit,
+        stride: w,
+        size: rows * w,
+        align,
+    })
+}
+
+// "8 matrix: columns 2-4, rows 2-4, reference to f32, f16 or abstract float"
+pub fn matrix(e: Entry, l: Layout) -> Made
+    requires { ⌜ Known l ⌝ }
+    ensures { λ r. ⌜ ((t : Ty) → l ≡ valueOf (l .reference) t → r ≡ madeOf (e .reference) (matrixMade (some t) (entryIs e))) ⌝ }
+{
+    let columns = e.columns;
+    let rows = e.rows;
+    let kind = l.kind;
+    if !zeros(e.count, 0, 0, 0) {
+        return Made::Rule;
+    }
+    if kind < 3 {
+        return Made::Rule;
+    }
+    if 6 < kind {
+        return Made::Rule;
+    }
+    if kind == 5 {
+        return Made::Rule;
+    }
+    if columns < 2 {
+        return Made::Rule;
+    }
+    if 4 < columns {
+        return Made::Rule;
+    }
+    if rows < 2 {
+        return Made::Rule;
+    }
+    if 4 < rows {
+        return Made::Rule;
+    }
+    let align = vector_align(rows, kind);
+    let unit = unless_absent(align, rows);
+    Made::Laid(Layout {
+        kind: 8,
+        narrow: l.narrow,
+        reference: e.reference,
+        count: columns,
+        unit,
+        stride: align,
+        size: columns * align,
+        align,
+    })
+}
+
+// "9 array: reference, count at least 1"; an array's element isn't open.
+pub fn array(e: Entry, l: Layout) -> Made
+    requires { ⌜ Known l ⌝ }
+    ensures { λ r. ⌜ ((t : Ty) → l ≡ valueOf (l .reference) t → everywhere isWellFormed t ≡ true → r ≡ madeOf (e .reference) (arrayMade (some t) (entryIs e))) ⌝ }
+{
+    let count = e.count;
+    if !zeros(e.columns, e.rows, 0, 0) {
+        return Made::Rule;
+    }
+    if count < 1 {
+        return Made::Rule;
+    }
+    if opens(l) {
+        return Made::Rule;
+    }
+    let align = l.align;
+    let element = l.size;
+    let unit = words_of(l);
+    if align == 0 {
+        return Made::Laid(Layout {
+            kind: 9,
+            narrow: l.narrow,
+            reference: e.reference,
+            count,
+            unit: 0,
+            stride: 0,
+            size: 0,
+            align: 0,
+        });
+    }
+    let Limited::Is(stride) = round_up(align, element) else {
+        return Made::Large;
+    };
+    let Limited::Is(size) = product(count, stride) else {
+        return Made::Large;
+    };
+    Made::Laid(Layout {
+        kind: 9,
+        narrow: l.narrow,
+        reference: e.reference,
+        count,
+        unit,
+        stride,
+        size,
+        align,
+    })
+}
+
+// "10 runtime array: reference"; its element isn't open, and has size and alignment.
+pub fn runtime(e: Entry, l: Layout) -> Made
+    requires { ⌜ Known l ⌝ }
+    ensures { λ r. ⌜ ((t : Ty) → l ≡ valueOf (l .reference) t → everywhere isWellFormed t ≡ true → r ≡ madeOf (e .reference) (runtimeMade (some t) (entryIs e))) ⌝ }
+{
+    if !zeros(e.columns, e.rows, e.count, 0) {
+        return Made::Rule;
+    }
+    if opens(l) {
+        return Made::Rule;
+    }
+    let align = l.align;
+    if align == 0 {
+        return Made::Rule;
+    }
+    let Limited::Is(stride) = round_up(align, l.size) else {
+        return Made::Large;
+    };
+    Made::Laid(Layout {
+        kind: 10,
+        narrow: l.narrow,
+        reference: e.reference,
+        count: 0,
+        unit: words_of(l),
+        stride,
+        size: 0,
+        align,
+    })
+}
+
+// "11 atomic: reference to i32 or u32"
+pub fn atomic(e: Entry, l: Layout) -> Made
+    requires { ⌜ Known l ⌝ }
+    ensures { λ r. ⌜ ((t : Ty) → l ≡ valueOf (l .reference) t → r ≡ madeOf (e .reference) (atomicMade (some t) (entryIs e))) ⌝ }
+{
+    let kind = l.kind;
+    if !zeros(e.columns, e.rows, e.count, 0) {
+        return Made::Rule;
+    }
+    if kind < 1 {
+        return Made::Rule;
+    }
+    if 2 < kind {
+        return Made::Rule;
+    }
+    Made::Laid(Layout {
+        kind: 11,
+        narrow: 4,
+        reference: e.reference,
+        count: 1,
+        unit: 1,
+        stride: 4,
+        size: 4,
+        align: 4,
+    })
+}
+
+// An entry of a kind 7 to 11.
+pub fn over_entry(e: Entry, l: Layout) -> Made
+    requires { ⌜ Known l ⌝ }
+    ensures { λ r. ⌜ ((t : Ty) → l ≡ valueOf (l .reference) t → everywhere isWellFormed t ≡ true → r ≡ madeOf (e .reference) (overMade (some t) (entryIs e))) ⌝ }
+{
+    let kind = e.kind;
+    if kind == 7 {
+        return vector(e, l);
+    }
+    if kind == 8 {
+        return matrix(e, l);
+    }
+    if kind == 9 {
+        return array(e, l);
+    }
+    if kind == 10 {
+        return runtime(e, l);
+    }
+    if kind == 11 {
+        return atomic(e, l);
+    }
+    Made::Rule
+}

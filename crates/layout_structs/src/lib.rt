@@ -1,0 +1,209 @@
+// A struct: its members one after the other.
+use file::fields::Entry;
+use file::fields::Member;
+use layout_members::align_fits;
+use layout_members::align_given;
+use layout_members::is_allowed;
+use layout_members::rest_is_zero;
+use layout_members::size_fits;
+use layout_members::size_given;
+use layout_values::scalars::zeros;
+use layout_values::value::Layout;
+use layout_values::value::Made;
+use layout_values::value::opens;
+use layout_values::value::words_of;
+use numbers::limit::Limited;
+use numbers::limit::round_up;
+use numbers::limit::sum;
+use numbers::wide::wide;
+ghost use mathlib.Core.Path.{_≡_};
+ghost use mathlib.Core.Bool.{cond};
+ghost use Prim.Native.Nat.{ℕ, _≤_, max, min};
+ghost use Rattle.wgsl.specs.Types.{Ty, Members, no-more, struct};
+ghost use Rattle.wgsl.specs.Rule.{countOf};
+ghost use Rattle.file.specs.Fields.{entryIs, memberIs};
+ghost use Rattle.layout_values.specs.Value.{verdictOn};
+ghost use Rattle.layout_values.specs.declared.value.Made.the-variants.{Rule};
+ghost use Rattle.layout_structs.specs.Run.{runOf, followed, Joins, Meets, steppedTo, Ended, Closes, Spans, structOf};
+
+// Where the members so far end, and what they hold.
+pub struct Ends {
+    // 0 past a runtime array, which has no end
+    pub end: u32,
+    pub align: u32,
+    pub words: u32,
+    pub opens: bool,
+    pub narrow: u32,
+}
+
+// What the members so far come to: "5 before 6 before 7".
+pub enum Run {
+    Placed(Ends),
+    Unfit,
+    TooLarge,
+}
+
+pub enum Stepped {
+    Next(Run),
+    Rule,
+}
+
+// The members that a struct's entry names, by number.
+pub struct Span {
+    pub first: usize,
+    pub count: usize,
+}
+
+fn larger(a: u32, b: u32) -> u32
+    ensures { λ r. ⌜ r ≡ max a b ⌝ }
+{
+    if a < b { b } else { a }
+}
+
+// What is given, or else the type's own.
+fn chosen(given: bool, a: u32, own: u32) -> u32
+    ensures { λ r. ⌜ r ≡ cond given a own ⌝ }
+{
+    if given { a } else { own }
+}
+
+fn smaller(a: u32, b: u32) -> u32
+    ensures { λ r. ⌜ r ≡ min a b ⌝ }
+{
+    if b < a { b } else { a }
+}
+
+// One more member, whose size and align fit, after those that end as `p` says.
+fn place(p: Ends, l: Layout, m: Member) -> Run
+    requires { ⌜ ((ms : Members) × (t : Ty) × Joins p l (memberIs m) ms t) ⌝ }
+    ensures { λ r. ⌜ ((ms : Members) (t : Ty) → Joins p l (memberIs m) ms t → r ≡ runOf (followed ms t (memberIs m))) ⌝ }
+{
+    let align = chosen(align_given(m), m.align, l.align);
+    let size = chosen(size_given(m), m.size, l.size);
+    let Limited::Is(start) = round_up(align, p.end) else {
+        return Run::TooLarge;
+    };
+    let most = larger(p.align, align);
+    let narrow = smaller(p.narrow, l.narrow);
+    if opens(l) {
+        return Run::Placed(Ends {
+            end: 0,
+            align: most,
+            words: p.words,
+            opens: true,
+            narrow,
+        });
+    }
+    let Limited::Is(end) = sum(start, size) else {
+        return Run::TooLarge;
+    };
+    Run::Placed(Ends {
+        end,
+        align: most,
+        words: p.words + words_of(l),
+        opens: false,
+        narrow,
+    })
+}
+
+// Before the first member.
+pub fn no_members() -> Run
+    ensures { λ r. ⌜ r ≡ runOf no-more ⌝ }
+{
+    Run::Placed(Ends {
+        end: 0,
+        align: 1,
+        words: 0,
+        opens: false,
+        narrow: 4,
+    })
+}
+
+// One more member.
+pub fn step(run: Run, l: Layout, m: Member, last: bool) -> Stepped
+    requires { ⌜ ((ms : Members) × (t : Ty) × Meets run l ms t) ⌝ }
+    ensures { λ r. ⌜ ((ms : Members) (t : Ty) → Meets run l ms t → r ≡ steppedTo last ms t (memberIs m)) ⌝ }
+{
+    if !rest_is_zero(m) {
+        return Stepped::Rule;
+    }
+    if !is_allowed(l, last) {
+        return Stepped::Rule;
+    }
+    if !size_fits(m, l) {
+        return Stepped::Next(Run::Unfit);
+    }
+    if !align_fits(m, l) {
+        return Stepped::Next(Run::Unfit);
+    }
+    match run {
+        Run::Placed(p) => Stepped::Next(place(p, l, m)),
+        Run::Unfit => Stepped::Next(Run::Unfit),
+        Run::TooLarge => Stepped::Next(Run::TooLarge),
+    }
+}
+
+// A struct's layout. Its member entries are 12 bytes long.
+fn struct_of(e: Entry, p: Ends, size: u32) -> Layout
+    ensures { λ r. ⌜ r ≡ structOf (entryIs e) p size ⌝ }
+{
+    Layout {
+        kind: 12,
+        narrow: p.narrow,
+        reference: e.reference,
+        count: e.count,
+        unit: p.words,
+        stride: 12,
+        size,
+        align: p.align,
+    }
+}
+
+// The struct with the entry `e` whose members end as `p` says.
+fn whole(e: Entry, p: Ends) -> Made
+    requires { ⌜ ((ms : Members) × Ended p ms) ⌝ }
+    ensures { λ r. ⌜ ((k : ℕ) (ms : Members) → Ended p ms → countOf ms ≡ e .count → r ≡ verdictOn (e .reference) (struct k ms)) ⌝ }
+{
+    if p.opens {
+        return Made::Laid(struct_of(e, p, 0));
+    }
+    let Limited::Is(size) = round_up(p.align, p.end) else {
+        return Made::Large;
+    };
+    Made::Laid(struct_of(e, p, size))
+}
+
+// Past the last of `count` members: a struct has one at least.
+pub fn finish(e: Entry, run: Run, count: usize) -> Made
+    requires { ⌜ (1 ≤ count → (ms : Members) × Closes run ms) ⌝ }
+    ensures none { λ r. ⌜ (count ≡ 0 → r ≡ Rule) ⌝ }
+    ensures all { λ r. ⌜ (1 ≤ count → (k : ℕ) (ms : Members) → Closes run ms → countOf ms ≡ e .count → r ≡ verdictOn (e .reference) (struct k ms)) ⌝ }
+{
+    if count < 1 {
+        return Made::Rule;
+    }
+    match run {
+        Run::Placed(p) => whole(e, p),
+        Run::Unfit => Made::Given,
+        Run::TooLarge => Made::Large,
+    }
+}
+
+// "12 struct: reference = first member, count = members, 1 to 1,024, all within M": those members; or none, where the
+// entry is no struct's or names others.
+pub fn span_of(e: Entry, members: usize) -> Span
+    ensures { λ r. ⌜ Spans members (entryIs e) (r .first) (r .count) ⌝ }
+{
+    if e.kind != 12 {
+        return Span { first: 0, count: 0 };
+    }
+    if !zeros(e.columns, e.rows, 0, 0) {
+        return Span { first: 0, count: 0 };
+    }
+    let first = wide(e.reference);
+    let count = wide(e.count);
+    if members < first + count {
+        return Span { first: 0, count: 0 };
+    }
+    Span { first, count }
+}

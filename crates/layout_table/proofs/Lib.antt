@@ -1,0 +1,6 @@
+pub mod Judging
+pub mod Members
+pub mod Fills
+pub mod Taken
+pub mod Grounds
+pub mod Single

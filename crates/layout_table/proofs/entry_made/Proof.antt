@@ -1,0 +1,79 @@
+-- Each kind of entry makes what the function for it says (proofs/Judging); over a reference that is not lower nothing is made.
+use mathlib.Core.Bool.{true}
+use mathlib.Core.List.{List, [], _∷_}
+use mathlib.Core.Path.{_≡_, _∙_}
+use native.Mathlib.Omega.{arith}
+use borrow.Author.Needs.{needs}
+use denote.Ref.{now}
+use Rattle.wgsl.specs.Types.{Ty}
+use Rattle.wgsl.specs.Rule.{unused}
+use Rattle.layout_values.proofs.Zero.{unused-two, denied, granted}
+use Rattle.layout_structs.specs.Run.{Lower}
+use Rattle.layout_structs.proofs.Froms.{Found, lower-found, lower-past}
+use Rattle.layout_table.proofs.Judging.{entry-used, entry-scalar, entry-struct, entry-over, entry-missing}
+use Rattle.layout_table.proofs.entry_made.Statement.{statement}
+use Rattle.layout_table.proofs.entry_made.Tie as tie
+
+-- past the first test the zero fields are zero
+zero-fields : (c : tie.Else1) → let e = c .before .before .before .args .e in unused (e .zero3 ∷ e .zero6 ∷ []) ≡ true
+zero-fields c = granted (unused-two _ _ (c .before .zeros .ensures)) (c .if1 .left)
+
+returns : tie.Need-returns
+returns c ts u =
+    let a = c .before .before .before .args in
+    entry-used (now (a .f)) ts (a .k) (a .e .reference) (u .entry-is)
+    (denied (unused-two _ _ (c .before .zeros .ensures)) (c .if1 .taken))
+
+returns-2 : tie.Need-returns-2
+returns-2 c ts u =
+    let z = c .before .before .before in
+    let a = z .before .before .before .args in
+    c .scalar-entry .ensures
+    ∙ entry-scalar (now (a .f)) ts (a .k) (a .e .reference) (u .entry-is) (zero-fields z) (c .before .if2 .taken)
+
+returns-3 : tie.Need-returns-3
+returns-3 c ts u =
+    let z = c .before .before .before .before .before in
+    let a = z .before .before .before .args in
+    c .struct-entry .ensures ts u
+    ∙ entry-struct (now (a .f)) ts (a .k) (a .e .reference) (u .entry-is) (zero-fields z) (c .before .if3 .taken)
+
+returns-4 : tie.Need-returns-4
+returns-4 c ts u =
+    let w = c .before in
+    let z = w .before .before .before .before .before in
+    let a = z .before .before .before .args in
+    entry-missing (now (a .f)) ts (a .k) (a .e .reference) (u .entry-is) (zero-fields z) (omega (arith, w .before .before .before .if2 .left))
+    (w .before .if3 .left) (lower-past (now (a .f)) (now (a .table)) (a .k) ts (a .e .reference) (u .lower)
+    (omega (arith, w .wide .ensures, c .if4 .taken)))
+
+-- the entry that is referred to
+below : (c : tie.Else4) →
+    let a = c .before .before .before .before .before .before .before .before .before .args in
+    (ts : List Ty) → Lower (now (a .f)) (now (a .table)) (a .k) ts → Found (now (a .f)) (now (a .table)) ts (c .before .wide .result)
+below c ts low =
+    let a = c .before .before .before .before .before .before .before .before .before .args in
+    lower-found (now (a .f)) (now (a .table)) (a .k) ts (c .before .wide .result) low (c .if4 .left)
+
+over-entry-requires : tie.Need-over-entry-requires
+over-entry-requires c κs =
+    let u = c .before .before .before .before .before .before .before .before .before .before .pre in
+    let r = below (c .before) (u .0) (u .1 .lower) in
+    record { type = r .type; is = rw (c .layout-at .ensures) (r .layout); well-formed = r .well-formed }
+
+returns-5 : tie.Need-returns-5
+returns-5 c ts u =
+    let l = c .before in
+    let w = l .before .before in
+    let z = w .before .before .before .before .before in
+    let a = z .before .before .before .args in
+    let r = below (l .before) ts (u .lower) in
+    c .over-entry .ensures (r .type) (rw (l .layout-at .ensures) (r .layout)) (r .well-formed)
+    ∙ entry-over (now (a .f)) ts (a .k) (a .e .reference) (u .entry-is) (zero-fields z) (omega (arith, w .before .before .before .if2 .left))
+    (w .before .if3 .left) (r .type) (w .wide .ensures .0) (r .is)
+
+pub entry-made-spec : {M : Type 1} → statement M
+entry-made-spec =
+    tie.close (tie.spec
+    (λ c κs. search needs) returns (λ c κs. search needs) returns-2 (λ c κs. search needs) returns-3
+    (λ c κs. search needs) returns-4 (λ c κs. search needs) over-entry-requires returns-5)

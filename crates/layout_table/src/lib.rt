@@ -1,0 +1,167 @@
+// The table of 256 layouts, worked out upward from entry 0.
+use file::fields::Entry;
+use file::fields::entry_at;
+use file::fields::member_at;
+use file::trailer::Trailer;
+use file::trailer::Trailered;
+use file::trailer::check_trailer;
+use layout_referring::over_entry;
+use layout_structs::Run;
+use layout_structs::Stepped;
+use layout_structs::finish;
+use layout_structs::no_members;
+use layout_structs::span_of;
+use layout_structs::step;
+use layout_values::scalars::scalar_entry;
+use layout_values::scalars::zeros;
+use layout_values::value::Layout;
+use layout_values::value::Made;
+use layout_values::value::Value;
+use layout_values::value::blank;
+use layout_values::value::layout_at;
+use layout_values::value::numbers;
+use numbers::wide::wide;
+use said::refusal::Refusal;
+ghost use mathlib.Core.Path.{_≡_};
+ghost use mathlib.Core.List.{List};
+ghost use Rattle.wgsl.specs.Types.{Ty};
+ghost use Rattle.wgsl.specs.Said.{good};
+ghost use Rattle.wgsl.specs.File.{checkTrailer};
+ghost use Rattle.wgsl.specs.Rule.{structMade, typeOfEntry};
+ghost use Rattle.file.specs.Fields.{trailerIs, entryIs};
+ghost use Rattle.layout_values.specs.Value.{madeOf, blankTable};
+ghost use Rattle.layout_table.specs.Table.{tableOf, saidTable, acceptedTrailer, saidChecked, groundIn, saidGround, Upward};
+
+pub enum Checked {
+    Types(Trailer),
+    Refused(Refusal),
+}
+
+// A struct's entry, number `k`, over the lower entries: its members one after the other.
+fn struct_entry(f: &[u8], e: Entry, k: usize, base: usize, members: usize, table: &[Value]) -> Made
+    requires { ⌜ (e .kind ≡ 12) × ((ts : List Ty) × Upward (now f) k (entryIs e) base members (now table) ts) ⌝ }
+    ensures { λ r. ⌜ ((ts : List Ty) → Upward (now (f .entry)) k (entryIs e) base members (now (table .entry)) ts → r ≡ madeOf (e .reference) (structMade (now (f .entry)) ts k (entryIs e))) ⌝ }
+{
+    let s = span_of(e, members);
+    let count = s.count;
+    let at = base + 12 * s.first;
+    let mut run = no_members();
+    let mut i: usize = 0;
+    while i < count {
+        let m = member_at(f, at + 12 * i);
+        let ty = wide(m.ty);
+        if k <= ty {
+            return Made::Rule;
+        }
+        match step(run, layout_at(table, ty), m, i + 1 == count) {
+            Stepped::Next(r) => {
+                run = r;
+            }
+            Stepped::Rule => {
+                return Made::Rule;
+            }
+        }
+        i += 1;
+    }
+    finish(e, run, count)
+}
+
+// Entry `k`, with the fields `e`, over the lower entries.
+fn entry_made(f: &[u8], e: Entry, k: usize, base: usize, members: usize, table: &[Value]) -> Made
+    requires { ⌜ ((ts : List Ty) × Upward (now f) k (entryIs e) base members (now table) ts) ⌝ }
+    ensures { λ r. ⌜ ((ts : List Ty) → Upward (now (f .entry)) k (entryIs e) base members (now (table .entry)) ts → r ≡ madeOf (e .reference) (typeOfEntry (now (f .entry)) ts k)) ⌝ }
+{
+    if !zeros(e.zero3, e.zero6, 0, 0) {
+        return Made::Rule;
+    }
+    if e.kind <= 6 {
+        return scalar_entry(e);
+    }
+    if e.kind == 12 {
+        return struct_entry(f, e, k, base, members, table);
+    }
+    let r = wide(e.reference);
+    if k <= r {
+        return Made::Rule;
+    }
+    over_entry(e, layout_at(table, r))
+}
+
+// The layouts of the entries of a file whose trailer is good, worked out before anything else is read or written, or the refusal.
+// Refuses 5 to 7.
+pub fn fill(f: &[u8], t: Trailer, table: &mut [Value]) -> Checked
+    requires { ⌜ (checkTrailer (now f) ≡ good (trailerIs t)) × (now table ≡ blankTable) ⌝ }
+    ensures { λ r. ⌜ saidTable r (now (table .exit)) ≡ tableOf (now (f .entry)) ⌝ }
+{
+    let types = wide(t.types);
+    let members = wide(t.members);
+    let start = wide(t.start);
+    let base = start + 12 * types;
+    let mut k: usize = 0;
+    while k < types {
+        let e = entry_at(f, start + 12 * k);
+        match entry_made(f, e, k, base, members, table) {
+            Made::Laid(l) => {
+                table[k] = numbers(l);
+            }
+            Made::Rule => {
+                return Checked::Refused(Refusal::Rule(k));
+            }
+            Made::Given => {
+                return Checked::Refused(Refusal::Given(k));
+            }
+            Made::Large => {
+                return Checked::Refused(Refusal::Large(k));
+            }
+        }
+        k += 1;
+    }
+    Checked::Types(t)
+}
+
+// The trailer of an accepted file, or the refusal.
+// Refuses 1 to 7.
+pub fn accept(f: &[u8]) -> Checked
+    ensures { λ r. ⌜ saidChecked r ≡ acceptedTrailer (now (f .entry)) ⌝ }
+{
+    match check_trailer(f) {
+        Trailered::Refused(r) => Checked::Refused(r),
+        Trailered::Good(t) => {
+            let mut table = blank();
+            fill(f, t, &mut table)
+        }
+    }
+}
+
+// The entry that a call speaks of: its layout, and where the file's member entries begin and end.
+pub struct Ground {
+    pub layout: Layout,
+    pub start: usize,
+    pub end: usize,
+}
+
+pub enum Grounded {
+    Is(Ground),
+    Refused(Refusal),
+}
+
+// Fills the table, and finds entry `entry` in it. Refuses 5 to 8.
+pub fn find(f: &[u8], t: Trailer, entry: u32, table: &mut [Value]) -> Grounded
+    requires { ⌜ (checkTrailer (now f) ≡ good (trailerIs t)) × (now table ≡ blankTable) ⌝ }
+    ensures { λ r. ⌜ saidGround r (now (table .exit)) ≡ groundIn (now (f .entry)) entry ⌝ }
+{
+    match fill(f, t, table) {
+        Checked::Refused(r) => Grounded::Refused(r),
+        Checked::Types(_) => {
+            if t.types <= entry {
+                return Grounded::Refused(Refusal::Missing);
+            }
+            let start = wide(t.start) + 12 * wide(t.types);
+            Grounded::Is(Ground {
+                layout: layout_at(table, wide(entry)),
+                start,
+                end: start + 12 * wide(t.members),
+            })
+        }
+    }
+}

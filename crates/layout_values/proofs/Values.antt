@@ -1,0 +1,75 @@
+-- Values in a table (specs/Value).
+--
+-- In order: the layout of an entry; the values of several types, one more, each of them; a table that begins with them; the table of a
+-- file.
+-- Assumes nothing.
+use Prim.Native.Nat.{ℕ, zero, suc, _+_, _-_, _≤_}
+use mathlib.Core.List.{List, [], _∷_, _++_}
+use mathlib.Core.Option.{some}
+use mathlib.Core.Path.{_≡_, refl, sym, ap, _∙_}
+use native.Mathlib.Omega.{arith}
+use lib.ListN.{length, take, getD, getElem?, length-append, length-replicate}
+use lib.Seq.{getD-take, take-all, take-append-le}
+use Rattle.wgsl.specs.Types.{Ty}
+use Rattle.wgsl.specs.File.{typeEntryAt}
+use Rattle.wgsl.proofs.Absent.{some-not-none}
+use Rattle.wgsl.proofs.AtEntry.{getElem-low}
+use Rattle.layout_values.specs.declared.value.Layout.{Layout}
+use Rattle.layout_values.specs.Value.{valueOf, numbersOf, layoutAt, valuesFrom, valuesOf}
+
+-- An entry whose numbers are a layout's has that layout.
+pub layout-numbers : (table : List (List ℕ)) (e : ℕ) (l : Layout) → getD table e [] ≡ numbersOf l → layoutAt table e ≡ l
+unfolding layoutAt numbersOf
+layout-numbers table e l h = rw h
+
+-- A layout that is some type's value is so with its own reference.
+pub own-reference : {l : Layout} (r : ℕ) (t : Ty) → l ≡ valueOf r t → l ≡ valueOf (l .reference) t
+unfolding valueOf
+own-reference r t e = e ∙ ap (λ (x : ℕ). valueOf x t) (sym (ap (λ (x : Layout). x .reference) e))
+
+pub length-values : (f : List ℕ) (k : ℕ) (ts : List Ty) → length (valuesFrom f k ts) ≡ length ts
+unfolding valuesFrom
+length-values f k [] = refl
+length-values f k (t ∷ ts) = ap suc (length-values f (suc k) ts)
+
+values-at : (f : List ℕ) (k : ℕ) (ts : List Ty) (e : ℕ) (t : Ty) → getElem? ts e ≡ some t → getD (valuesFrom f k ts) e [] ≡ numbersOf (valueOf (typeEntryAt f (k + e) .reference) t)
+unfolding valuesFrom
+values-at f k [] e t h = some-not-none h refl
+values-at f k (u ∷ ts) zero t h =
+    let q : u ≡ t = cc in
+    let z : k + 0 ≡ k = omega arith in
+    rw (q, z)
+values-at f k (u ∷ ts) (suc e) t h =
+    let z : k + suc e ≡ suc k + e = omega arith in
+    rw z (values-at f (suc k) ts e t h)
+
+-- The values of one type more.
+pub values-more : (f : List ℕ) (k : ℕ) (ts : List Ty) (t : Ty) → valuesFrom f k (ts ++ (t ∷ [])) ≡ valuesFrom f k ts ++ (numbersOf (valueOf (typeEntryAt f (k + length ts) .reference) t) ∷ [])
+unfolding valuesFrom
+values-more f k [] t = let z : k + 0 ≡ k = omega arith in rw z
+values-more f k (u ∷ ts) t =
+    let z : k + suc (length ts) ≡ suc k + length ts = omega arith in
+    rw z (ap (λ (l : List (List ℕ)). numbersOf (valueOf (typeEntryAt f k .reference) u) ∷ l) (values-more f (suc k) ts t))
+
+-- A table that begins with the values of several types holds each.
+pub value-held : (f : List ℕ) (table : List (List ℕ)) (ts : List Ty) (e : ℕ) (t : Ty) → take (length ts) table ≡ valuesFrom f 0 ts → getElem? ts e ≡ some t → layoutAt table e ≡ valueOf (typeEntryAt f e .reference) t
+value-held f table ts e t first h =
+    let z : 0 + e ≡ e = omega arith in
+    layout-numbers table e _
+    (sym (getD-take (length ts) table e [] (getElem-low ts e h)) ∙ ap (λ (l : List (List ℕ)). getD l e []) first
+    ∙ rw z at (values-at f 0 ts e t h))
+
+module _ (f : List ℕ) (ts : List Ty) where
+  -- The table of a file has 256 entries,
+  pub length-table : length ts ≤ 256 → length (valuesOf f ts) ≡ 256
+  unfolding valuesOf
+  length-table h =
+      rw (length-append, length-values f 0 ts, length-replicate) (omega arith)
+
+  -- and each of them is its type's value.
+  pub table-at : (e : ℕ) (t : Ty) → getElem? ts e ≡ some t → layoutAt (valuesOf f ts) e ≡ valueOf (typeEntryAt f e .reference) t
+  unfolding valuesOf
+  table-at e t h =
+      let all : length (valuesFrom f 0 ts) ≤ length ts = omega (arith, length-values f 0 ts) in
+      let enough : length ts ≤ length (valuesFrom f 0 ts) = omega (arith, length-values f 0 ts) in
+      value-held f _ ts e t (take-append-le (length ts) (valuesFrom f 0 ts) _ enough ∙ take-all (length ts) (valuesFrom f 0 ts) all) h

@@ -1,0 +1,23 @@
+-- Each answer is a law of `Scalar`, over what `scalar_size`, `stored_width` and `unless_absent` ensure.
+use mathlib.Core.Path.{sym}
+use native.Mathlib.Omega.{arith}
+use Rattle.layout_values.proofs.Zero.{denied, granted}
+use Rattle.layout_values.proofs.Scalar.{scalar-used, scalar-laid}
+use borrow.Author.Needs.{needs}
+use Rattle.layout_values.proofs.scalars.scalar_entry.Statement.{statement}
+use Rattle.layout_values.proofs.scalars.scalar_entry.Tie as tie
+
+returns : tie.Need-returns
+returns c = sym (scalar-used _ (denied (c .before .zeros .ensures) (c .if1 .taken)))
+
+returns-2 : tie.Need-returns-2
+returns-2 c =
+    let w = c .before in
+    let z = w .before .before in
+    sym (scalar-laid _ (granted (z .before .zeros .ensures) (z .if1 .left)) (omega arith) _ _
+    (w .before .scalar-size .ensures .0) (w .stored-width .ensures) _ (c .unless-absent .ensures))
+
+pub scalar-entry-spec : {M : Type 1} → statement M
+scalar-entry-spec =
+    tie.close (tie.spec
+    (λ c κs. search needs) returns (λ c κs. search needs) (λ c κs. search needs) (λ c κs. search needs) returns-2)

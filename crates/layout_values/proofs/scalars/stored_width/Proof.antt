@@ -1,0 +1,16 @@
+-- Each answer is a law of `Scalar`.
+use mathlib.Core.Path.{sym, _∙_}
+use native.Mathlib.Omega.{arith}
+use borrow.Author.Needs.{needs}
+use Rattle.layout_values.proofs.Scalar.{stored-bool, stored-number}
+use Rattle.layout_values.proofs.scalars.stored_width.Statement.{statement}
+use Rattle.layout_values.proofs.scalars.stored_width.Tie as tie
+
+returns : tie.Need-returns
+returns c s e = sym (stored-bool s (omega arith))
+
+returns-2 : tie.Need-returns-2
+returns-2 c s e = c .scalar-size .ensures .0 s e ∙ sym (stored-number s (omega arith))
+
+pub stored-width-spec : {M : Type 1} → statement M
+stored-width-spec = tie.close (tie.spec returns (λ c κs. search needs) returns-2)

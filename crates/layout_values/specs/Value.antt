@@ -1,0 +1,162 @@
+-- What the table holds of a type, and what becomes of an entry, in the words of crates/wgsl.
+--
+-- In order: a type's kind, its narrowest word, its parts, their words and strides; its value; the numbers of a value, and values in a
+-- table; the verdict on an entry's type; values that are some type's.
+-- Definitions only. Assumes nothing.
+use Prim.Native.Nat.{ℕ, suc, _+_, _-_, _*_, min}
+use mathlib.Core.Path.{_≡_}
+use mathlib.Core.Bool.{true, cond}
+use mathlib.Core.List.{List, [], _∷_, _++_}
+use mathlib.Core.Option.{Option, none, some}
+use lib.Dec.{eqb}
+use lib.ListN.{length, getD, replicate}
+use Rattle.wgsl.specs.Types.{Scalar, Ty, scalar, vector, matrix, array, runtime, atomic, struct, Members, no-more, member, everywhere}
+use Rattle.wgsl.specs.Size.{present, widthOf, vectorAlign, sizeOf, alignOf, strideOf, fitsLimit, hasLayout, isStored}
+use Rattle.wgsl.specs.File.{memberEntryLength, typeEntryAt}
+use Rattle.wgsl.specs.Rule.{countOf, isAllowed, givenFits, isWellFormed}
+use Rattle.wgsl.specs.Place.{wordCount}
+use Rattle.wgsl.specs.Rank.{kindOf}
+use Rattle.layout_values.specs.declared.value.Layout.{Layout}
+use Rattle.layout_values.specs.declared.value.Made.{Made}
+use Rattle.layout_values.specs.declared.value.Made.the-variants.{Laid, Rule, Given, Large}
+
+-- ---- a type's numbers
+
+-- the kind that a type's entry has
+unfoldable pub kindOfType : Ty → ℕ
+kindOfType (scalar s) = kindOf s
+kindOfType (vector n s) = 7
+kindOfType (matrix c r s) = 8
+kindOfType (array n t) = 9
+kindOfType (runtime t) = 10
+kindOfType (atomic s) = 11
+kindOfType (struct k ms) = 12
+
+-- the bytes of a scalar, if it may be stored
+unfoldable pub storedWidth : Scalar → ℕ
+storedWidth s = cond (isStored s) (present (widthOf s)) 0
+
+-- the fewest bytes that one of its words takes; 0 where one of its scalars may not be stored
+unfoldable mutual
+  pub narrowOf : Ty → ℕ
+  narrowOf (scalar s) = storedWidth s
+  narrowOf (vector n s) = storedWidth s
+  narrowOf (matrix c r s) = storedWidth s
+  narrowOf (array n t) = narrowOf t
+  narrowOf (runtime t) = narrowOf t
+  narrowOf (atomic s) = storedWidth s
+  narrowOf (struct k ms) = narrowest ms
+
+  pub narrowest : Members → ℕ
+  narrowest no-more = 4
+  narrowest (member t size align ms) = min (narrowOf t) (narrowest ms)
+
+-- its parts: a vector's scalars, a matrix's columns, an array's elements; a scalar is one; of a struct its members
+unfoldable pub partsOf : Ty → ℕ
+partsOf (scalar s) = 1
+partsOf (vector n s) = n
+partsOf (matrix c r s) = c
+partsOf (array n t) = n
+partsOf (runtime t) = 0
+partsOf (atomic s) = 1
+partsOf (struct k ms) = countOf ms
+
+-- the words of a type that has a layout, with no element of a runtime array
+unfoldable pub fixedWords : Ty → ℕ
+fixedWords t = cond (hasLayout t) (wordCount 0 t) 0
+
+-- the words of one part; of a struct all its words
+unfoldable pub partWords : Ty → ℕ
+partWords (scalar s) = 1
+partWords (vector n s) = 1
+partWords (matrix c r s) = r
+partWords (array n t) = fixedWords t
+partWords (runtime t) = fixedWords t
+partWords (atomic s) = 1
+partWords (struct k ms) = wordCount 0 (struct k ms)
+
+-- from one part to the next; of a struct, from one member entry to the next ("M member entries of 12 bytes follow")
+unfoldable pub partStride : Ty → Option ℕ
+partStride (scalar s) = widthOf s
+partStride (vector n s) = widthOf s
+partStride (matrix c r s) = vectorAlign r s
+partStride (array n t) = strideOf t
+partStride (runtime t) = strideOf t
+partStride (atomic s) = widthOf s
+partStride (struct k ms) = some (memberEntryLength 1)
+
+-- ---- its value
+
+-- the value of a type whose entry has this reference
+unfoldable pub valueOf : ℕ → Ty → Layout
+valueOf reference t =
+    record {
+      kind = kindOfType t;
+      narrow = narrowOf t;
+      reference = reference;
+      count = partsOf t;
+      unit = cond (hasLayout t) (partWords t) 0;
+      stride = present (partStride t);
+      size = present (sizeOf t);
+      align = present (alignOf t);
+    }
+
+-- its words, with no element of a runtime array
+unfoldable pub wordsIn : Layout → ℕ
+wordsIn l = cond (eqb (l .kind) 12) (l .unit) (l .count * l .unit)
+
+-- ---- numbers, and a table of them
+
+unfoldable pub numbersOf : Layout → List ℕ
+numbersOf l =
+    l .kind ∷ l .narrow ∷ l .reference ∷ l .count ∷ l .unit ∷ l .stride ∷ l .size ∷ l .align ∷ []
+
+-- number i of entry e
+abbrev pub numberAt : List (List ℕ) → ℕ → ℕ → ℕ
+numberAt table e i = getD (getD table e []) i 0
+
+unfoldable pub layoutAt : List (List ℕ) → ℕ → Layout
+layoutAt table e =
+    record {
+      kind = numberAt table e 0;
+      narrow = numberAt table e 1;
+      reference = numberAt table e 2;
+      count = numberAt table e 3;
+      unit = numberAt table e 4;
+      stride = numberAt table e 5;
+      size = numberAt table e 6;
+      align = numberAt table e 7;
+    }
+
+-- "A table of 256 layouts": before it is filled
+unfoldable pub blankTable : List (List ℕ)
+blankTable = replicate 256 (replicate 8 0)
+
+-- the values of types whose entries are those of a file from entry k on
+unfoldable pub valuesFrom : List ℕ → ℕ → List Ty → List (List ℕ)
+valuesFrom f k [] = []
+valuesFrom f k (t ∷ ts) = numbersOf (valueOf (typeEntryAt f k .reference) t) ∷ valuesFrom f (suc k) ts
+
+-- the table of a file with these types: their values, and blanks past them
+unfoldable pub valuesOf : List ℕ → List Ty → List (List ℕ)
+valuesOf f ts = valuesFrom f 0 ts ++ replicate (256 - length ts) (replicate 8 0)
+
+-- ---- the verdict on an entry's type
+
+-- 5, 6 or 7, or the layout
+unfoldable pub verdictOn : ℕ → Ty → Made
+verdictOn reference t =
+    cond (isAllowed t) (cond (givenFits t) (cond (fitsLimit t) (Laid (valueOf reference t)) Large) Given) Rule
+
+-- the same of an entry with this reference whose fields make a type, or none
+unfoldable pub madeOf : ℕ → Option Ty → Made
+madeOf reference (some t) = verdictOn reference t
+madeOf reference none = Rule
+
+-- ---- values that are some type's
+
+-- a layout in the table: that of a type that the file's rules leave
+pub record Known (l : Layout) : Type 0 where
+  pub type : Ty
+  pub is : l ≡ valueOf (l .reference) type
+  pub well-formed : everywhere isWellFormed type ≡ true

@@ -1,0 +1,102 @@
+// Scalars, and the alignment of vectors of them.
+use crate::value::Layout;
+use crate::value::Made;
+use file::fields::Entry;
+ghost use mathlib.Core.Path.{_≡_};
+ghost use mathlib.Core.Bool.{cond};
+ghost use mathlib.Core.List.{[], _∷_};
+ghost use Prim.Native.Nat.{_≤_};
+ghost use lib.Dec.{eqb};
+ghost use Rattle.wgsl.specs.Types.{Scalar};
+ghost use Rattle.wgsl.specs.Size.{present, widthOf, vectorAlign};
+ghost use Rattle.wgsl.specs.Rule.{unused, scalarMade};
+ghost use Rattle.wgsl.specs.Rank.{kindOf};
+ghost use Rattle.file.specs.Fields.{entryIs};
+ghost use Rattle.layout_values.specs.Value.{storedWidth, madeOf};
+
+// Whether the fields are all zero.
+pub fn zeros(a: u32, b: u32, c: u32, d: u32) -> bool
+    ensures { λ r. ⌜ r ≡ unused (a ∷ b ∷ c ∷ d ∷ []) ⌝ }
+{
+    if a != 0 {
+        return false;
+    }
+    if b != 0 {
+        return false;
+    }
+    if c != 0 {
+        return false;
+    }
+    d == 0
+}
+
+// The size of a scalar, and its alignment: 0 where it has none.
+pub fn scalar_size(kind: u32) -> u32
+    requires { ⌜ kind ≤ 6 ⌝ }
+    ensures { λ r. ⌜ ((s : Scalar) → kindOf s ≡ kind → r ≡ present (widthOf s)) × (r ≤ 4) ⌝ }
+{
+    if kind <= 3 {
+        return 4;
+    }
+    if kind == 4 {
+        return 2;
+    }
+    0
+}
+
+// The bytes of a scalar that may be stored; 0 of any other.
+fn stored_width(kind: u32) -> u32
+    requires { ⌜ kind ≤ 6 ⌝ }
+    ensures { λ r. ⌜ ((s : Scalar) → kindOf s ≡ kind → r ≡ storedWidth s) ⌝ }
+{
+    if kind < 1 {
+        return 0;
+    }
+    scalar_size(kind)
+}
+
+// The alignment of a vector, and of a matrix column: 0 where it has none.
+pub fn vector_align(rows: u32, kind: u32) -> u32
+    requires { ⌜ (rows ≤ 4) × (kind ≤ 6) ⌝ }
+    ensures { λ r. ⌜ ((s : Scalar) → kindOf s ≡ kind → r ≡ present (vectorAlign rows s)) × (r ≤ 16) ⌝ }
+{
+    let w = scalar_size(kind);
+    if rows != 3 {
+        return rows * w;
+    }
+    if kind == 0 {
+        return 0;
+    }
+    4 * w
+}
+
+// The words of a part, of a type with this alignment: 0 where that is absent.
+pub fn unless_absent(align: u32, unit: u32) -> u32
+    ensures { λ r. ⌜ r ≡ cond (eqb align 0) 0 unit ⌝ }
+{
+    if align == 0 { 0 } else { unit }
+}
+
+// A scalar's entry: kinds 0 to 6.
+pub fn scalar_entry(e: Entry) -> Made
+    requires { ⌜ e .kind ≤ 6 ⌝ }
+    ensures { λ r. ⌜ r ≡ madeOf (e .reference) (scalarMade (entryIs e)) ⌝ }
+{
+    let kind = e.kind;
+    if !zeros(e.columns, e.rows, e.reference, e.count) {
+        return Made::Rule;
+    }
+    let w = scalar_size(kind);
+    let narrow = stored_width(kind);
+    let unit = unless_absent(w, 1);
+    Made::Laid(Layout {
+        kind,
+        narrow,
+        reference: e.reference,
+        count: 1,
+        unit,
+        stride: w,
+        size: w,
+        align: w,
+    })
+}

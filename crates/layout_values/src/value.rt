@@ -1,0 +1,97 @@
+// What the table holds of an entry: its value, eight numbers, and their names.
+ghost use mathlib.Core.Path.{_≡_};
+ghost use mathlib.Core.Bool.{true};
+ghost use Prim.Native.Nat.{_<_, _≤_};
+ghost use lib.ListN.{length};
+ghost use Rattle.wgsl.specs.Types.{Ty, everywhere, isOpen};
+ghost use Rattle.wgsl.specs.Rule.{isWellFormed};
+ghost use Rattle.layout_values.specs.Value.{valueOf, wordsIn, numbersOf, layoutAt, blankTable};
+
+// The numbers of a layout, in its order. Without a gap, so that a blank table is cleared at once.
+pub type Value = [u32; 8];
+
+// The layout of a type. A size, an alignment and a stride are above 0, and 0 stands for an absent one. Its parts are a vector's scalars,
+// a matrix's columns, an array's elements; a scalar and an atomic are one part.
+pub struct Layout {
+    pub kind: u32,
+    // the fewest bytes that one of its words takes: 4, or 2 where it holds an f16; 0 where it holds what cannot be stored
+    pub narrow: u32,
+    // the entry that it refers to; of a struct the number of its first member
+    pub reference: u32,
+    // its parts; of a struct its members; of a runtime array 0
+    pub count: u32,
+    // the words of a part; of a struct all its words; 0 where it has no layout
+    pub unit: u32,
+    // from one part to the next; of a struct, from one member entry to the next
+    pub stride: u32,
+    pub size: u32,
+    pub align: u32,
+}
+
+// What becomes of an entry: a layout, or document 01's 5, 6 or 7.
+pub enum Made {
+    Laid(Layout),
+    Rule,
+    Given,
+    Large,
+}
+
+// The table before it is filled.
+pub fn blank() -> [Value; 256]
+    ensures { λ r. ⌜ r ≡ blankTable ⌝ }
+{
+    [[0u32; 8]; 256]
+}
+
+pub fn numbers(l: Layout) -> Value
+    ensures { λ r. ⌜ r ≡ numbersOf l ⌝ }
+{
+    [
+        l.kind,
+        l.narrow,
+        l.reference,
+        l.count,
+        l.unit,
+        l.stride,
+        l.size,
+        l.align,
+    ]
+}
+
+// The layout of entry `e`.
+pub fn layout_at(table: &[Value], e: usize) -> Layout
+    requires { ⌜ e < length (now table) ⌝ }
+    ensures { λ r. ⌜ r ≡ layoutAt (now (table .entry)) e ⌝ }
+{
+    Layout {
+        kind: table[e][0],
+        narrow: table[e][1],
+        reference: table[e][2],
+        count: table[e][3],
+        unit: table[e][4],
+        stride: table[e][5],
+        size: table[e][6],
+        align: table[e][7],
+    }
+}
+
+// Whether a type is open: what has an alignment is open or has a size.
+pub fn opens(l: Layout) -> bool
+    ensures { λ r. ⌜ ((t : Ty) → l ≡ valueOf (l .reference) t → everywhere isWellFormed t ≡ true → r ≡ isOpen t) ⌝ }
+{
+    if l.size != 0 {
+        return false;
+    }
+    l.align != 0
+}
+
+// The words of a type, with no element of a runtime array; 0 where it has no layout.
+pub fn words_of(l: Layout) -> u32
+    requires { ⌜ wordsIn l ≤ 4294967295 ⌝ }
+    ensures { λ r. ⌜ r ≡ wordsIn l ⌝ }
+{
+    if l.kind == 12 {
+        return l.unit;
+    }
+    l.count * l.unit
+}

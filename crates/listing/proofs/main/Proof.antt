@@ -1,0 +1,19 @@
+-- A listing has at most 8,467 bytes, so that it ends inside the buffer.
+use borrow.Author.Needs.{needs}
+use mathlib.Core.Path.{sym}
+use lib.Seq.{length-take-le}
+use Rattle.listing_file.proofs.Lengths.{listing-inside}
+use Rattle.listing.proofs.main.Statement.{statement}
+use Rattle.listing.proofs.main.Tie as tie
+
+array-share-prefix-out : tie.Need-array-share-prefix-out
+array-share-prefix-out c = listing-inside _ (search needs) (c .before .list .ensures)
+
+slice-aggregate-write-all : tie.Need-slice-aggregate-write-all
+slice-aggregate-write-all c = sym (length-take-le _ _ (array-share-prefix-out (c .before)))
+
+pub main-spec : {M : Type 1} → statement M
+main-spec =
+    tie.close (tie.spec
+    (λ c. search needs) (λ c κs. search needs) (λ c. search needs) (λ c. search needs) (λ c. search needs)
+    (λ c κs. search needs) array-share-prefix-out slice-aggregate-write-all (λ c κs. search needs) (λ c. search needs))

@@ -1,4 +1,0 @@
-// The listing of examples/listing_absent.txt: absent numbers.
-fn main() {
-    lister::run();
-}

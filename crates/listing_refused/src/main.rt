@@ -1,4 +1,0 @@
-// The listing of examples/listing_refused.txt: a refusal without a place.
-fn main() {
-    lister::run();
-}

@@ -1,0 +1,43 @@
+-- Laws of the texts of a listing's lines, by the tests in them: `marked` (specs/Put), `refusedLine` (crates/wgsl).
+-- Assumes nothing.
+use Prim.Native.Nat.{ℕ, _<_, _≤_}
+use mathlib.Core.Path.{_≡_}
+use mathlib.Core.List.{_++_, append-nil}
+use mathlib.Core.Logic.{⊎-elim}
+use native.Mathlib.Nat.{eq-zero-or-pos}
+use native.Mathlib.Omega.{arith}
+use borrow.Author.Tests.{le-leb, lt-leb, eq-eqb, ne-eqb}
+use lib.ListN.{length}
+use Rattle.wgsl.specs.File.{between}
+use Rattle.wgsl.specs.Listing.{refusedText, atText, newline, dash, decimal, orDash, refusedLine}
+use Rattle.listing_text.specs.Put.{marked}
+use Rattle.listing_text.proofs.Decimals.{decimal-length}
+
+pub marked-absent : (n : ℕ) → n ≡ 0 → marked n ≡ dash
+unfolding marked orDash
+marked-absent n e = rw (eq-eqb n 0 e)
+
+pub marked-number : (n : ℕ) → (n ≡ 0 → ⊥) → marked n ≡ decimal n
+unfolding marked orDash
+marked-number n e = rw (ne-eqb n 0 e)
+
+pub marked-length : (n : ℕ) → length (marked n) ≤ 10
+unfolding dash
+marked-length n =
+    ⊎-elim
+    (λ (e : n ≡ 0). rw (marked-absent n e) (omega arith))
+    (λ (h : 0 < n). rw (marked-number n (λ e. omega arith)) (decimal-length n))
+    (eq-zero-or-pos n)
+
+module _ (number place : ℕ) where
+  pub refusedLine-low : number < 5 → refusedLine number place ≡ refusedText ++ decimal number ++ newline
+  unfolding refusedLine between
+  refusedLine-low h = rw (lt-leb 5 number h, append-nil (refusedText ++ decimal number))
+
+  pub refusedLine-high : 7 < number → refusedLine number place ≡ refusedText ++ decimal number ++ newline
+  unfolding refusedLine between
+  refusedLine-high h = rw (le-leb 5 number (omega arith), lt-leb number 7 h, append-nil (refusedText ++ decimal number))
+
+  pub refusedLine-place : 5 ≤ number → number ≤ 7 → refusedLine number place ≡ refusedText ++ decimal number ++ (atText ++ decimal place) ++ newline
+  unfolding refusedLine between
+  refusedLine-place l h = rw (le-leb 5 number l, le-leb number 7 h)

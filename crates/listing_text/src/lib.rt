@@ -1,0 +1,85 @@
+// Lines of text into a lent buffer: what the listing program writes.
+ghost use Prim.Native.Nat.{_+_, _≤_};
+ghost use lib.ListN.{length};
+ghost use Rattle.wgsl.specs.Listing.{decimal, refusedLine};
+ghost use Rattle.listing_text.specs.Put.{Put, marked, line, heading};
+
+// Puts the text at `at` and answers where it ends; every other byte stays.
+pub fn put(out: &mut [u8], at: usize, text: &[u8]) -> usize
+    requires { ⌜ at + length (now text) ≤ length (now out) ⌝ }
+    ensures { λ r. ⌜ Put (now (out .entry)) at (now (text .entry)) r (now (out .exit)) ⌝ }
+{
+    let n = text.len();
+    let mut i: usize = 0;
+    while i < n {
+        out[at + i] = text[i];
+        i += 1;
+    }
+    at + n
+}
+
+// Puts a number in decimal: at most ten digits.
+pub fn put_decimal(out: &mut [u8], at: usize, n: u32) -> usize
+    requires { ⌜ at + 10 ≤ length (now out) ⌝ }
+    ensures { λ r. ⌜ Put (now (out .entry)) at (decimal n) r (now (out .exit)) ⌝ }
+{
+    if n < 10 {
+        out[at] = (48 + n % 10) as u8;
+        return at + 1;
+    }
+    let next = put_decimal(out, at, n / 10);
+    out[next] = (48 + n % 10) as u8;
+    next + 1
+}
+
+// Puts a number, or a dash for an absent one, which 0 stands for.
+pub fn put_marked(out: &mut [u8], at: usize, n: u32) -> usize
+    requires { ⌜ at + 10 ≤ length (now out) ⌝ }
+    ensures { λ r. ⌜ Put (now (out .entry)) at (marked n) r (now (out .exit)) ⌝ }
+{
+    if n == 0 {
+        return put(out, at, b"-");
+    }
+    put_decimal(out, at, n)
+}
+
+// Puts the line of an entry: its number, its size and its alignment, 0 standing for an absent one.
+pub fn put_line(out: &mut [u8], at: usize, k: u32, size: u32, align: u32) -> usize
+    requires { ⌜ at + 33 ≤ length (now out) ⌝ }
+    ensures { λ r. ⌜ Put (now (out .entry)) at (line k size align) r (now (out .exit)) ⌝ }
+{
+    let a = put_decimal(out, at, k);
+    let b = put(out, a, b" ");
+    let c = put_marked(out, b, size);
+    let d = put(out, c, b" ");
+    let e = put_marked(out, d, align);
+    put(out, e, b"\n")
+}
+
+// Puts the first line of a listing.
+pub fn put_heading(out: &mut [u8], at: usize, types: u32) -> usize
+    requires { ⌜ at + 19 ≤ length (now out) ⌝ }
+    ensures { λ r. ⌜ Put (now (out .entry)) at (heading types) r (now (out .exit)) ⌝ }
+{
+    let a = put(out, at, b"entries ");
+    let b = put_decimal(out, a, types);
+    put(out, b, b"\n")
+}
+
+// Puts the line of a refusal.
+pub fn put_refused(out: &mut [u8], at: usize, number: u32, place: u32) -> usize
+    requires { ⌜ at + 33 ≤ length (now out) ⌝ }
+    ensures { λ r. ⌜ Put (now (out .entry)) at (refusedLine number place) r (now (out .exit)) ⌝ }
+{
+    let a = put(out, at, b"refused ");
+    let b = put_decimal(out, a, number);
+    if number < 5 {
+        return put(out, b, b"\n");
+    }
+    if 7 < number {
+        return put(out, b, b"\n");
+    }
+    let c = put(out, b, b" at ");
+    let d = put_decimal(out, c, place);
+    put(out, d, b"\n")
+}

@@ -1,0 +1,27 @@
+-- What the answers of the questions say.
+-- Definitions only. Assumes nothing.
+use Prim.Native.Nat.{ℕ}
+use mathlib.Core.Option.{Option, none, some}
+use Rattle.wgsl.specs.Said.{Said, good, refused}
+use Rattle.wgsl.specs.Call as wgsl
+use Rattle.said.specs.Refusal.{numberOf, placeOf}
+use Rattle.said.specs.declared.answer.Number.{Number}
+use Rattle.said.specs.declared.answer.Number.the-variants.{Is, Refused}
+use Rattle.said.specs.declared.answer.Maybe.{Maybe}
+use Rattle.said.specs.declared.answer.Sizes.{Sizes}
+use Rattle.said.specs.declared.answer.Answer.{Answer}
+
+abbrev pub saidNumber : Number → Said ℕ
+saidNumber (Is n) = good n
+saidNumber (Refused r) = refused (numberOf r) (placeOf r)
+
+abbrev pub maybeOf : Maybe → Option ℕ
+maybeOf Maybe.Absent = none
+maybeOf (Maybe.Is n) = some n
+
+abbrev pub layoutIs : Sizes → wgsl.Layout
+layoutIs s = record { size = maybeOf (s .size); align = maybeOf (s .align); minSize = maybeOf (s .min) }
+
+abbrev pub saidAnswer : Answer → Said wgsl.Layout
+saidAnswer (Answer.Is s) = good (layoutIs s)
+saidAnswer (Answer.Refused r) = refused (numberOf r) (placeOf r)

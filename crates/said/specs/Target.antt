@@ -1,0 +1,34 @@
+-- What a walk answers, and where a part of a buffer lies (crates/wgsl, specs/Path).
+-- Definitions only. Assumes nothing.
+use Prim.Native.Nat.{ℕ, _+_}
+use Rattle.wgsl.specs.Said.{Said, good, refused}
+use Rattle.wgsl.specs.Rank.{kindOf}
+use Rattle.wgsl.specs.Place.{Shape, one, parts, field, whole, spanOf}
+use Rattle.wgsl.specs.Path as path
+use Rattle.said.specs.Refusal.{numberOf, placeOf}
+use Rattle.said.specs.declared.target.Target.{Target}
+use Rattle.said.specs.declared.target.Walked.{Walked}
+use Rattle.said.specs.declared.target.Walked.the-variants.{To, Refused}
+
+-- the kind of the one scalar that a shape is; 7 where it is none
+unfoldable pub scalarIn : Shape → ℕ
+scalarIn (one s) = kindOf s
+scalarIn (parts n stride x) = 7
+scalarIn (field offset x rest) = 7
+scalarIn (whole z) = 7
+
+-- the offset of a target, its bytes, and the kind of the one scalar that it is (7 where it is none)
+abbrev pub targetIs : path.Target → Target
+targetIs t = record { offset = t .offset; size = spanOf (t .shape); scalar = scalarIn (t .shape) }
+
+abbrev pub reached : Said path.Target → Said Target
+reached (good t) = good (targetIs t)
+reached (refused number place) = refused number place
+
+abbrev pub saidWalked : Walked → Said Target
+saidWalked (To t) = good t
+saidWalked (Refused r) = refused (numberOf r) (placeOf r)
+
+-- so many bytes after a place in memory, which is a block and an offset in it
+abbrev pub after : ℕ × ℕ → ℕ → ℕ × ℕ
+after p n = (p .0, n + p .1)

@@ -1,0 +1,25 @@
+// The answers of the questions: a number or a refusal, and all numbers of an entry or a refusal. What they say is specs/Answer.
+use crate::refusal::Refusal;
+
+// A number, or a refusal.
+pub enum Number {
+    Is(u32),
+    Refused(Refusal),
+}
+
+// A number that may be absent.
+pub enum Maybe {
+    Absent,
+    Is(u32),
+}
+
+pub struct Sizes {
+    pub size: Maybe,
+    pub align: Maybe,
+    pub min: Maybe,
+}
+
+pub enum Answer {
+    Is(Sizes),
+    Refused(Refusal),
+}

@@ -1,0 +1,14 @@
+// The answer of a walk along a path: a target or a refusal. What it says is specs/Target.
+use crate::refusal::Refusal;
+
+// What a path leads to: its offset, its bytes, and the kind of the one scalar that it is (7 where it is none).
+pub struct Target {
+    pub offset: usize,
+    pub size: usize,
+    pub scalar: u32,
+}
+
+pub enum Walked {
+    To(Target),
+    Refused(Refusal),
+}

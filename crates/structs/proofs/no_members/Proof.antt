@@ -1,7 +1,0 @@
--- The verdict on no members is a law of `Turns`.
-use Rattle.structs.proofs.Turns.{no-members}
-use Rattle.structs.proofs.no_members.Statement.{statement}
-use Rattle.structs.proofs.no_members.Tie as tie
-
-pub no-members-spec : {M : Type 1} → statement M
-no-members-spec = tie.close (tie.spec (λ c. no-members))

@@ -1,5 +1,0 @@
-pub mod Judging
-pub mod Members
-pub mod Fills
-pub mod Taken
-pub mod Grounds

@@ -1,3 +1,0 @@
-pub mod Step
-pub mod Way
-pub mod Walk

@@ -1,0 +1,200 @@
+// Writing words by the table: an entry part by part, a struct member by member. Entry numbers fall.
+use layout_values::value::Layout;
+use layout_values::value::Value;
+use layout_values::value::layout_at;
+use layout_values::value::words_of;
+use numbers::wide::wide;
+use runs::Parts;
+use runs::write_few;
+use runs::write_parts;
+use walk_trees::Placed;
+use walk_trees::packed;
+use walk_trees::part_width;
+use walk_trees::place;
+use words_spots::no_spots;
+use words_spots::spots_of;
+use words_spots::write_each;
+ghost use mathlib.Core.Path.{_≡_};
+ghost use Prim.Native.Nat.{_+_};
+ghost use lib.ListN.{length};
+ghost use Rattle.wgsl.specs.Place.{Shape, parts, placesOf};
+ghost use Rattle.runs.specs.Fold.{overPlaces, storing};
+ghost use Rattle.layout_values.specs.Value.{layoutAt};
+ghost use Rattle.walk_trees.specs.Placed.{placedAt};
+ghost use Rattle.walk_trees.specs.Tree.{Many, Tree, Room, EachRoom, MemberRoom};
+
+// Writes entry `e`, which begins at byte `at`, from word `k` on.
+pub fn write_entry(
+    members: &[u8],
+    table: &[Value],
+    e: usize,
+    at: usize,
+    words: &[u32],
+    k: usize,
+    buf: &mut [u8],
+)
+    requires { ⌜ ((x : Shape) × Tree (now members) (now table) e x × Room x at (length (now buf)) k (length (now words))) ⌝ }
+    ensures { λ _. ⌜ ((x : Shape) → Tree (now (members .entry)) (now (table .entry)) e x → now (buf .exit) ≡ overPlaces (storing (now (words .entry))) (placesOf x at) k (now (buf .entry))) ⌝ }
+{
+    let r = layout_at(table, e);
+    if r.kind == 12 {
+        write_structs(
+            members,
+            table,
+            e,
+            1,
+            wide(words_of(r)),
+            0,
+            at,
+            words,
+            k,
+            buf,
+        );
+        return;
+    }
+    write_many(members, table, r, at, words, k, buf);
+}
+
+// Writes parts as the layout `r` says: runs at once, others each by its entry.
+pub fn write_many(
+    members: &[u8],
+    table: &[Value],
+    r: Layout,
+    at: usize,
+    words: &[u32],
+    k: usize,
+    buf: &mut [u8],
+)
+    requires { ⌜ ((x : Shape) × Many (now members) (now table) r x × Room x at (length (now buf)) k (length (now words))) ⌝ }
+    ensures { λ _. ⌜ ((x : Shape) → Many (now (members .entry)) (now (table .entry)) r x → now (buf .exit) ≡ overPlaces (storing (now (words .entry))) (placesOf x at) k (now (buf .entry))) ⌝ }
+{
+    let count = wide(r.count);
+    let unit = wide(r.unit);
+    let stride = wide(r.stride);
+    let width = part_width(table, r);
+    if width != 0 {
+        let p = Parts {
+            count,
+            unit,
+            width: wide(width),
+            stride,
+        };
+        write_parts(words, k, p, buf, at);
+        return;
+    }
+    let element = wide(r.reference);
+    let below = layout_at(table, element);
+    if below.kind == 12 {
+        write_structs(
+            members,
+            table,
+            element,
+            count,
+            unit,
+            stride,
+            at,
+            words,
+            k,
+            buf,
+        );
+        return;
+    }
+    let mut i: usize = 0;
+    while i < count {
+        write_entry(
+            members,
+            table,
+            element,
+            at + i * stride,
+            words,
+            k + i * unit,
+            buf,
+        );
+        i += 1;
+    }
+}
+
+// Writes structs of `unit` words, `count` of them, each a `stride` after the one before. Small ones by their spots.
+fn write_structs(
+    members: &[u8],
+    table: &[Value],
+    e: usize,
+    count: usize,
+    unit: usize,
+    stride: usize,
+    at: usize,
+    words: &[u32],
+    k: usize,
+    buf: &mut [u8],
+)
+    requires { ⌜ ((y : Shape) × Tree (now members) (now table) e y × (layoutAt (now table) e .kind ≡ 12) × EachRoom y count unit stride at (length (now buf)) k (length (now words))) ⌝ }
+    ensures { λ _. ⌜ ((y : Shape) → Tree (now (members .entry)) (now (table .entry)) e y → now (buf .exit) ≡ overPlaces (storing (now (words .entry))) (placesOf (parts count stride y) at) k (now (buf .entry))) ⌝ }
+{
+    let mut spots = no_spots();
+    let few = spots_of(members, table, e, count, &mut spots);
+    if 0 < few {
+        write_each(&spots, few, count, unit, stride, at, words, k, buf);
+        return;
+    }
+    let mut i: usize = 0;
+    while i < count {
+        write_struct(members, table, e, at + i * stride, words, k + i * unit, buf);
+        i += 1;
+    }
+}
+
+// Writes a struct member by member.
+fn write_struct(
+    members: &[u8],
+    table: &[Value],
+    e: usize,
+    at: usize,
+    words: &[u32],
+    k: usize,
+    buf: &mut [u8],
+)
+    requires { ⌜ ((x : Shape) × Tree (now members) (now table) e x × (layoutAt (now table) e .kind ≡ 12) × Room x at (length (now buf)) k (length (now words))) ⌝ }
+    ensures { λ _. ⌜ ((x : Shape) → Tree (now (members .entry)) (now (table .entry)) e x → now (buf .exit) ≡ overPlaces (storing (now (words .entry))) (placesOf x at) k (now (buf .entry))) ⌝ }
+{
+    let r = layout_at(table, e);
+    let length = wide(r.stride);
+    let mut m = wide(r.reference) * length;
+    let mut left = wide(r.count);
+    let mut end: usize = 0;
+    let mut next = k;
+    while 0 < left {
+        let p = write_member(members, table, m, end, at, words, next, buf);
+        end = p.end;
+        next += p.words;
+        m += length;
+        left -= 1;
+    }
+}
+
+// Writes member `m` of a struct that begins at `at`, where the one before it ended at `end`; answers its place.
+fn write_member(
+    members: &[u8],
+    table: &[Value],
+    m: usize,
+    end: usize,
+    at: usize,
+    words: &[u32],
+    k: usize,
+    buf: &mut [u8],
+) -> Placed
+    requires { ⌜ ((y : Shape) × MemberRoom (now members) (now table) m end y at (length (now buf)) k (length (now words))) ⌝ }
+    ensures placed { λ r. ⌜ r ≡ placedAt (now (members .entry)) (now (table .entry)) m end ⌝ }
+    ensures written { λ _. ⌜ ((y : Shape) → Tree (now (members .entry)) (now (table .entry)) (placedAt (now (members .entry)) (now (table .entry)) m end .ty) y → now (buf .exit) ≡ overPlaces (storing (now (words .entry))) (placesOf y (at + placedAt (now (members .entry)) (now (table .entry)) m end .start)) k (now (buf .entry))) ⌝ }
+{
+    let p = place(members, table, m, end);
+    let r = layout_at(table, p.ty);
+    // a scalar or a vector, most often
+    if packed(r) == 4 {
+        if p.words <= 4 {
+            write_few(words, k, p.words, buf, at + p.start);
+            return p;
+        }
+    }
+    write_entry(members, table, p.ty, at + p.start, words, k, buf);
+    p
+}
