@@ -1,4 +1,6 @@
 // Answers questions about layout files: reads them on standard input and writes a line for each (oracle/README.md, version 4).
+mod lines;
+
 use crate::lines::bytes;
 use crate::lines::copy;
 use crate::lines::next;

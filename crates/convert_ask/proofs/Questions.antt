@@ -14,7 +14,7 @@ use lib.ListN.{length, getD, getElem?}
 use Rattle.wgsl.specs.Types.{bool, Ty, scalar}
 use Rattle.wgsl.specs.Said.{good, refused, _>>=_, orRefuse}
 use Rattle.wgsl.specs.Rule.{typesOf}
-use Rattle.wgsl.specs.Rank.{Entry, rankOf, commonOfAll}
+use Rattle.wgsl.specs.Rank.{Candidate, rankOf, commonOfAll}
 use Rattle.wgsl.specs.Call.{entryOf, rankCall, entriesOf, commonCall}
 use Rattle.wgsl.proofs.Absent.{both-hold, true-not-false}
 use Rattle.wgsl.proofs.Said.{then-is, then-refused}
@@ -51,7 +51,7 @@ entries-past ts (e ∷ es) h = go (entries-past ts es) (ltb e (length ts)) refl
     go later false q = rw (getElem-past ts e (ltb-false e (length ts) q))
 
 -- The number of what is chosen, or 18.
-chosen-number : (o : Option Entry) → orRefuse 18 0 (numberIn o) ≡ _>>=_ (orRefuse 18 0 o) (λ e. good (e .number))
+chosen-number : (o : Option Candidate) → orRefuse 18 0 (numberIn o) ≡ _>>=_ (orRefuse 18 0 o) (λ e. good (e .number))
 unfolding numberIn orRefuse _>>=_
 chosen-number (some e) = refl
 chosen-number none = refl

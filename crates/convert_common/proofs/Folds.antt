@@ -15,7 +15,7 @@ use lib.Dec.{ltb}
 use lib.ListN.{length, drop, getD}
 use lib.Seq.{drop-cons}
 use Rattle.wgsl.specs.Types.{bool, Ty, scalar}
-use Rattle.wgsl.specs.Rank.{rankOf, Entry, firstOf, commonOf, commonWith, commonOfAll}
+use Rattle.wgsl.specs.Rank.{rankOf, Candidate, firstOf, commonOf, commonWith, commonOfAll}
 use Rattle.wgsl.proofs.Absent.{both-hold}
 use Rattle.wgsl.proofs.Rank.{common-one}
 use Rattle.convert_rank.specs.Ranked.{Pair}
@@ -77,20 +77,20 @@ module _ (ts : List Ty) (a b : ℕ) where
   unfolding entryIn numberIn
   common-is e h = go (commonOf (entryIn ts a) (entryIn ts b)) refl h
     where
-      go : (o : Option Entry) → commonOf (entryIn ts a) (entryIn ts b) ≡ o → some e ≡ numberIn o → (commonOf (entryIn ts a) (entryIn ts b) ≡ some (entryIn ts e)) × ((e ≡ a) ⊎ (e ≡ b))
+      go : (o : Option Candidate) → commonOf (entryIn ts a) (entryIn ts b) ≡ o → some e ≡ numberIn o → (commonOf (entryIn ts a) (entryIn ts b) ≡ some (entryIn ts e)) × ((e ≡ a) ⊎ (e ≡ b))
       go none q h = absurd (Option·none-ne-some _ (sym h))
       go (some c) q h =
           let same : e ≡ c .number = cc in
           ⊎-elim (λ (k : c ≡ entryIn ts a).
-          let n : e ≡ a = same ∙ ap (λ (x : Entry). x .number) k in
+          let n : e ≡ a = same ∙ ap (λ (x : Candidate). x .number) k in
           (q ∙ ap some (rw n k), inl n))
           (λ (k : c ≡ entryIn ts b).
-          let n : e ≡ b = same ∙ ap (λ (x : Entry). x .number) k in
+          let n : e ≡ b = same ∙ ap (λ (x : Candidate). x .number) k in
           (q ∙ ap some (rw n k), inr n))
           (common-one (entryIn ts a) (entryIn ts b) q)
 
 -- nothing has no number
-number-none : (o : Option Entry) → none ≡ numberIn o → o ≡ none
+number-none : (o : Option Candidate) → none ≡ numberIn o → o ≡ none
 unfolding numberIn
 number-none none e = refl
 number-none (some x) e = absurd (Option·none-ne-some _ e)
@@ -102,7 +102,7 @@ pub record Folded (ts : List Ty) (list : List ℕ) (found i : ℕ) : Type 0 wher
   pub low : found < length ts
   pub left : commonWith (some (entryIn ts found)) (entriesIn ts (drop i list)) ≡ commonOfAll (entriesIn ts list)
 
-with-none : (es : List Entry) → commonWith none es ≡ none
+with-none : (es : List Candidate) → commonWith none es ≡ none
 unfolding commonWith
 with-none [] = refl
 with-none (e ∷ es) = refl

@@ -11,7 +11,7 @@ use Rattle.wgsl.specs.Types.{bool, Ty, scalar}
 use Rattle.wgsl.specs.Said.{good}
 use Rattle.wgsl.specs.File.{trailerOf}
 use Rattle.wgsl.specs.Rule.{typesOf}
-use Rattle.wgsl.specs.Rank.{Entry}
+use Rattle.wgsl.specs.Rank.{Candidate}
 use Rattle.convert_common.specs.declared.Chosen.{Chosen}
 
 abbrev pub chosenIs : Chosen → Option ℕ
@@ -29,12 +29,12 @@ pub record Listed (f : List ℕ) (ts : List Ty) (start : ℕ) (es : List ℕ) : 
   pub below : allBelow es (length ts) ≡ true
 
 -- entry number e of an accepted file, which has it
-unfoldable pub entryIn : List Ty → ℕ → Entry
+unfoldable pub entryIn : List Ty → ℕ → Candidate
 entryIn ts e = record { number = e; type = getD ts e (scalar bool) }
 
-unfoldable pub entriesIn : List Ty → List ℕ → List Entry
+unfoldable pub entriesIn : List Ty → List ℕ → List Candidate
 entriesIn ts es = map (entryIn ts) es
 
-unfoldable pub numberIn : Option Entry → Option ℕ
+unfoldable pub numberIn : Option Candidate → Option ℕ
 numberIn (some e) = some (e .number)
 numberIn none = none

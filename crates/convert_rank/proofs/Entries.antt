@@ -9,9 +9,9 @@ use mathlib.Core.Path.{_≡_, refl, sym, _∙_}
 use native.Mathlib.Omega.{arith}
 use borrow.Author.Tests.{leb-true, leb-false}
 use lib.Dec.{leb}
-use Rattle.wgsl.specs.Types.{Scalar, Ty, scalar}
+use Rattle.wgsl.specs.Types.{Scalar, Ty, scalar, scalarKind}
 use Rattle.wgsl.specs.File.{TypeEntry}
-use Rattle.wgsl.specs.Rank.{kindOf, outlineOf}
+use Rattle.wgsl.specs.Rank.{outlineOf}
 use Rattle.wgsl.proofs.Fields.{OverScalar}
 use Rattle.wgsl.proofs.AtEntry.{At, scalar-at, vector-at, matrix-at, array-at, runtime-at, atomic-at, struct-at, kind-high}
 use Rattle.convert_rank.specs.Ranked.{overScalar}
@@ -57,11 +57,11 @@ module _ {f : List ℕ} {ts : List Ty} {k : ℕ} {t : Ty} {x : TypeEntry} (at : 
       go (suc (suc (suc (suc (suc (suc n)))))) e = absurd (omega (arith, kind-high at))
 
 -- An entry whose type is a scalar has that scalar's kind.
-pub scalar-kind : {f : List ℕ} {ts : List Ty} {k : ℕ} {s : Scalar} {x : TypeEntry} → At f ts k (scalar s) x → kindOf s ≡ x .kind
+pub scalar-kind : {f : List ℕ} {ts : List Ty} {k : ℕ} {s : Scalar} {x : TypeEntry} → At f ts k (scalar s) x → scalarKind s ≡ x .kind
 unfolding front outlineOf
 scalar-kind {s = s} {x = x} at = go (leb (x .kind) 6) refl
   where
-    go : (b : Bool) → leb (x .kind) 6 ≡ b → kindOf s ≡ x .kind
+    go : (b : Bool) → leb (x .kind) 6 ≡ b → scalarKind s ≡ x .kind
     go true q = let (u, is, of) = scalar-at at (leb-true _ _ q) in cc
     go false q =
         let h : 6 < x .kind = leb-false _ _ q in

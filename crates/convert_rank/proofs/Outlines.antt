@@ -10,8 +10,8 @@ use mathlib.Core.Option.{none, some}
 use mathlib.Core.Path.{_≡_, refl, ap}
 use borrow.Author.Tests.{eq-eqb}
 use lib.ListN.{getD}
-use Rattle.wgsl.specs.Types.{Scalar, Ty, scalar, vector, matrix, array, runtime, atomic, struct, Members}
-use Rattle.wgsl.specs.Rank.{kindOf, scalarRank, outlineOf, leafOf, sameNumbers, leafRank, rankOf}
+use Rattle.wgsl.specs.Types.{Scalar, Ty, scalar, vector, matrix, array, runtime, atomic, struct, Members, scalarKind}
+use Rattle.wgsl.specs.Rank.{scalarRank, outlineOf, leafOf, sameNumbers, leafRank, rankOf}
 use Rattle.wgsl.proofs.Rank.{same-numbers}
 
 -- the kind that an outline begins with, 0 for every scalar
@@ -60,11 +60,11 @@ module _ {s t : Ty} {a b : Scalar} where
     matrix-rows h = rw (p, q) (outline-other (matrix c n a) (matrix d m b) (λ e. h (cc)))
 
   module _ (p : s ≡ atomic a) (q : t ≡ atomic b) where
-    pub atomic-same : kindOf a ≡ kindOf b → some 0 ≡ rankOf s t
+    pub atomic-same : scalarKind a ≡ scalarKind b → some 0 ≡ rankOf s t
     unfolding rankOf outlineOf leafOf sameNumbers leafRank
-    atomic-same h = rw (p, q, eq-eqb (kindOf a) (kindOf b) h)
+    atomic-same h = rw (p, q, eq-eqb (scalarKind a) (scalarKind b) h)
 
-    pub atomic-other : (kindOf a ≡ kindOf b → ⊥) → none ≡ rankOf s t
+    pub atomic-other : (scalarKind a ≡ scalarKind b → ⊥) → none ≡ rankOf s t
     unfolding outlineOf
     atomic-other h = rw (p, q) (outline-other (atomic a) (atomic b) (λ e. h (cc)))
 

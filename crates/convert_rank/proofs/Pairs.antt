@@ -11,9 +11,9 @@ use native.Mathlib.Omega.{arith}
 use borrow.Author.Tests.{leb-true, leb-false}
 use lib.Dec.{leb}
 use lib.ListN.{length, getElem?}
-use Rattle.wgsl.specs.Types.{Scalar, Ty, scalar}
+use Rattle.wgsl.specs.Types.{Scalar, Ty, scalar, scalarKind}
 use Rattle.wgsl.specs.File.{trailerOf, TypeEntry, typeEntryAt}
-use Rattle.wgsl.specs.Rank.{kindOf, scalarRank, rankOf}
+use Rattle.wgsl.specs.Rank.{scalarRank, rankOf}
 use Rattle.convert_rank.specs.Ranked.{Pair, overScalar}
 use Rattle.wgsl.proofs.AtEntry.{entry-inside, At, scalar-at, array-at, runtime-at, struct-at, reference-lower}
 use Rattle.convert_rank.proofs.Entries.{over-scalar-at, front-scalar, front-kind, scalar-kind}
@@ -33,7 +33,7 @@ pub record Two (f : List ℕ) (ts : List Ty) (a b : ℕ) (s t : Ty) (x y : TypeE
   pub second : At f ts b t y
 
 module _ {f : List ℕ} {ts : List Ty} {a b : ℕ} {s t : Ty} {x y : TypeEntry} (two : Two f ts a b s t x y) where
-  pub scalars-rank : {r : Option ℕ} → x .kind ≤ 6 → y .kind ≤ 6 → ((u v : Scalar) → kindOf u ≡ x .kind → kindOf v ≡ y .kind → r ≡ scalarRank u v) → r ≡ rankOf s t
+  pub scalars-rank : {r : Option ℕ} → x .kind ≤ 6 → y .kind ≤ 6 → ((u v : Scalar) → scalarKind u ≡ x .kind → scalarKind v ≡ y .kind → r ≡ scalarRank u v) → r ≡ rankOf s t
   scalars-rank low low′ h =
       let (u, s-is, p) = scalar-at (two .first) low in
       let (v, t-is, q) = scalar-at (two .second) low′ in
@@ -97,13 +97,13 @@ module _ {f : List ℕ} {ts : List Ty} {a b : ℕ} {s t : Ty} {x y : TypeEntry} 
 
       -- and u and v are their fields.
       module _ {u v : TypeEntry} (u-is : u ≡ typeEntryAt f i) (v-is : v ≡ typeEntryAt f j) where
-        left : {c : Scalar} → getElem? ts (x .reference) ≡ some (scalar c) → kindOf c ≡ u .kind
+        left : {c : Scalar} → getElem? ts (x .reference) ≡ some (scalar c) → scalarKind c ≡ u .kind
         left e = scalar-kind (record { good-file = two .first .good-file; type-is = rw i-is e; fields-are = u-is })
 
-        right : {c : Scalar} → getElem? ts (y .reference) ≡ some (scalar c) → kindOf c ≡ v .kind
+        right : {c : Scalar} → getElem? ts (y .reference) ≡ some (scalar c) → scalarKind c ≡ v .kind
         right e = scalar-kind (record { good-file = two .first .good-file; type-is = rw j-is e; fields-are = v-is })
 
-        pub over-scalars-rank : {r : Option ℕ} → 6 < x .kind → (x .kind ≡ 9 → ⊥) → (x .kind ≡ 10 → ⊥) → (x .kind ≡ 12 → ⊥) → ((c d : Scalar) → kindOf c ≡ u .kind → kindOf d ≡ v .kind → r ≡ rankOf (overScalar x c) (overScalar y d)) → r ≡ rankOf s t
+        pub over-scalars-rank : {r : Option ℕ} → 6 < x .kind → (x .kind ≡ 9 → ⊥) → (x .kind ≡ 10 → ⊥) → (x .kind ≡ 12 → ⊥) → ((c d : Scalar) → scalarKind c ≡ u .kind → scalarKind d ≡ v .kind → r ≡ rankOf (overScalar x c) (overScalar y d)) → r ≡ rankOf s t
         over-scalars-rank high no-array no-runtime no-struct h =
             let p = over-scalar-at (two .first) high no-array no-runtime no-struct in
             let q = over-scalar-at (two .second) (omega arith) (λ e. no-array (same ∙ e)) (λ e. no-runtime (same ∙ e)) (λ e. no-struct (same ∙ e)) in

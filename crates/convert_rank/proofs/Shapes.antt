@@ -6,9 +6,9 @@
 use mathlib.Core.Option.{none, some}
 use mathlib.Core.Path.{_≡_, sym, _∙_}
 use borrow.Author.Tests.{ne-eqb}
-use Rattle.wgsl.specs.Types.{Scalar, vector, matrix, atomic}
+use Rattle.wgsl.specs.Types.{Scalar, vector, matrix, atomic, scalarKind}
 use Rattle.wgsl.specs.File.{TypeEntry}
-use Rattle.wgsl.specs.Rank.{kindOf, scalarRank, rankOf}
+use Rattle.wgsl.specs.Rank.{scalarRank, rankOf}
 use Rattle.convert_rank.specs.Ranked.{overScalar}
 use Rattle.convert_rank.proofs.Outlines.{vector-same, vector-other, matrix-same, matrix-columns, matrix-rows, atomic-same, atomic-other}
 
@@ -50,8 +50,8 @@ module _ (x y : TypeEntry) (same : x .kind ≡ y .kind) (s t : Scalar) where
     second-atomic : overScalar y t ≡ atomic t
     second-atomic = is-atomic y t (λ e. no-vector (same ∙ e)) (λ e. no-matrix (same ∙ e))
 
-    pub atomics-same : kindOf s ≡ kindOf t → some 0 ≡ rankOf (overScalar x s) (overScalar y t)
+    pub atomics-same : scalarKind s ≡ scalarKind t → some 0 ≡ rankOf (overScalar x s) (overScalar y t)
     atomics-same h = atomic-same first-atomic second-atomic h
 
-    pub atomics-other : (kindOf s ≡ kindOf t → ⊥) → none ≡ rankOf (overScalar x s) (overScalar y t)
+    pub atomics-other : (scalarKind s ≡ scalarKind t → ⊥) → none ≡ rankOf (overScalar x s) (overScalar y t)
     atomics-other h = atomic-other first-atomic second-atomic h

@@ -3,7 +3,7 @@ pub mod scalar;
 
 use crate::scalar::Ranked;
 use crate::scalar::scalar_rank;
-use file::fields::Entry;
+use file::fields::TypeEntry;
 use file::fields::entry_at;
 use numbers::wide::wide;
 ghost use mathlib.Core.Path.{_≡_};
@@ -11,16 +11,16 @@ ghost use mathlib.Core.List.{List};
 ghost use mathlib.Core.Option.{some};
 ghost use Prim.Native.Nat.{_+_, _*_, _≤_};
 ghost use lib.ListN.{length, getElem?};
-ghost use Rattle.wgsl.specs.Types.{Scalar, Ty};
+ghost use Rattle.wgsl.specs.Types.{Scalar, Ty, scalarKind};
 ghost use Rattle.wgsl.specs.Said.{good};
 ghost use Rattle.wgsl.specs.File.{trailerOf, typeEntryAt};
 ghost use Rattle.wgsl.specs.Rule.{typesOf};
-ghost use Rattle.wgsl.specs.Rank.{kindOf, rankOf};
+ghost use Rattle.wgsl.specs.Rank.{rankOf};
 ghost use Rattle.file.specs.Fields.{entryIs};
 ghost use Rattle.convert_rank.specs.Ranked.{rankIs, Pair, overScalar};
 
 // Type entry `k`, where the entries begin at `start`.
-fn entry_of(f: &[u8], start: usize, k: usize) -> Entry
+fn entry_of(f: &[u8], start: usize, k: usize) -> TypeEntry
     requires { ⌜ (start ≡ trailerOf (now f) .start) × (start + 12 * k + 12 ≤ length (now f)) ⌝ }
     ensures { λ r. ⌜ entryIs r ≡ typeEntryAt (now (f .entry)) k ⌝ }
 {
@@ -28,9 +28,9 @@ fn entry_of(f: &[u8], start: usize, k: usize) -> Entry
 }
 
 // The rank of two types of one kind over scalars of kinds `u` and `v`: two vectors, two matrices or two atomics, with the fields `x` and `y`.
-fn over_scalar_rank(x: Entry, y: Entry, u: u32, v: u32) -> Ranked
+fn over_scalar_rank(x: TypeEntry, y: TypeEntry, u: u32, v: u32) -> Ranked
     requires { ⌜ x .kind ≡ y .kind ⌝ }
-    ensures { λ r. ⌜ ((s t : Scalar) → kindOf s ≡ u → kindOf t ≡ v → rankIs r ≡ rankOf (overScalar (entryIs x) s) (overScalar (entryIs y) t)) ⌝ }
+    ensures { λ r. ⌜ ((s t : Scalar) → scalarKind s ≡ u → scalarKind t ≡ v → rankIs r ≡ rankOf (overScalar (entryIs x) s) (overScalar (entryIs y) t)) ⌝ }
 {
     if x.kind == 7 {
         if x.rows != y.rows {

@@ -1,7 +1,7 @@
 // The rank of one scalar to another, by their kinds.
 ghost use mathlib.Core.Path.{_≡_};
-ghost use Rattle.wgsl.specs.Types.{Scalar};
-ghost use Rattle.wgsl.specs.Rank.{kindOf, fromAbstractInt, fromAbstractFloat, scalarRank};
+ghost use Rattle.wgsl.specs.Types.{Scalar, scalarKind};
+ghost use Rattle.wgsl.specs.Rank.{fromAbstractInt, fromAbstractFloat, scalarRank};
 ghost use Rattle.convert_rank.specs.Ranked.{rankIs};
 
 // A rank, or none.
@@ -12,7 +12,7 @@ pub enum Ranked {
 
 // "abstract int to i32 3, u32 4, abstract float 5, f32 6, f16 7"
 fn from_abstract_int(kind: u32) -> Ranked
-    ensures { λ r. ⌜ ((s : Scalar) → kindOf s ≡ kind → (kind ≡ 5 → ⊥) → rankIs r ≡ fromAbstractInt s) ⌝ }
+    ensures { λ r. ⌜ ((s : Scalar) → scalarKind s ≡ kind → (kind ≡ 5 → ⊥) → rankIs r ≡ fromAbstractInt s) ⌝ }
 {
     if kind == 1 {
         return Ranked::Is(3);
@@ -34,7 +34,7 @@ fn from_abstract_int(kind: u32) -> Ranked
 
 // "abstract float to f32 1, f16 2"
 fn from_abstract_float(kind: u32) -> Ranked
-    ensures { λ r. ⌜ ((s : Scalar) → kindOf s ≡ kind → (kind ≡ 6 → ⊥) → rankIs r ≡ fromAbstractFloat s) ⌝ }
+    ensures { λ r. ⌜ ((s : Scalar) → scalarKind s ≡ kind → (kind ≡ 6 → ⊥) → rankIs r ≡ fromAbstractFloat s) ⌝ }
 {
     if kind == 3 {
         return Ranked::Is(1);
@@ -47,7 +47,7 @@ fn from_abstract_float(kind: u32) -> Ranked
 
 // The rank of the scalar of kind `a` to that of kind `b`.
 pub fn scalar_rank(a: u32, b: u32) -> Ranked
-    ensures { λ r. ⌜ ((s t : Scalar) → kindOf s ≡ a → kindOf t ≡ b → rankIs r ≡ scalarRank s t) ⌝ }
+    ensures { λ r. ⌜ ((s t : Scalar) → scalarKind s ≡ a → scalarKind t ≡ b → rankIs r ≡ scalarRank s t) ⌝ }
 {
     if a == b {
         return Ranked::Is(0);

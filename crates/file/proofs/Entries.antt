@@ -19,5 +19,5 @@ unfolding memberEntryFrom
 memberEntry-is f at e type flags size align = rw (← type, ← flags, ← size, ← align)
 
 pub trailer-is : (f : List ℕ) (r : Trailer) → r .types ≡ load 2 f (length f - 10) → r .members ≡ load 2 f (length f - 10 + 2) → r .start ≡ load 4 f (length f - 10 + 4) → r .form ≡ load 2 f (length f - 10 + 8) → r ≡ trailerOf f
-unfolding trailerOf trailerLength
+unfolding trailerOf
 trailer-is f r types members start form = rw (← types, ← members, ← start, ← form)

@@ -37,18 +37,18 @@ module _ (t m : ℕ) where
 -- ---- the file
 
 pub checked-short : (f : List ℕ) → length f < 10 → checkTrailer f ≡ refused 1 0
-unfolding checkTrailer trailerLength
+unfolding checkTrailer
 checked-short f h = refuse-yes _ (lt-ltb (length f) 10 h)
 
 module _ (f : List ℕ) (r : Trailer) (is : r ≡ trailerOf f) (long : 10 ≤ length f) where
   pub checked-form : (r .form ≡ 1 → ⊥) → checkTrailer f ≡ refused 2 0
-  unfolding checkTrailer trailerLength
+  unfolding checkTrailer
   checked-form h =
       rw (← is) (refuse-no 1 0 (le-ltb (length f) 10 long) ∙ refuse-yes _ (ap not (ne-eqb (r .form) 1 h)))
 
   module _ (one : r .form ≡ 1) where
     checked-counts : not (between 1 256 (r .types) && between 0 1024 (r .members)) ≡ true → checkTrailer f ≡ refused 3 0
-    unfolding checkTrailer trailerLength
+    unfolding checkTrailer
     checked-counts h =
         rw (← is)
         (refuse-no 1 0 (le-ltb (length f) 10 long) ∙ refuse-no 2 0 (ap not (eq-eqb (r .form) 1 one)) ∙ refuse-yes _ h)
@@ -64,7 +64,7 @@ module _ (f : List ℕ) (r : Trailer) (is : r ≡ trailerOf f) (long : 10 ≤ le
       checked-members h = checked-counts (counts-members (r .types) (r .members) low high h)
 
       pub checked-length : r .members ≤ 1024 → (length f ≡ r .start + (12 * r .types + 12 * r .members) + 10 → ⊥) → checkTrailer f ≡ refused 4 0
-      unfolding checkTrailer trailerLength lengthBy typeEntryLength memberEntryLength
+      unfolding checkTrailer lengthBy
       checked-length few h =
           rw (← is)
           (refuse-no 1 0 (le-ltb (length f) 10 long) ∙ refuse-no 2 0 (ap not (eq-eqb (r .form) 1 one))
@@ -72,7 +72,7 @@ module _ (f : List ℕ) (r : Trailer) (is : r ≡ trailerOf f) (long : 10 ≤ le
           ∙ refuse-yes _ (ap not (ne-eqb _ _ h)))
 
       pub checked-good : r .members ≤ 1024 → length f ≡ r .start + (12 * r .types + 12 * r .members) + 10 → checkTrailer f ≡ good r
-      unfolding checkTrailer trailerLength lengthBy typeEntryLength memberEntryLength
+      unfolding checkTrailer lengthBy
       checked-good few h =
           rw (← is)
           (refuse-no 1 0 (le-ltb (length f) 10 long) ∙ refuse-no 2 0 (ap not (eq-eqb (r .form) 1 one))

@@ -5,8 +5,8 @@ use Rattle.wgsl.specs.File as wgsl
 use Rattle.file.specs.declared.trailer.Trailer.{Trailer}
 use Rattle.file.specs.declared.trailer.Trailered.{Trailered}
 use Rattle.file.specs.declared.trailer.Trailered.the-variants.{Good, Refused}
-use Rattle.file.specs.declared.fields.Entry.{Entry}
-use Rattle.file.specs.declared.fields.Member.{Member}
+use Rattle.file.specs.declared.fields.TypeEntry.{TypeEntry}
+use Rattle.file.specs.declared.fields.MemberEntry.{MemberEntry}
 use Rattle.said.specs.Refusal.{numberOf, placeOf}
 
 abbrev pub trailerIs : Trailer → wgsl.Trailer
@@ -16,7 +16,7 @@ abbrev pub saidTrailer : Trailered → Said wgsl.Trailer
 saidTrailer (Good t) = good (trailerIs t)
 saidTrailer (Refused r) = refused (numberOf r) (placeOf r)
 
-abbrev pub entryIs : Entry → wgsl.TypeEntry
+abbrev pub entryIs : TypeEntry → wgsl.TypeEntry
 entryIs e =
     record {
       kind = e .kind;
@@ -28,5 +28,5 @@ entryIs e =
       count = e .count;
     }
 
-abbrev pub memberIs : Member → wgsl.MemberEntry
+abbrev pub memberIs : MemberEntry → wgsl.MemberEntry
 memberIs m = record { type = m .ty; flags = m .flags; size = m .size; align = m .align }

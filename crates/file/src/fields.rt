@@ -11,7 +11,7 @@ ghost use Rattle.wgsl.specs.File.{typeEntryFrom, memberEntryFrom};
 ghost use Rattle.file.specs.Fields.{entryIs, memberIs};
 
 // A type entry.
-pub struct Entry {
+pub struct TypeEntry {
     pub kind: u32,
     pub columns: u32,
     pub rows: u32,
@@ -22,7 +22,7 @@ pub struct Entry {
 }
 
 // A member entry.
-pub struct Member {
+pub struct MemberEntry {
     pub ty: u32,
     pub flags: u32,
     pub size: u32,
@@ -45,11 +45,11 @@ pub fn half(f: &[u8], at: usize) -> u32
 }
 
 // The type entry that begins at `at`.
-pub fn entry_at(f: &[u8], at: usize) -> Entry
+pub fn entry_at(f: &[u8], at: usize) -> TypeEntry
     requires { ⌜ at + 12 ≤ length (now f) ⌝ }
     ensures { λ r. ⌜ entryIs r ≡ typeEntryFrom (now (f .entry)) at ⌝ }
 {
-    Entry {
+    TypeEntry {
         kind: byte(f, at),
         columns: byte(f, at + 1),
         rows: byte(f, at + 2),
@@ -61,11 +61,11 @@ pub fn entry_at(f: &[u8], at: usize) -> Entry
 }
 
 // The member entry that begins at `at`.
-pub fn member_at(f: &[u8], at: usize) -> Member
+pub fn member_at(f: &[u8], at: usize) -> MemberEntry
     requires { ⌜ at + 12 ≤ length (now f) ⌝ }
     ensures { λ r. ⌜ memberIs r ≡ memberEntryFrom (now (f .entry)) at ⌝ }
 {
-    Member {
+    MemberEntry {
         ty: half(f, at),
         flags: half(f, at + 2),
         size: u32_at(f, at + 4),

@@ -10,7 +10,7 @@ use mathlib.Core.Option.{Option, none, some}
 use mathlib.Core.Path.{_≡_, refl, sym, ap, _∙_}
 use native.Mathlib.Omega.{arith}
 use borrow.Author.Tests.{eq-eqb, ne-eqb}
-use Rattle.wgsl.specs.Types.{Ty, scalar, vector, matrix, array, runtime, atomic, struct, everywhere}
+use Rattle.wgsl.specs.Types.{Ty, scalar, vector, matrix, array, runtime, atomic, struct, everywhere, kindOf}
 use Rattle.wgsl.specs.Size.{present, sizeOf, alignOf, minSizeOf}
 use Rattle.wgsl.specs.Said.{Said, good, refused, _>>=_, orRefuse}
 use Rattle.wgsl.specs.File.{checkTrailer}
@@ -25,8 +25,8 @@ use Rattle.said.specs.declared.refusal.Refusal.{Refusal}
 use Rattle.file.specs.declared.trailer.Trailer.{Trailer}
 use Rattle.layout_values.proofs.Scalar.{kind-bounded}
 use Rattle.layout_values.proofs.Values.{own-reference}
-use Rattle.layout_values.specs.Value.{kindOfType, partStride, valueOf}
-use Rattle.layout_values.specs.declared.value.Layout.{Layout}
+use Rattle.layout_values.specs.Value.{partsOf, valueOf}
+use Rattle.layout_values.specs.declared.value.Value.{Value}
 use Rattle.layout_table.specs.Table.{acceptedTrailer, saidChecked, groundOf, groundIn, saidGround}
 use Rattle.layout_table.specs.declared.Checked.{Checked}
 use Rattle.layout_table.specs.declared.Checked.the-variants.{Types, Refused}
@@ -35,9 +35,9 @@ use Rattle.layout_table.specs.declared.Grounded.{Grounded}
 use Rattle.layout_table.specs.declared.Grounded.the-variants as grounded
 use Rattle.layout_table.proofs.Taken.{inner, trailer-refused, told, told-refused}
 use Rattle.layout_table.proofs.Grounds.{ground-told, ground-told-refused}
-use Rattle.layout_ask.specs.Found.{marked}
-use Rattle.layout_ask.specs.Found.{layoutFound, saidFound}
-use Rattle.layout_ask.specs.declared.Found.{Found}
+use Rattle.layout_ask.specs.ValueFound.{marked}
+use Rattle.layout_ask.specs.ValueFound.{valueFound, saidValue}
+use Rattle.layout_ask.specs.declared.ValueFound.{ValueFound}
 
 -- ---- 0 for an absent number
 
@@ -65,8 +65,8 @@ marked-is ask p t w e = rw e (marked-present (ask t) (λ n h. p t n w h))
 
 -- ---- minimum sizes
 
-runtime-least : (t : Ty) → kindOfType t ≡ 10 → present (partStride t) ≡ present (minSizeOf t)
-unfolding kindOfType partStride minSizeOf
+runtime-least : (t : Ty) → kindOf t ≡ 10 → present (partsOf t .stride) ≡ present (minSizeOf t)
+unfolding kindOf partsOf minSizeOf
 runtime-least (scalar s) h = absurd (omega (arith, kind-bounded s))
 runtime-least (vector n s) h = absurd (omega arith)
 runtime-least (matrix c r s) h = absurd (omega arith)
@@ -75,8 +75,8 @@ runtime-least (runtime t) h = refl
 runtime-least (atomic s) h = absurd (omega arith)
 runtime-least (struct k ms) h = absurd (omega arith)
 
-other-least : (t : Ty) → (kindOfType t ≡ 10 → ⊥) → sizeOf t ≡ minSizeOf t
-unfolding kindOfType minSizeOf
+other-least : (t : Ty) → (kindOf t ≡ 10 → ⊥) → sizeOf t ≡ minSizeOf t
+unfolding kindOf minSizeOf
 other-least (scalar s) h = refl
 other-least (vector n s) h = refl
 other-least (matrix c r s) h = refl
@@ -85,18 +85,18 @@ other-least (runtime t) h = absurd (h refl)
 other-least (atomic s) h = refl
 other-least (struct k ms) h = refl
 
-module _ (l : Layout) (t : Ty) (is : l ≡ valueOf (l .reference) t) where
+module _ (l : Value) (t : Ty) (is : l ≡ valueOf (l .reference) t) where
   -- "its minimum size is one stride"
   pub least-stride : l .kind ≡ 10 → l .stride ≡ present (minSizeOf t)
   unfolding valueOf
-  least-stride h = ap (λ (x : Layout). x .stride) is ∙ runtime-least t (sym (ap (λ (x : Layout). x .kind) is) ∙ h)
+  least-stride h = ap (λ (x : Value). x .stride) is ∙ runtime-least t (sym (ap (λ (x : Value). x .kind) is) ∙ h)
 
   -- "any other type's is its size"
   pub least-size : (l .kind ≡ 10 → ⊥) → l .size ≡ present (minSizeOf t)
   unfolding valueOf
   least-size h =
-      ap (λ (x : Layout). x .size) is
-      ∙ ap present (other-least t (λ e. h (ap (λ (x : Layout). x .kind) is ∙ e)))
+      ap (λ (x : Value). x .size) is
+      ∙ ap present (other-least t (λ e. h (ap (λ (x : Value). x .kind) is ∙ e)))
 
 sizes-positive : Positive sizeOf
 sizes-positive t n w e = omega (arith, size-positive t n w e)
@@ -127,39 +127,39 @@ module _ (f : List ℕ) (a : Checked) (says : saidChecked a ≡ acceptedTrailer 
 -- ---- the layout of an entry
 
 module _ (f : List ℕ) (e : ℕ) where
-  found-refused : {number place : ℕ} → entryOf f e ≡ refused number place → refused number place ≡ layoutFound f e
-  unfolding layoutFound
+  found-refused : {number place : ℕ} → entryOf f e ≡ refused number place → refused number place ≡ valueFound f e
+  unfolding valueFound
   found-refused h = sym (then-refused _ h)
 
-  pub found-no-trailer : {number place : ℕ} → checkTrailer f ≡ refused number place → refused number place ≡ layoutFound f e
+  pub found-no-trailer : {number place : ℕ} → checkTrailer f ≡ refused number place → refused number place ≡ valueFound f e
   unfolding entryOf
   found-no-trailer h = found-refused (then-refused _ (trailer-refused f h))
 
   module _ (a : Grounded) (table : List (List ℕ)) (says : saidGround a table ≡ groundIn f e) where
-    pub found-ground : (g : Ground) → a ≡ grounded.Is g → good (g .layout) ≡ layoutFound f e
-    unfolding layoutFound groundOf
+    pub found-ground : (g : Ground) → a ≡ grounded.Is g → good (g .value) ≡ valueFound f e
+    unfolding valueFound groundOf
     found-ground g is =
         let x = ground-told f e a table says g is in
-        sym (then-is _ (x .entry-is) ∙ ap (λ (y : Ground). good (y .layout)) (sym (x .ground-is)))
+        sym (then-is _ (x .entry-is) ∙ ap (λ (y : Ground). good (y .value)) (sym (x .ground-is)))
 
-    pub found-no-ground : (r : Refusal) → a ≡ grounded.Refused r → refused (numberOf r) (placeOf r) ≡ layoutFound f e
+    pub found-no-ground : (r : Refusal) → a ≡ grounded.Refused r → refused (numberOf r) (placeOf r) ≡ valueFound f e
     found-no-ground r is = found-refused (ground-told-refused f e a table says r is)
 
 -- ---- what it tells
 
-module _ (f : List ℕ) (e : ℕ) (a : Found) (says : saidFound a ≡ layoutFound f e) where
+module _ (f : List ℕ) (e : ℕ) (a : ValueFound) (says : saidValue a ≡ valueFound f e) where
   -- A question about an entry that is refused is refused so.
-  pub ask-refused : {B : Type 0} (rest : Ty → Said B) (r : Refusal) → a ≡ Found.Refused r → refused (numberOf r) (placeOf r) ≡ _>>=_ (entryOf f e) rest
-  unfolding layoutFound
+  pub ask-refused : {B : Type 0} (rest : Ty → Said B) (r : Refusal) → a ≡ ValueFound.Refused r → refused (numberOf r) (placeOf r) ≡ _>>=_ (entryOf f e) rest
+  unfolding valueFound
   ask-refused rest r is =
-      sym (then-refused rest (then-cases _ _ (sym says ∙ ap saidFound is) (λ h. h) (λ x. good-not-refused refl (x .after))))
+      sym (then-refused rest (then-cases _ _ (sym says ∙ ap saidValue is) (λ h. h) (λ x. good-not-refused refl (x .after))))
 
-  module _ (l : Layout) (is : a ≡ Found.Is l) where
+  module _ (l : Value) (is : a ≡ ValueFound.Is l) where
     -- Any question that the layout of a well-formed type answers, its entry answers.
     ask-is : {B : Type 0} (rest : Ty → Said B) (s : Said B) → ((t : Ty) → l ≡ valueOf (l .reference) t → everywhere isWellFormed t ≡ true → s ≡ rest t) → s ≡ _>>=_ (entryOf f e) rest
-    unfolding layoutFound
+    unfolding valueFound
     ask-is rest s h =
-        let x = then-good _ _ (sym says ∙ ap saidFound is) in
+        let x = then-good _ _ (sym says ∙ ap saidValue is) in
         let t = x .value in
         h t (own-reference _ t (sym (inner (x .after)))) (entry-well-formed f e t (x .first)) ∙ sym (then-is rest (x .first))
 
@@ -169,11 +169,11 @@ module _ (f : List ℕ) (e : ℕ) (a : Found) (says : saidFound a ≡ layoutFoun
 
     pub ask-size : {s : Said ℕ} → s ≡ orRefuse 9 0 (marked (l .size)) → s ≡ sizeCall f e
     unfolding sizeCall valueOf
-    ask-size h = ask-number sizeOf sizes-positive (l .size) (λ t v. ap (λ (x : Layout). x .size) v) h
+    ask-size h = ask-number sizeOf sizes-positive (l .size) (λ t v. ap (λ (x : Value). x .size) v) h
 
     pub ask-align : {s : Said ℕ} → s ≡ orRefuse 9 0 (marked (l .align)) → s ≡ alignCall f e
     unfolding alignCall valueOf
-    ask-align h = ask-number alignOf align-positive (l .align) (λ t v. ap (λ (x : Layout). x .align) v) h
+    ask-align h = ask-number alignOf align-positive (l .align) (λ t v. ap (λ (x : Value). x .align) v) h
 
     module _ (least : ℕ) (same : (t : Ty) → l ≡ valueOf (l .reference) t → least ≡ present (minSizeOf t)) where
       pub ask-min-size : {s : Said ℕ} → s ≡ orRefuse 9 0 (marked least) → s ≡ minSizeCall f e
@@ -189,7 +189,7 @@ module _ (f : List ℕ) (e : ℕ) (a : Found) (says : saidFound a ≡ layoutFoun
             p,
             q,
             r,
-            marked-is sizeOf sizes-positive t w (ap (λ (x : Layout). x .size) v),
-            marked-is alignOf align-positive t w (ap (λ (x : Layout). x .align) v),
+            marked-is sizeOf sizes-positive t w (ap (λ (x : Value). x .size) v),
+            marked-is alignOf align-positive t w (ap (λ (x : Value). x .align) v),
             marked-is minSizeOf least-positive t w (same t v),
           ))

@@ -6,7 +6,7 @@ use layout_table::Checked;
 use layout_table::Grounded;
 use layout_table::accept;
 use layout_table::find;
-use layout_values::value::Layout;
+use layout_values::value::Value;
 use layout_values::value::blank;
 use said::answer::Answer;
 use said::answer::Maybe;
@@ -20,11 +20,11 @@ ghost use Rattle.wgsl.specs.Said.{orRefuse};
 ghost use Rattle.wgsl.specs.Call.{checkOf, sizeCall, alignCall, minSizeCall, layoutCall};
 ghost use Rattle.layout_values.specs.Value.{valueOf};
 ghost use Rattle.said.specs.Answer.{saidNumber, maybeOf, saidAnswer};
-ghost use Rattle.layout_ask.specs.Found.{layoutFound, saidFound, marked};
+ghost use Rattle.layout_ask.specs.ValueFound.{valueFound, saidValue, marked};
 
 // What the table holds of an entry, or a refusal 1 to 8.
-pub enum Found {
-    Is(Layout),
+pub enum ValueFound {
+    Is(Value),
     Refused(Refusal),
 }
 
@@ -40,19 +40,19 @@ pub fn check(file: &[u8]) -> Number
 }
 
 // The layout of entry `entry`.
-fn layout_of(file: &[u8], entry: u32) -> Found
-    ensures { λ r. ⌜ saidFound r ≡ layoutFound (now (file .entry)) entry ⌝ }
+fn value_of(file: &[u8], entry: u32) -> ValueFound
+    ensures { λ r. ⌜ saidValue r ≡ valueFound (now (file .entry)) entry ⌝ }
 {
     match check_trailer(file) {
-        Trailered::Refused(r) => Found::Refused(r),
+        Trailered::Refused(r) => ValueFound::Refused(r),
         Trailered::Good(t) => {
             let mut table = blank();
             match find(file, t, entry, &mut table) {
                 Grounded::Is(g) => {
-                    let l = g.layout;
-                    Found::Is(l)
+                    let l = g.value;
+                    ValueFound::Is(l)
                 }
-                Grounded::Refused(r) => Found::Refused(r),
+                Grounded::Refused(r) => ValueFound::Refused(r),
             }
         }
     }
@@ -77,7 +77,7 @@ fn mark(n: u32) -> Maybe
     Maybe::Is(n)
 }
 
-fn least(l: Layout) -> u32
+fn least(l: Value) -> u32
     ensures { λ r. ⌜ ((t : Ty) → l ≡ valueOf (l .reference) t → r ≡ present (minSizeOf t)) ⌝ }
 {
     if l.kind == 10 {
@@ -91,9 +91,9 @@ fn least(l: Layout) -> u32
 pub fn size(file: &[u8], entry: u32) -> Number
     ensures { λ r. ⌜ saidNumber r ≡ sizeCall (now (file .entry)) entry ⌝ }
 {
-    match layout_of(file, entry) {
-        Found::Is(l) => alone(l.size),
-        Found::Refused(r) => Number::Refused(r),
+    match value_of(file, entry) {
+        ValueFound::Is(l) => alone(l.size),
+        ValueFound::Refused(r) => Number::Refused(r),
     }
 }
 
@@ -102,9 +102,9 @@ pub fn size(file: &[u8], entry: u32) -> Number
 pub fn align(file: &[u8], entry: u32) -> Number
     ensures { λ r. ⌜ saidNumber r ≡ alignCall (now (file .entry)) entry ⌝ }
 {
-    match layout_of(file, entry) {
-        Found::Is(l) => alone(l.align),
-        Found::Refused(r) => Number::Refused(r),
+    match value_of(file, entry) {
+        ValueFound::Is(l) => alone(l.align),
+        ValueFound::Refused(r) => Number::Refused(r),
     }
 }
 
@@ -113,9 +113,9 @@ pub fn align(file: &[u8], entry: u32) -> Number
 pub fn min_size(file: &[u8], entry: u32) -> Number
     ensures { λ r. ⌜ saidNumber r ≡ minSizeCall (now (file .entry)) entry ⌝ }
 {
-    match layout_of(file, entry) {
-        Found::Is(l) => alone(least(l)),
-        Found::Refused(r) => Number::Refused(r),
+    match value_of(file, entry) {
+        ValueFound::Is(l) => alone(least(l)),
+        ValueFound::Refused(r) => Number::Refused(r),
     }
 }
 
@@ -124,12 +124,12 @@ pub fn min_size(file: &[u8], entry: u32) -> Number
 pub fn layout(file: &[u8], entry: u32) -> Answer
     ensures { λ r. ⌜ saidAnswer r ≡ layoutCall (now (file .entry)) entry ⌝ }
 {
-    match layout_of(file, entry) {
-        Found::Is(l) => Answer::Is(Sizes {
+    match value_of(file, entry) {
+        ValueFound::Is(l) => Answer::Is(Sizes {
             size: mark(l.size),
             align: mark(l.align),
             min: mark(least(l)),
         }),
-        Found::Refused(r) => Answer::Refused(r),
+        ValueFound::Refused(r) => Answer::Refused(r),
     }
 }

@@ -10,14 +10,13 @@ use native.Mathlib.Omega.{arith}
 use borrow.Author.Tests.{eq-eqb, ne-eqb, le-leb}
 use lib.Dec.{eqb, leb}
 use Rattle.wgsl.specs.Round.{isPower}
-use Rattle.wgsl.specs.Types.{bool, i32, u32, f32, f16, abstractInt, abstractFloat, Ty, scalar, vector, matrix, array, runtime, atomic, struct, isRuntime, everywhere}
+use Rattle.wgsl.specs.Types.{bool, i32, u32, f32, f16, abstractInt, abstractFloat, Ty, scalar, vector, matrix, array, runtime, atomic, struct, isRuntime, everywhere, scalarKind, kindOf}
 use Rattle.wgsl.specs.Size.{isPresent, present, sizeOf, alignOf}
 use Rattle.wgsl.specs.File.{MemberEntry, sizeIsGiven, alignIsGiven, givenSize, givenAlign}
 use Rattle.wgsl.specs.Rule.{memberAllowed, givenSizeFits, givenAlignFits, atLeast, isMultiple, isWellFormed}
-use Rattle.wgsl.specs.Rank.{kindOf}
 use Rattle.wgsl.proofs.Entry.{align-positive, size-positive}
-use Rattle.layout_values.specs.declared.value.Layout.{Layout}
-use Rattle.layout_values.specs.Value.{kindOfType, valueOf}
+use Rattle.layout_values.specs.declared.value.Value.{Value}
+use Rattle.layout_values.specs.Value.{valueOf}
 
 -- ---- absent numbers, for which a layout has 0
 
@@ -43,8 +42,8 @@ multiple none given h = absurd (omega arith)
 
 -- ---- kind 10
 
-runtime-kind : (t : Ty) → eqb (kindOfType t) 10 ≡ isRuntime t
-unfolding kindOfType isRuntime kindOf
+runtime-kind : (t : Ty) → eqb (kindOf t) 10 ≡ isRuntime t
+unfolding kindOf isRuntime scalarKind
 runtime-kind (scalar bool) = refl
 runtime-kind (scalar i32) = refl
 runtime-kind (scalar u32) = refl
@@ -59,18 +58,18 @@ runtime-kind (runtime t) = refl
 runtime-kind (atomic s) = refl
 runtime-kind (struct k ms) = refl
 
-module _ (l : Layout) (t : Ty) (is : l ≡ valueOf (l .reference) t) (w : everywhere isWellFormed t ≡ true) where
+module _ (l : Value) (t : Ty) (is : l ≡ valueOf (l .reference) t) (w : everywhere isWellFormed t ≡ true) where
   kind-is : eqb (l .kind) 10 ≡ isRuntime t
   unfolding valueOf
-  kind-is = ap (λ (x : Layout). eqb (x .kind) 10) is ∙ runtime-kind t
+  kind-is = ap (λ (x : Value). eqb (x .kind) 10) is ∙ runtime-kind t
 
   size-is : l .size ≡ present (sizeOf t)
   unfolding valueOf
-  size-is = ap (λ (x : Layout). x .size) is
+  size-is = ap (λ (x : Value). x .size) is
 
   align-is : l .align ≡ present (alignOf t)
   unfolding valueOf
-  align-is = ap (λ (x : Layout). x .align) is
+  align-is = ap (λ (x : Value). x .align) is
 
   -- ---- which members are allowed
 

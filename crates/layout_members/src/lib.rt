@@ -1,6 +1,6 @@
 // One member entry of a struct: its flags, tested by masks, and the rules 5 and 6 for it.
-use file::fields::Member;
-use layout_values::value::Layout;
+use file::fields::MemberEntry;
+use layout_values::value::Value;
 use numbers::power::is_power;
 ghost use mathlib.Core.Path.{_≡_};
 ghost use mathlib.Core.Bool.{true};
@@ -12,21 +12,21 @@ ghost use Rattle.file.specs.Fields.{memberIs};
 ghost use Rattle.layout_values.specs.Value.{valueOf};
 
 // "Flag bit 0 says a size is given"
-pub fn size_given(m: Member) -> bool
+pub fn size_given(m: MemberEntry) -> bool
     ensures { λ r. ⌜ r ≡ sizeIsGiven (memberIs m) ⌝ }
 {
     m.flags & 1 == 1
 }
 
 // "bit 1 an align"
-pub fn align_given(m: Member) -> bool
+pub fn align_given(m: MemberEntry) -> bool
     ensures { λ r. ⌜ r ≡ alignIsGiven (memberIs m) ⌝ }
 {
     m.flags & 2 == 2
 }
 
 // "other bits and fields not given are zero"
-pub fn rest_is_zero(m: Member) -> bool
+pub fn rest_is_zero(m: MemberEntry) -> bool
     ensures { λ r. ⌜ r ≡ restIsZero (memberIs m) ⌝ }
 {
     if m.flags & 0xffff_fffc != 0 {
@@ -44,7 +44,7 @@ pub fn rest_is_zero(m: Member) -> bool
 }
 
 // "A member type has size and alignment, except that the last may be a runtime array."
-pub fn is_allowed(l: Layout, last: bool) -> bool
+pub fn is_allowed(l: Value, last: bool) -> bool
     ensures { λ r. ⌜ ((t : Ty) → l ≡ valueOf (l .reference) t → everywhere isWellFormed t ≡ true → r ≡ memberAllowed last t) ⌝ }
 {
     if l.align == 0 {
@@ -60,7 +60,7 @@ pub fn is_allowed(l: Layout, last: bool) -> bool
 }
 
 // "A given size is at least the type's size and never stands on a runtime array."
-pub fn size_fits(m: Member, l: Layout) -> bool
+pub fn size_fits(m: MemberEntry, l: Value) -> bool
     ensures { λ r. ⌜ ((t : Ty) → l ≡ valueOf (l .reference) t → everywhere isWellFormed t ≡ true → r ≡ givenSizeFits t (givenSize (memberIs m))) ⌝ }
 {
     if !size_given(m) {
@@ -73,7 +73,7 @@ pub fn size_fits(m: Member, l: Layout) -> bool
 }
 
 // "A given align is a power of two and a multiple of the type's alignment."
-pub fn align_fits(m: Member, l: Layout) -> bool
+pub fn align_fits(m: MemberEntry, l: Value) -> bool
     requires { ⌜ 0 < l .align ⌝ }
     ensures { λ r. ⌜ ((t : Ty) → l ≡ valueOf (l .reference) t → everywhere isWellFormed t ≡ true → r ≡ givenAlignFits t (givenAlign (memberIs m))) ⌝ }
 {

@@ -12,7 +12,7 @@ use native.Mathlib.Omega.{arith}
 use native.Mathlib.Nat.{mul-le-mul-right}
 use borrow.Author.Tests.{le-leb, lt-leb}
 use Rattle.wgsl.specs.Round.{up, limit, withinLimit}
-use Rattle.wgsl.specs.Types.{Ty, array, isOpen, everywhere}
+use Rattle.wgsl.specs.Types.{Ty, array, isOpen, everywhere, kindOf}
 use Rattle.wgsl.specs.Size.{both, isPresent, present, sizeOf, alignOf, strideOf, minSizeOf, innerNumbersOf, numbersOf, withinLimits, fitsLimit, hasLayout}
 use Rattle.wgsl.specs.File.{TypeEntry}
 use Rattle.wgsl.specs.Rule.{when, andThen, unused, arrayMade, isAllowed, givenFits, isWellFormed}
@@ -20,14 +20,14 @@ use Rattle.numbers.specs.Limit.{limited}
 use Rattle.numbers.specs.declared.limit.Limited.the-variants.{Is, TooLarge}
 use Rattle.layout_referring.proofs.Limits.{limited-is, limited-large}
 use Rattle.layout_values.proofs.Presence.{Element, element, align-within, words-within, no-words}
-use Rattle.layout_values.specs.Value.{kindOfType, narrowOf, partsOf, partWords, partStride, fixedWords, wordsIn, valueOf, verdictOn, madeOf}
-use Rattle.layout_values.specs.declared.value.Layout.{Layout}
+use Rattle.layout_values.specs.Value.{narrowOf, partsOf, fixedWords, wordsIn, valueOf, verdictOn, madeOf}
+use Rattle.layout_values.specs.declared.value.Value.{Value}
 use Rattle.layout_values.specs.declared.value.Made.the-variants.{Laid, Rule, Large}
 
 -- ---- words
 
 -- The words of an element, with an alignment or without, are within the limit.
-pub array-words : (t : Ty) (l : Layout) → l ≡ valueOf (l .reference) t → everywhere isWellFormed t ≡ true → isOpen t ≡ false → wordsIn l ≤ 4294967295
+pub array-words : (t : Ty) (l : Value) → l ≡ valueOf (l .reference) t → everywhere isWellFormed t ≡ true → isOpen t ≡ false → wordsIn l ≤ 4294967295
 array-words t l is w o = go (l .align) refl
   where
     go : (a : ℕ) → l .align ≡ a → wordsIn l ≤ 4294967295
@@ -67,21 +67,21 @@ module _ (e : TypeEntry) (t : Ty) where
       -- ---- an element with no alignment
 
       -- "A number made from an absent one is absent": such an array has neither size nor layout.
-      pub array-unaligned : (l : Layout) → l ≡ valueOf (l .reference) t → isOpen t ≡ false → alignOf t ≡ none → madeOf (e .reference) (arrayMade (some t) e) ≡ Laid (record { kind = 9; narrow = l .narrow; reference = e .reference; count = e .count; unit = 0; stride = 0; size = 0; align = 0 })
-      unfolding fitsLimit withinLimits numbersOf minSizeOf innerNumbersOf strideOf sizeOf alignOf both valueOf kindOfType narrowOf partsOf partStride present hasLayout isPresent
+      pub array-unaligned : (l : Value) → l ≡ valueOf (l .reference) t → isOpen t ≡ false → alignOf t ≡ none → madeOf (e .reference) (arrayMade (some t) e) ≡ Laid (record { kind = 9; narrow = l .narrow; reference = e .reference; count = e .count; unit = 0; stride = 0; size = 0; align = 0 })
+      unfolding fitsLimit withinLimits numbersOf minSizeOf innerNumbersOf strideOf sizeOf alignOf both valueOf kindOf narrowOf partsOf present hasLayout isPresent
       array-unaligned l is h q =
-          let narrow : narrowOf t ≡ l .narrow = sym (ap (λ (x : Layout). x .narrow) is) in
+          let narrow : narrowOf t ≡ l .narrow = sym (ap (λ (x : Value). x .narrow) is) in
           array-allowed h ∙ rw (q, narrow)
 
       -- ---- an element that has one
 
-      module _ (l : Layout) (x : Element t l) where
+      module _ (l : Value) (x : Element t l) where
         size-is : sizeOf (array (e .count) t) ≡ some (e .count * up (l .align) (l .size))
         unfolding sizeOf both
         size-is = rw (x .align-is, x .size-is)
 
         past : 4294967295 < e .count * up (l .align) (l .size) → madeOf (e .reference) (arrayMade (some t) e) ≡ Large
-        unfolding fitsLimit withinLimits numbersOf withinLimit limit
+        unfolding fitsLimit withinLimits numbersOf withinLimit
         past h =
             array-allowed (x .closed)
             ∙ rw (size-is, lt-leb (e .count * up (l .align) (l .size)) 4294967295 h)
@@ -101,7 +101,7 @@ module _ (e : TypeEntry) (t : Ty) where
 
           module _ (size : ℕ) (whole : limited (e .count * stride) ≡ Is size) where
             fits : fitsLimit (array (e .count) t) ≡ true
-            unfolding fitsLimit withinLimits numbersOf minSizeOf innerNumbersOf strideOf sizeOf both withinLimit limit
+            unfolding fitsLimit withinLimits numbersOf minSizeOf innerNumbersOf strideOf sizeOf both withinLimit
             fits =
                 let apart-within = limited-is _ stride apart .1 in
                 let whole-within = limited-is _ size whole .1 in
@@ -116,7 +116,7 @@ module _ (e : TypeEntry) (t : Ty) where
 
             -- The layout of an array.
             pub array-laid : madeOf (e .reference) (arrayMade (some t) e) ≡ Laid (record { kind = 9; narrow = l .narrow; reference = e .reference; count = e .count; unit = wordsIn l; stride = stride; size = size; align = l .align })
-            unfolding valueOf kindOfType narrowOf partsOf partWords partStride present fixedWords hasLayout isPresent isOpen sizeOf alignOf strideOf both
+            unfolding valueOf kindOf narrowOf partsOf present fixedWords hasLayout isPresent isOpen sizeOf alignOf strideOf both
             array-laid =
                 array-allowed (x .closed)
                 ∙ rw (

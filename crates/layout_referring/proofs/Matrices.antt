@@ -11,22 +11,21 @@ use native.Mathlib.Nat.{mul-le-mul}
 use native.Mathlib.Omega.{arith}
 use borrow.Author.Tests.{le-leb, lt-leb}
 use lib.Dec.{eqb}
-use Rattle.wgsl.specs.Types.{Scalar, bool, i32, u32, f32, f16, abstractInt, abstractFloat, Ty, matrix, isOpen}
+use Rattle.wgsl.specs.Types.{Scalar, bool, i32, u32, f32, f16, abstractInt, abstractFloat, Ty, matrix, isOpen, scalarKind, kindOf}
 use Rattle.wgsl.specs.Size.{both, isPresent, present, vectorAlign, sizeOf, alignOf, minSizeOf, innerNumbersOf, hasLayout}
 use Rattle.wgsl.specs.File.{TypeEntry, between}
 use Rattle.wgsl.specs.Rule.{andThen, unused, scalarIn, matrixMade, isMatrixScalar, isAllowed, givenFits}
-use Rattle.wgsl.specs.Rank.{kindOf}
 use Rattle.layout_values.proofs.Verdict.{present-positive, fits-small, layout-closed, layout-none, value-is, unit-laid, unit-none, verdict-laid, made-used, made-rule, made-over}
 use Rattle.layout_values.proofs.Scalar.{scalar-known, scalar-kind}
 use Rattle.layout_values.proofs.Align.{times-present, align-absent}
-use Rattle.layout_values.specs.Value.{kindOfType, storedWidth, narrowOf, partsOf, partWords, partStride, valueOf, madeOf}
-use Rattle.layout_values.specs.declared.value.Layout.{Layout}
+use Rattle.layout_values.specs.Value.{storedWidth, narrowOf, partsOf, valueOf, madeOf}
+use Rattle.layout_values.specs.declared.value.Value.{Value}
 use Rattle.layout_values.specs.declared.value.Made.the-variants.{Laid, Rule}
 
 -- ---- the scalars of a matrix
 
-scalar-low : (s : Scalar) → kindOf s < 3 → isMatrixScalar s ≡ false
-unfolding kindOf isMatrixScalar
+scalar-low : (s : Scalar) → scalarKind s < 3 → isMatrixScalar s ≡ false
+unfolding scalarKind isMatrixScalar
 scalar-low bool h = refl
 scalar-low i32 h = refl
 scalar-low u32 h = refl
@@ -35,8 +34,8 @@ scalar-low f16 h = absurd (omega arith)
 scalar-low abstractInt h = refl
 scalar-low abstractFloat h = absurd (omega arith)
 
-scalar-five : (s : Scalar) → kindOf s ≡ 5 → isMatrixScalar s ≡ false
-unfolding kindOf isMatrixScalar
+scalar-five : (s : Scalar) → scalarKind s ≡ 5 → isMatrixScalar s ≡ false
+unfolding scalarKind isMatrixScalar
 scalar-five bool h = refl
 scalar-five i32 h = refl
 scalar-five u32 h = refl
@@ -45,8 +44,8 @@ scalar-five f16 h = absurd (omega arith)
 scalar-five abstractInt h = refl
 scalar-five abstractFloat h = absurd (omega arith)
 
-scalar-float : (s : Scalar) → 3 ≤ kindOf s → (kindOf s ≡ 5 → ⊥) → isMatrixScalar s ≡ true
-unfolding kindOf isMatrixScalar
+scalar-float : (s : Scalar) → 3 ≤ scalarKind s → (scalarKind s ≡ 5 → ⊥) → isMatrixScalar s ≡ true
+unfolding scalarKind isMatrixScalar
 scalar-float bool h n = absurd (omega arith)
 scalar-float i32 h n = absurd (omega arith)
 scalar-float u32 h n = absurd (omega arith)
@@ -62,12 +61,12 @@ times-there n none h = h
 
 -- ---- the entry
 
-module _ (t : Ty) (l : Layout) (is : l ≡ valueOf (l .reference) t) (e : TypeEntry) where
+module _ (t : Ty) (l : Value) (is : l ≡ valueOf (l .reference) t) (e : TypeEntry) where
   pub matrix-used : unused (e .count ∷ []) ≡ false → madeOf (e .reference) (matrixMade (some t) e) ≡ Rule
   unfolding matrixMade
   matrix-used h = made-used _ _ h
 
-  other-scalar : ((s : Scalar) → kindOf s ≡ l .kind → l .kind ≤ 6 → isMatrixScalar s ≡ false) → madeOf (e .reference) (matrixMade (some t) e) ≡ Rule
+  other-scalar : ((s : Scalar) → scalarKind s ≡ l .kind → l .kind ≤ 6 → isMatrixScalar s ≡ false) → madeOf (e .reference) (matrixMade (some t) e) ≡ Rule
   unfolding matrixMade andThen isAllowed
   other-scalar h =
       made-rule _ _ (scalarIn t) (matrix (e .columns) (e .rows))
@@ -114,12 +113,12 @@ module _ (t : Ty) (l : Layout) (is : l ≡ valueOf (l .reference) t) (e : TypeEn
           lt-leb (e .rows) 4 h,
         ))
 
-    module _ (zeros : unused (e .count ∷ []) ≡ true) (low : 3 ≤ l .kind) (scalars : l .kind ≤ 6) (float : l .kind ≡ 5 → ⊥) (top : 2 ≤ e .rows) (bottom : e .rows ≤ 4) (a : ℕ) (align : (s : Scalar) → kindOf s ≡ l .kind → a ≡ present (vectorAlign (e .rows) s)) (narrow : a ≤ 16) where
+    module _ (zeros : unused (e .count ∷ []) ≡ true) (low : 3 ≤ l .kind) (scalars : l .kind ≤ 6) (float : l .kind ≡ 5 → ⊥) (top : 2 ≤ e .rows) (bottom : e .rows ≤ 4) (a : ℕ) (align : (s : Scalar) → scalarKind s ≡ l .kind → a ≡ present (vectorAlign (e .rows) s)) (narrow : a ≤ 16) where
       -- "Matrix: columns x the alignment of a column vector"
-      size-is : (s : Scalar) → kindOf s ≡ l .kind → present (both _*_ (some (e .columns)) (vectorAlign (e .rows) s)) ≡ e .columns * a
+      size-is : (s : Scalar) → scalarKind s ≡ l .kind → present (both _*_ (some (e .columns)) (vectorAlign (e .rows) s)) ≡ e .columns * a
       size-is s k = rw (align s k) (times-present (e .columns) (vectorAlign (e .rows) s))
 
-      matrix-verdict : (v : Layout) → v .reference ≡ e .reference → ((s : Scalar) → kindOf s ≡ l .kind → l .narrow ≡ storedWidth s → v ≡ valueOf (v .reference) (matrix (e .columns) (e .rows) s)) → madeOf (e .reference) (matrixMade (some t) e) ≡ Laid v
+      matrix-verdict : (v : Value) → v .reference ≡ e .reference → ((s : Scalar) → scalarKind s ≡ l .kind → l .narrow ≡ storedWidth s → v ≡ valueOf (v .reference) (matrix (e .columns) (e .rows) s)) → madeOf (e .reference) (matrixMade (some t) e) ≡ Laid v
       unfolding matrixMade andThen isAllowed between givenFits sizeOf alignOf minSizeOf innerNumbersOf
       matrix-verdict v q h =
           let x = scalar-known t l is scalars in
@@ -137,7 +136,7 @@ module _ (t : Ty) (l : Layout) (is : l ≡ valueOf (l .reference) t) (e : TypeEn
 
       -- The layout of a matrix: one with no alignment has no words.
       pub matrix-laid : (u : ℕ) → u ≡ cond (eqb a 0) 0 (e .rows) → madeOf (e .reference) (matrixMade (some t) e) ≡ Laid (record { kind = 8; narrow = l .narrow; reference = e .reference; count = e .columns; unit = u; stride = a; size = e .columns * a; align = a })
-      unfolding kindOfType narrowOf partsOf partWords partStride sizeOf alignOf isOpen
+      unfolding kindOf narrowOf partsOf sizeOf alignOf isOpen
       matrix-laid u unit =
           matrix-verdict _ refl
           (λ s k b. value-is (matrix (e .columns) (e .rows) s) _ refl b refl (unit ∙ units s a (align s k)) (align s k)

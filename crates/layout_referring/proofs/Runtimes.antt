@@ -9,7 +9,7 @@ use mathlib.Core.Option.{none, some}
 use mathlib.Core.Path.{_≡_, _∙_}
 use borrow.Author.Tests.{le-leb, lt-leb}
 use Rattle.wgsl.specs.Round.{up, limit, withinLimit}
-use Rattle.wgsl.specs.Types.{Ty, runtime, isOpen}
+use Rattle.wgsl.specs.Types.{Ty, runtime, isOpen, kindOf}
 use Rattle.wgsl.specs.Size.{both, isPresent, present, sizeOf, alignOf, strideOf, minSizeOf, innerNumbersOf, numbersOf, withinLimits, fitsLimit, hasLayout}
 use Rattle.wgsl.specs.File.{TypeEntry}
 use Rattle.wgsl.specs.Rule.{when, andThen, unused, runtimeMade, isAllowed, givenFits}
@@ -17,8 +17,8 @@ use Rattle.numbers.specs.Limit.{limited}
 use Rattle.numbers.specs.declared.limit.Limited.the-variants.{Is, TooLarge}
 use Rattle.layout_referring.proofs.Limits.{limited-is, limited-large}
 use Rattle.layout_values.proofs.Presence.{Element, align-within}
-use Rattle.layout_values.specs.Value.{kindOfType, narrowOf, partsOf, partWords, partStride, fixedWords, wordsIn, valueOf, verdictOn, madeOf}
-use Rattle.layout_values.specs.declared.value.Layout.{Layout}
+use Rattle.layout_values.specs.Value.{narrowOf, partsOf, fixedWords, wordsIn, valueOf, verdictOn, madeOf}
+use Rattle.layout_values.specs.declared.value.Value.{Value}
 use Rattle.layout_values.specs.declared.value.Made.the-variants.{Laid, Rule, Large}
 
 module _ (e : TypeEntry) (t : Ty) where
@@ -48,27 +48,27 @@ module _ (e : TypeEntry) (t : Ty) where
 
     -- ---- an element that has an alignment
 
-    module _ (l : Layout) (x : Element t l) where
+    module _ (l : Value) (x : Element t l) where
       runtime-allowed : madeOf (e .reference) (runtimeMade (some t) e) ≡ cond (fitsLimit (runtime t)) (Laid (valueOf (e .reference) (runtime t))) Large
       unfolding verdictOn isAllowed givenFits isPresent
       runtime-allowed = runtime-made ∙ rw (x .closed, x .align-is, x .size-is)
 
       -- "its minimum size is one stride", past the limit
       pub runtime-apart : limited (up (l .align) (l .size)) ≡ TooLarge → madeOf (e .reference) (runtimeMade (some t) e) ≡ Large
-      unfolding fitsLimit withinLimits numbersOf minSizeOf innerNumbersOf strideOf sizeOf both withinLimit limit
+      unfolding fitsLimit withinLimits numbersOf minSizeOf innerNumbersOf strideOf sizeOf both withinLimit
       runtime-apart h =
           runtime-allowed
           ∙ rw (x .align-is, x .size-is, lt-leb (up (l .align) (l .size)) 4294967295 (limited-large _ h), and-false)
 
       module _ (stride : ℕ) (apart : limited (up (l .align) (l .size)) ≡ Is stride) where
         fits : fitsLimit (runtime t) ≡ true
-        unfolding fitsLimit withinLimits numbersOf minSizeOf innerNumbersOf strideOf sizeOf both withinLimit limit
+        unfolding fitsLimit withinLimits numbersOf minSizeOf innerNumbersOf strideOf sizeOf both withinLimit
         fits =
             simp (x .align-is, x .size-is, le-leb _ _ (limited-is _ stride apart .1), le-leb _ _ (align-within t l x))
 
         -- The layout of a runtime array.
         pub runtime-laid : madeOf (e .reference) (runtimeMade (some t) e) ≡ Laid (record { kind = 10; narrow = l .narrow; reference = e .reference; count = 0; unit = wordsIn l; stride = stride; size = 0; align = l .align })
-        unfolding valueOf kindOfType narrowOf partsOf partWords partStride present fixedWords hasLayout isPresent isOpen sizeOf alignOf strideOf both
+        unfolding valueOf kindOf narrowOf partsOf present fixedWords hasLayout isPresent isOpen sizeOf alignOf strideOf both
         runtime-laid =
             runtime-allowed
             ∙ rw (

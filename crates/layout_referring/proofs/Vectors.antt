@@ -10,19 +10,18 @@ use mathlib.Core.Path.{_≡_, refl, sym, _∙_}
 use native.Mathlib.Omega.{arith}
 use borrow.Author.Tests.{le-leb, lt-leb}
 use lib.Dec.{eqb}
-use Rattle.wgsl.specs.Types.{Scalar, Ty, vector, isOpen}
+use Rattle.wgsl.specs.Types.{Scalar, Ty, vector, isOpen, scalarKind, kindOf}
 use Rattle.wgsl.specs.Size.{present, widthOf, vectorSize, vectorAlign, sizeOf, alignOf, minSizeOf, innerNumbersOf, hasLayout}
 use Rattle.wgsl.specs.File.{TypeEntry, between}
 use Rattle.wgsl.specs.Rule.{andThen, unused, scalarIn, vectorMade, isAllowed, givenFits}
-use Rattle.wgsl.specs.Rank.{kindOf}
 use Rattle.layout_values.proofs.Verdict.{present-positive, fits-small, layout-closed, layout-none, value-is, unit-laid, unit-none, verdict-laid, made-used, made-rule, made-over}
 use Rattle.layout_values.proofs.Scalar.{width-bounded, scalar-known, scalar-kind}
 use Rattle.layout_values.proofs.Align.{vector-size, times-bounded, size-present, align-absent}
-use Rattle.layout_values.specs.Value.{kindOfType, storedWidth, narrowOf, partsOf, partWords, partStride, valueOf, madeOf}
-use Rattle.layout_values.specs.declared.value.Layout.{Layout}
+use Rattle.layout_values.specs.Value.{storedWidth, narrowOf, partsOf, valueOf, madeOf}
+use Rattle.layout_values.specs.declared.value.Value.{Value}
 use Rattle.layout_values.specs.declared.value.Made.the-variants.{Laid, Rule}
 
-module _ (t : Ty) (l : Layout) (is : l ≡ valueOf (l .reference) t) (e : TypeEntry) where
+module _ (t : Ty) (l : Value) (is : l ≡ valueOf (l .reference) t) (e : TypeEntry) where
   pub vector-used : unused (e .columns ∷ e .count ∷ []) ≡ false → madeOf (e .reference) (vectorMade (some t) e) ≡ Rule
   unfolding vectorMade
   vector-used h = made-used _ _ h
@@ -43,11 +42,11 @@ module _ (t : Ty) (l : Layout) (is : l ≡ valueOf (l .reference) t) (e : TypeEn
   vector-high h =
       made-rule _ _ (scalarIn t) (vector (e .rows)) (λ s f. rw (le-leb 2 (e .rows) (omega arith), lt-leb (e .rows) 4 h))
 
-  module _ (zeros : unused (e .columns ∷ e .count ∷ []) ≡ true) (scalars : l .kind ≤ 6) (low : 2 ≤ e .rows) (high : e .rows ≤ 4) (w a : ℕ) (width : (s : Scalar) → kindOf s ≡ l .kind → w ≡ present (widthOf s)) (align : (s : Scalar) → kindOf s ≡ l .kind → a ≡ present (vectorAlign (e .rows) s)) (narrow : a ≤ 16) where
-    size-is : (s : Scalar) → kindOf s ≡ l .kind → e .rows * w ≡ present (vectorSize (e .rows) s)
+  module _ (zeros : unused (e .columns ∷ e .count ∷ []) ≡ true) (scalars : l .kind ≤ 6) (low : 2 ≤ e .rows) (high : e .rows ≤ 4) (w a : ℕ) (width : (s : Scalar) → scalarKind s ≡ l .kind → w ≡ present (widthOf s)) (align : (s : Scalar) → scalarKind s ≡ l .kind → a ≡ present (vectorAlign (e .rows) s)) (narrow : a ≤ 16) where
+    size-is : (s : Scalar) → scalarKind s ≡ l .kind → e .rows * w ≡ present (vectorSize (e .rows) s)
     size-is s k = rw (width s k) (sym (vector-size (e .rows) s))
 
-    vector-verdict : (v : Layout) → v .reference ≡ e .reference → ((s : Scalar) → kindOf s ≡ l .kind → l .narrow ≡ storedWidth s → v ≡ valueOf (v .reference) (vector (e .rows) s)) → madeOf (e .reference) (vectorMade (some t) e) ≡ Laid v
+    vector-verdict : (v : Value) → v .reference ≡ e .reference → ((s : Scalar) → scalarKind s ≡ l .kind → l .narrow ≡ storedWidth s → v ≡ valueOf (v .reference) (vector (e .rows) s)) → madeOf (e .reference) (vectorMade (some t) e) ≡ Laid v
     unfolding vectorMade andThen isAllowed between givenFits sizeOf alignOf minSizeOf innerNumbersOf
     vector-verdict v q h =
         let x = scalar-known t l is scalars in
@@ -62,7 +61,7 @@ module _ (t : Ty) (l : Layout) (is : l ≡ valueOf (l .reference) t) (e : TypeEn
 
     -- The layout of a vector. "none over bool, as in 000", and none over an abstract scalar: then it has no words.
     pub vector-laid : (u : ℕ) → u ≡ cond (eqb a 0) 0 1 → madeOf (e .reference) (vectorMade (some t) e) ≡ Laid (record { kind = 7; narrow = l .narrow; reference = e .reference; count = e .rows; unit = u; stride = w; size = e .rows * w; align = a })
-    unfolding kindOfType narrowOf partsOf partWords partStride sizeOf alignOf isOpen
+    unfolding kindOf narrowOf partsOf sizeOf alignOf isOpen
     vector-laid u unit =
         vector-verdict _ refl
         (λ s k b. value-is (vector (e .rows) s) _ refl b refl (unit ∙ units s a (align s k)) (width s k) (size-is s k)

@@ -1,11 +1,11 @@
 // The kinds that refer to one lower entry: 7 to 11. Each is handed that entry's layout.
-use file::fields::Entry;
+use file::fields::TypeEntry;
 use layout_values::scalars::scalar_size;
 use layout_values::scalars::unless_absent;
 use layout_values::scalars::vector_align;
 use layout_values::scalars::zeros;
-use layout_values::value::Layout;
 use layout_values::value::Made;
+use layout_values::value::Value;
 use layout_values::value::opens;
 use layout_values::value::words_of;
 use numbers::limit::Limited;
@@ -20,7 +20,7 @@ ghost use Rattle.file.specs.Fields.{entryIs};
 ghost use Rattle.layout_values.specs.Value.{madeOf, Known, valueOf};
 
 // "7 vector: rows 2-4, reference to a kind 0-6"
-pub fn vector(e: Entry, l: Layout) -> Made
+pub fn vector(e: TypeEntry, l: Value) -> Made
     requires { ⌜ Known l ⌝ }
     ensures { λ r. ⌜ ((t : Ty) → l ≡ valueOf (l .reference) t → r ≡ madeOf (e .reference) (vectorMade (some t) (entryIs e))) ⌝ }
 {
@@ -41,7 +41,7 @@ pub fn vector(e: Entry, l: Layout) -> Made
     let w = scalar_size(kind);
     let align = vector_align(rows, kind);
     let unit = unless_absent(align, 1);
-    Made::Laid(Layout {
+    Made::Laid(Value {
         kind: 7,
         narrow: l.narrow,
         reference: e.reference,
@@ -54,7 +54,7 @@ pub fn vector(e: Entry, l: Layout) -> Made
 }
 
 // "8 matrix: columns 2-4, rows 2-4, reference to f32, f16 or abstract float"
-pub fn matrix(e: Entry, l: Layout) -> Made
+pub fn matrix(e: TypeEntry, l: Value) -> Made
     requires { ⌜ Known l ⌝ }
     ensures { λ r. ⌜ ((t : Ty) → l ≡ valueOf (l .reference) t → r ≡ madeOf (e .reference) (matrixMade (some t) (entryIs e))) ⌝ }
 {
@@ -87,7 +87,7 @@ pub fn matrix(e: Entry, l: Layout) -> Made
     }
     let align = vector_align(rows, kind);
     let unit = unless_absent(align, rows);
-    Made::Laid(Layout {
+    Made::Laid(Value {
         kind: 8,
         narrow: l.narrow,
         reference: e.reference,
@@ -100,7 +100,7 @@ pub fn matrix(e: Entry, l: Layout) -> Made
 }
 
 // "9 array: reference, count at least 1"; an array's element isn't open.
-pub fn array(e: Entry, l: Layout) -> Made
+pub fn array(e: TypeEntry, l: Value) -> Made
     requires { ⌜ Known l ⌝ }
     ensures { λ r. ⌜ ((t : Ty) → l ≡ valueOf (l .reference) t → everywhere isWellFormed t ≡ true → r ≡ madeOf (e .reference) (arrayMade (some t) (entryIs e))) ⌝ }
 {
@@ -118,7 +118,7 @@ pub fn array(e: Entry, l: Layout) -> Made
     let element = l.size;
     let unit = words_of(l);
     if align == 0 {
-        return Made::Laid(Layout {
+        return Made::Laid(Value {
             kind: 9,
             narrow: l.narrow,
             reference: e.reference,
@@ -135,7 +135,7 @@ pub fn array(e: Entry, l: Layout) -> Made
     let Limited::Is(size) = product(count, stride) else {
         return Made::Large;
     };
-    Made::Laid(Layout {
+    Made::Laid(Value {
         kind: 9,
         narrow: l.narrow,
         reference: e.reference,
@@ -148,7 +148,7 @@ pub fn array(e: Entry, l: Layout) -> Made
 }
 
 // "10 runtime array: reference"; its element isn't open, and has size and alignment.
-pub fn runtime(e: Entry, l: Layout) -> Made
+pub fn runtime(e: TypeEntry, l: Value) -> Made
     requires { ⌜ Known l ⌝ }
     ensures { λ r. ⌜ ((t : Ty) → l ≡ valueOf (l .reference) t → everywhere isWellFormed t ≡ true → r ≡ madeOf (e .reference) (runtimeMade (some t) (entryIs e))) ⌝ }
 {
@@ -165,7 +165,7 @@ pub fn runtime(e: Entry, l: Layout) -> Made
     let Limited::Is(stride) = round_up(align, l.size) else {
         return Made::Large;
     };
-    Made::Laid(Layout {
+    Made::Laid(Value {
         kind: 10,
         narrow: l.narrow,
         reference: e.reference,
@@ -178,7 +178,7 @@ pub fn runtime(e: Entry, l: Layout) -> Made
 }
 
 // "11 atomic: reference to i32 or u32"
-pub fn atomic(e: Entry, l: Layout) -> Made
+pub fn atomic(e: TypeEntry, l: Value) -> Made
     requires { ⌜ Known l ⌝ }
     ensures { λ r. ⌜ ((t : Ty) → l ≡ valueOf (l .reference) t → r ≡ madeOf (e .reference) (atomicMade (some t) (entryIs e))) ⌝ }
 {
@@ -192,7 +192,7 @@ pub fn atomic(e: Entry, l: Layout) -> Made
     if 2 < kind {
         return Made::Rule;
     }
-    Made::Laid(Layout {
+    Made::Laid(Value {
         kind: 11,
         narrow: 4,
         reference: e.reference,
@@ -205,7 +205,7 @@ pub fn atomic(e: Entry, l: Layout) -> Made
 }
 
 // An entry of a kind 7 to 11.
-pub fn over_entry(e: Entry, l: Layout) -> Made
+pub fn over_entry(e: TypeEntry, l: Value) -> Made
     requires { ⌜ Known l ⌝ }
     ensures { λ r. ⌜ ((t : Ty) → l ≡ valueOf (l .reference) t → everywhere isWellFormed t ≡ true → r ≡ madeOf (e .reference) (overMade (some t) (entryIs e))) ⌝ }
 {

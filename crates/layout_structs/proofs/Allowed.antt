@@ -18,13 +18,13 @@ use Rattle.wgsl.specs.Rule.{andThen, lower, countOf, isLast, memberAllowed, mem
 use Rattle.wgsl.proofs.Said.{when-some, andThen-some}
 use Rattle.layout_values.specs.declared.value.Made.the-variants.{Rule}
 use Rattle.layout_values.specs.Value.{verdictOn, madeOf}
-use Rattle.layout_structs.specs.Run.{after, followed, allSized}
+use Rattle.layout_structs.specs.SoFar.{appended, followed, allSized}
 use Rattle.layout_structs.proofs.Froms.{joined, membersAt}
 
 -- ---- one member more
 
-is-last-after : (ms : Members) (t : Ty) (size align : Option ℕ) → isLast (after ms t size align) ≡ false
-unfolding isLast after
+is-last-after : (ms : Members) (t : Ty) (size align : Option ℕ) → isLast (appended ms t size align) ≡ false
+unfolding isLast appended
 is-last-after no-more t size align = refl
 is-last-after (member u s a ms) t size align = refl
 
@@ -33,8 +33,8 @@ unfoldable pub allowedSo : Bool → Members → Bool
 allowedSo true ms = membersAllowed ms
 allowedSo false ms = allSized ms
 
-pub allowed-after : (last : Bool) (ms : Members) (t : Ty) (size align : Option ℕ) → allowedSo last (after ms t size align) ≡ (allSized ms && memberAllowed last t)
-unfolding allowedSo allSized membersAllowed after isLast
+pub allowed-after : (last : Bool) (ms : Members) (t : Ty) (size align : Option ℕ) → allowedSo last (appended ms t size align) ≡ (allSized ms && memberAllowed last t)
+unfolding allowedSo allSized membersAllowed appended isLast
 allowed-after true no-more t size align = and-true (memberAllowed true t)
 allowed-after false no-more t size align = and-true (memberAllowed false t)
 allowed-after true (member u s a ms) t size align =

@@ -14,9 +14,9 @@ use Rattle.wgsl.specs.File.{typeEntryAt, MemberEntry, memberEntryFrom, memberEn
 use Rattle.wgsl.specs.Rule.{when, andThen, lower, membersFrom, isWellFormed}
 use Rattle.wgsl.proofs.AtEntry.{getElem-past, getElem-getD}
 use Rattle.layout_values.specs.declared.value.Made.{Made}
-use Rattle.layout_values.specs.Value.{valueOf, layoutAt, madeOf}
+use Rattle.layout_values.specs.Value.{valueOf, valueAt, madeOf}
 use Rattle.layout_values.proofs.Values.{own-reference, value-held}
-use Rattle.layout_structs.specs.Run.{Lower, after, followed, memberPlace}
+use Rattle.layout_structs.specs.SoFar.{Lower, appended, followed, memberPlace}
 
 -- ---- members from the front and from the back
 
@@ -30,7 +30,7 @@ membersAt f ts at zero = some no-more
 membersAt f ts at (suc i) = andThen (membersAt f ts at i) (joined ts (memberEntryFrom f (at + 12 * i)))
 
 swap : (r : Bool) (o : Option Ty) (ms : Option Members) (ts : List Ty) (size align : Option ℕ) (e : MemberEntry) → andThen (when r (andThen o (λ t. andThen ms (λ x. some (member t size align x))))) (joined ts e) ≡ when r (andThen o (λ t. andThen (andThen ms (joined ts e)) (λ x. some (member t size align x))))
-unfolding when andThen joined after
+unfolding when andThen joined appended
 swap false o ms ts size align e = refl
 swap true none ms ts size align e = refl
 swap true (some t) none ts size align e = refl
@@ -49,7 +49,7 @@ fronted f ts at rest =
     (λ t. andThen rest (λ ms. some (member t (givenSize (memberEntryFrom f at)) (givenAlign (memberEntryFrom f at)) ms))))
 
 front : (f : List ℕ) (ts : List Ty) (at n : ℕ) → membersAt f ts at (suc n) ≡ fronted f ts at (membersAt f ts (at + 12) n)
-unfolding membersAt andThen joined after
+unfolding membersAt andThen joined appended
 front f ts at zero = let e : at + 12 * 0 ≡ at = omega arith in rw e
 front f ts at (suc n) =
     let e : at + 12 * suc n ≡ at + 12 + 12 * n = omega arith in
@@ -58,12 +58,12 @@ front f ts at (suc n) =
     (givenSize (memberEntryFrom f at)) (givenAlign (memberEntryFrom f at)) (memberEntryFrom f (at + 12 + 12 * n)))
 
 next-place : (f : List ℕ) (first : ℕ) → memberPlace f (suc first) ≡ memberPlace f first + 12
-unfolding memberPlace memberEntryLength
+unfolding memberPlace
 next-place f first = omega arith
 
 -- The members of a file are those that lie from the first's byte on.
 pub members-at : (f : List ℕ) (ts : List Ty) (n first : ℕ) → membersFrom f ts n first ≡ membersAt f ts (memberPlace f first) n
-unfolding membersFrom membersAt memberPlace memberEntryAt memberEntryLength
+unfolding membersFrom membersAt memberPlace memberEntryAt
 members-at f ts zero first = refl
 members-at f ts (suc n) first =
     ap (fronted f ts (memberPlace f first)) (members-at f ts n (suc first) ∙ ap (λ (p : ℕ). membersAt f ts p n) (next-place f first))
@@ -76,18 +76,18 @@ from-first f ts r at n first k x e p = sym (rw (members-at f ts n first, ← p) 
 -- ---- the lower entries
 
 -- the type of entry r, whose value the table holds
-pub record Found (f : List ℕ) (table : List (List ℕ)) (ts : List Ty) (r : ℕ) : Type 0 where
+pub record LowerFound (f : List ℕ) (table : List (List ℕ)) (ts : List Ty) (r : ℕ) : Type 0 where
   pub type : Ty
   pub is : lower ts r ≡ some type
-  pub value : layoutAt table r ≡ valueOf (typeEntryAt f r .reference) type
-  pub layout : layoutAt table r ≡ valueOf (layoutAt table r .reference) type
+  pub value : valueAt table r ≡ valueOf (typeEntryAt f r .reference) type
+  pub layout : valueAt table r ≡ valueOf (valueAt table r .reference) type
   pub well-formed : everywhere isWellFormed type ≡ true
 
 pub getElem-below : {A : Type 0} (l : List A) (r : ℕ) → r < length l → (a : A) × (getElem? l r ≡ some a)
 getElem-below [] r h = absurd (omega arith)
 getElem-below (a ∷ l) r h = (getD (a ∷ l) r a, getElem-getD (a ∷ l) r a h)
 
-pub lower-found : (f : List ℕ) (table : List (List ℕ)) (k : ℕ) (ts : List Ty) (r : ℕ) → Lower f table k ts → r < k → Found f table ts r
+pub lower-found : (f : List ℕ) (table : List (List ℕ)) (k : ℕ) (ts : List Ty) (r : ℕ) → Lower f table k ts → r < k → LowerFound f table ts r
 unfolding lower
 lower-found f table k ts r low h =
     let x : r < length ts = omega (arith, low .count) in

@@ -1,4 +1,4 @@
--- Members that more may follow (`Going`, specs/Run): each has a size.
+-- Members that more may follow (`Going`, specs/SoFar): each has a size.
 --
 -- In order: one member; where they end; their alignment; their words.
 -- Assumes nothing.
@@ -20,7 +20,7 @@ use Rattle.wgsl.proofs.Tail.{runtime-unsized}
 use Rattle.wgsl.proofs.Members.{sized, next-member}
 use Rattle.wgsl.proofs.Count.{words-bounded}
 use Rattle.layout_values.specs.Value.{fixedWords}
-use Rattle.layout_structs.specs.Run.{wordsOfMembers, allSized}
+use Rattle.layout_structs.specs.SoFar.{wordsOfMembers, allSized}
 
 -- ---- one member
 

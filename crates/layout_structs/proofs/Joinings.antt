@@ -1,4 +1,4 @@
--- What becomes of one more member, whose size and align fit, after members that passed 6 and 7 (`Joins`, specs/Run).
+-- What becomes of one more member, whose size and align fit, after members that passed 6 and 7 (`Joins`, specs/SoFar).
 --
 -- In order: numbers that are present; the words of a runtime array; the numbers that the code has; a type with and without a size; the
 -- new ends; the four verdicts.
@@ -23,12 +23,12 @@ use Rattle.wgsl.proofs.Members.{sized}
 use Rattle.wgsl.proofs.Count.{wordCount-runtime}
 use Rattle.numbers.specs.Limit.{limited}
 use Rattle.numbers.specs.declared.limit.Limited.the-variants as limits
-use Rattle.layout_values.specs.declared.value.Layout.{Layout}
+use Rattle.layout_values.specs.declared.value.Value.{Value}
 use Rattle.layout_values.specs.Value.{fixedWords, narrowest, valueOf, wordsIn}
 use Rattle.layout_values.proofs.Presence.{value-words}
 use Rattle.layout_structs.specs.declared.Ends.{Ends}
-use Rattle.layout_structs.specs.declared.Run.the-variants.{Placed, TooLarge}
-use Rattle.layout_structs.specs.Run.{followed, wordsOfMembers, endsOf, runOf, Joins}
+use Rattle.layout_structs.specs.declared.SoFar.the-variants.{Good, TooLarge}
+use Rattle.layout_structs.specs.SoFar.{followed, wordsOfMembers, endsOf, soFar, Joins}
 use Rattle.layout_structs.proofs.Afters.{after-end, after-align, after-runtime, after-words, after-narrow}
 use Rattle.layout_structs.proofs.Goings.{Whole, member-align, sized-not-runtime, fixed-bounded, next-end, going-end, going-align, going-words}
 use Rattle.layout_structs.proofs.Runs.{limited-is, limited-large, start-large, end-large, placed-closed, placed-open}
@@ -62,7 +62,7 @@ runtime-words (runtime t) e = go (hasLayout (runtime t))
 runtime-words (atomic s) e = true-not-false e refl
 runtime-words (struct k ms) e = true-not-false e refl
 
-module _ (p : Ends) (l : Layout) (m : MemberEntry) (ms : Members) (t : Ty) (j : Joins p l m ms t) where
+module _ (p : Ends) (l : Value) (m : MemberEntry) (ms : Members) (t : Ty) (j : Joins p l m ms t) where
   -- ---- the numbers that the code has
 
   end-known : membersEnd (some 0) ms ≡ some (p .end)
@@ -79,7 +79,7 @@ module _ (p : Ends) (l : Layout) (m : MemberEntry) (ms : Members) (t : Ty) (j : 
 
   own-align : alignOf t ≡ some (l .align)
   unfolding valueOf
-  own-align = some-as (present-some (alignOf t) aligned-there .1) (ap (λ (x : Layout). x .align) (j .layout))
+  own-align = some-as (present-some (alignOf t) aligned-there .1) (ap (λ (x : Value). x .align) (j .layout))
 
   align-known : (al : ℕ) → al ≡ cond (alignIsGiven m) (m .align) (l .align) → givenOr (givenAlign m) (alignOf t) ≡ some al
   unfolding givenAlign
@@ -116,7 +116,7 @@ module _ (p : Ends) (l : Layout) (m : MemberEntry) (ms : Members) (t : Ty) (j : 
   own-size o =
       ⊎-elim
       (λ (q : isPresent (sizeOf t) ≡ true).
-      some-as (present-some (sizeOf t) q .1) (ap (λ (x : Layout). x .size) (j .layout)))
+      some-as (present-some (sizeOf t) q .1) (ap (λ (x : Value). x .size) (j .layout)))
       (λ (q : isRuntime t ≡ true). true-not-false (runtime-open t q) o) sized-or-runtime
 
   size-known : isOpen t ≡ false → (z : ℕ) → z ≡ cond (sizeIsGiven m) (m .size) (l .size) → givenOr (givenSize m) (sizeOf t) ≡ some z
@@ -165,23 +165,23 @@ module _ (p : Ends) (l : Layout) (m : MemberEntry) (ms : Members) (t : Ty) (j : 
     -- ---- the four verdicts
 
     -- It starts past the limit.
-    pub joins-past : limited (up al (p .end)) ≡ limits.TooLarge → runOf (followed ms t m) ≡ TooLarge
+    pub joins-past : limited (up al (p .end)) ≡ limits.TooLarge → soFar (followed ms t m) ≡ TooLarge
     joins-past h =
         start-large ms t (givenSize m) (givenAlign m) (j .given) (j .size-fits) (j .align-fits) (p .end) al end-known
         (align-known al al-is) (limited-large (up al (p .end)) h)
 
     module _ (start : ℕ) (start-is : limited (up al (p .end)) ≡ limits.Is start) (most : ℕ) (most-is : most ≡ max (p .align) al) (narrow : ℕ) (narrow-is : narrow ≡ min (p .narrow) (l .narrow)) where
       -- It is a runtime array.
-      pub joins-open : isOpen t ≡ true → runOf (followed ms t m) ≡ Placed (record { end = 0; align = most; words = p .words; opens = true; narrow = narrow })
+      pub joins-open : isOpen t ≡ true → soFar (followed ms t m) ≡ Good (record { end = 0; align = most; words = p .words; opens = true; narrow = narrow })
       joins-open o =
           let s = limited-is (up al (p .end)) start start-is in
           placed-open ms t (givenSize m) (givenAlign m) (j .given) (j .size-fits) (j .align-fits) (p .end) al end-known
           (align-known al al-is) (j .fits) (s .0) (open-unsized o)
-          ∙ ap Placed (open-ends o) ∙ rw (most-is, narrow-is)
+          ∙ ap Good (open-ends o) ∙ rw (most-is, narrow-is)
 
       module _ (o : isOpen t ≡ false) (z : ℕ) (z-is : z ≡ cond (sizeIsGiven m) (m .size) (l .size)) where
         -- It ends past the limit.
-        pub joins-end-past : limited (start + z) ≡ limits.TooLarge → runOf (followed ms t m) ≡ TooLarge
+        pub joins-end-past : limited (start + z) ≡ limits.TooLarge → soFar (followed ms t m) ≡ TooLarge
         joins-end-past h =
             let s = limited-is (up al (p .end)) start start-is in
             end-large ms t (givenSize m) (givenAlign m) (j .given) (j .size-fits) (j .align-fits) (p .end) al end-known
@@ -189,17 +189,17 @@ module _ (p : Ends) (l : Layout) (m : MemberEntry) (ms : Members) (t : Ty) (j : 
 
         module _ (end : ℕ) (end-is : limited (start + z) ≡ limits.Is end) where
           -- It ends within the limit.
-          pub joins-closed : (n : ℕ) → n ≡ wordsIn l → runOf (followed ms t m) ≡ Placed (record { end = end; align = most; words = p .words + n; opens = false; narrow = narrow })
+          pub joins-closed : (n : ℕ) → n ≡ wordsIn l → soFar (followed ms t m) ≡ Good (record { end = end; align = most; words = p .words + n; opens = false; narrow = narrow })
           joins-closed n n-is =
               let s = limited-is (up al (p .end)) start start-is in
               let x = limited-is (start + z) end end-is in
               placed-closed ms t (givenSize m) (givenAlign m) (j .given) (j .size-fits) (j .align-fits) (p .end) al end-known
               (align-known al al-is) (j .fits) (s .0) z (size-known o z z-is) (rw (s .1) (x .0))
-              ∙ ap Placed (closed-ends o z z-is) ∙ rw (s .1, x .1, most-is, narrow-is, n-is)
+              ∙ ap Good (closed-ends o z z-is) ∙ rw (s .1, x .1, most-is, narrow-is, n-is)
 
           -- Each word takes at least 2 bytes, so that their number is within the limit too.
           pub joins-words : p .words + wordsIn l < 4294967296
-          unfolding endsOf withinLimit limit
+          unfolding endsOf withinLimit
           joins-words =
               let s = limited-is (up al (p .end)) start start-is in
               let x = limited-is (start + z) end end-is in

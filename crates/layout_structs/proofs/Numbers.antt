@@ -37,7 +37,7 @@ power-below (suc k) a e =
     (either-holds (eqb a (2 ^ k)) (powerBelow k a) e)
 
 power-limit : (a : ℕ) → isPower a ≡ true → a ≤ limit
-unfolding isPower limit
+unfolding isPower
 power-limit a e = omega (arith, power-below 32 a e)
 
 -- the align of a member is within the limit
@@ -55,7 +55,7 @@ pub record Aligned (ms : Members) : Type 0 where
 
 -- Members that passed 5 and 6 have an alignment, within the limit.
 pub members-aligned : (ms : Members) → everyMember isWellFormed ms ≡ true → membersAllowed ms ≡ true → membersGivenFit ms ≡ true → Aligned ms
-unfolding membersAlign both limit
+unfolding membersAlign both
 members-aligned no-more w ok g = record { align = 1; is = refl; within = omega arith }
 members-aligned (member t size align ms) w ok g =
     let m = first-member t size align ms w ok g in

@@ -1,4 +1,4 @@
--- One more member of any kind, after members on which the verdict is known (`Meets`, specs/Run).
+-- One more member of any kind, after members on which the verdict is known (`Meets`, specs/SoFar).
 --
 -- In order: alignments; a member that breaks 5; one that breaks 6; one after members that break 6; one that joins; one after members
 -- that are too large.
@@ -14,13 +14,13 @@ use Rattle.wgsl.specs.File.{MemberEntry, givenSize, givenAlign, restIsZero}
 use Rattle.wgsl.specs.Rule.{memberAllowed, givenSizeFits, givenAlignFits, isWellFormed}
 use Rattle.wgsl.proofs.Absent.{both-hold, hold-both, either-holds, present-some, given-present}
 use Rattle.wgsl.proofs.Entry.{align-positive}
-use Rattle.layout_values.specs.declared.value.Layout.{Layout}
+use Rattle.layout_values.specs.declared.value.Value.{Value}
 use Rattle.layout_values.specs.Value.{valueOf}
 use Rattle.layout_structs.specs.declared.Ends.{Ends}
-use Rattle.layout_structs.specs.declared.Run.{Run}
-use Rattle.layout_structs.specs.declared.Run.the-variants.{Placed, Unfit, TooLarge}
+use Rattle.layout_structs.specs.declared.SoFar.{SoFar}
+use Rattle.layout_structs.specs.declared.SoFar.the-variants.{Good, Unfit, TooLarge}
 use Rattle.layout_structs.specs.declared.Stepped.the-variants.{Next, Rule}
-use Rattle.layout_structs.specs.Run.{followed, runOf, steppedTo, Joins, Meets}
+use Rattle.layout_structs.specs.SoFar.{followed, soFar, steppedTo, Joins, Meets}
 use Rattle.layout_structs.proofs.Goings.{member-align, going-end}
 use Rattle.layout_structs.proofs.Runs.{placed-before, unfit-size, unfit-align, unfit-before, large-before}
 
@@ -39,11 +39,11 @@ unfolding memberAllowed
 aligned last t e = both-hold (isPresent (alignOf t)) (isPresent (sizeOf t) || (last && isRuntime t)) e .0
 
 -- The layout of a member's type has an alignment.
-pub layout-aligned : (l : Layout) (last : Bool) (t : Ty) → l ≡ valueOf (l .reference) t → everywhere isWellFormed t ≡ true → memberAllowed last t ≡ true → 0 < l .align
+pub layout-aligned : (l : Value) (last : Bool) (t : Ty) → l ≡ valueOf (l .reference) t → everywhere isWellFormed t ≡ true → memberAllowed last t ≡ true → 0 < l .align
 unfolding valueOf present
 layout-aligned l last t is w e =
     let a = present-some (alignOf t) (aligned last t e) in
-    omega (arith, align-positive t (a .0) w (a .1), ap (λ (x : Layout). x .align) is ∙ ap present (a .1))
+    omega (arith, align-positive t (a .0) w (a .1), ap (λ (x : Value). x .align) is ∙ ap present (a .1))
 
 module _ (last : Bool) (ms : Members) (t : Ty) (m : MemberEntry) where
   -- ---- a member that breaks 5
@@ -57,7 +57,7 @@ module _ (last : Bool) (ms : Members) (t : Ty) (m : MemberEntry) where
   steps-not-allowed h = rw (h, and-false (restIsZero m))
 
   module _ (rest : restIsZero m ≡ true) (allowed : memberAllowed last t ≡ true) where
-    pub steps-next : (r : Run) → runOf (followed ms t m) ≡ r → steppedTo last ms t m ≡ Next r
+    pub steps-next : (r : SoFar) → soFar (followed ms t m) ≡ r → steppedTo last ms t m ≡ Next r
     unfolding steppedTo
     steps-next r h = rw (rest, allowed, h)
 
@@ -69,7 +69,7 @@ module _ (last : Bool) (ms : Members) (t : Ty) (m : MemberEntry) where
     pub steps-align : givenAlignFits t (givenAlign m) ≡ false → steppedTo last ms t m ≡ Next Unfit
     steps-align h = steps-next Unfit (unfit-align ms t (givenSize m) (givenAlign m) h)
 
-    module _ (run : Run) (l : Layout) (j : Meets run l ms t) where
+    module _ (run : SoFar) (l : Value) (j : Meets run l ms t) where
       -- ---- one after members that break 6
 
       pub steps-unfit : run ≡ Unfit → steppedTo last ms t m ≡ Next Unfit
@@ -78,7 +78,7 @@ module _ (last : Bool) (ms : Members) (t : Ty) (m : MemberEntry) where
       module _ (size-fits : givenSizeFits t (givenSize m) ≡ true) (align-fits : givenAlignFits t (givenAlign m) ≡ true) where
         -- ---- one that joins
 
-        pub steps-joins : (p : Ends) → run ≡ Placed p → Joins p l m ms t
+        pub steps-joins : (p : Ends) → run ≡ Good p → Joins p l m ms t
         steps-joins p e =
             let b = placed-before ms p (sym (j .verdict) ∙ e) in
             record {

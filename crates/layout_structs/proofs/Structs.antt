@@ -17,7 +17,7 @@ use Rattle.file.specs.Members.{membersStart}
 use Rattle.layout_values.specs.declared.value.Made.{Made}
 use Rattle.layout_values.specs.declared.value.Made.the-variants.{Rule}
 use Rattle.layout_values.specs.Value.{verdictOn, madeOf}
-use Rattle.layout_structs.specs.Run.{memberPlace}
+use Rattle.layout_structs.specs.SoFar.{memberPlace}
 
 -- two fields, and two that are zero
 two-unused : (a b : ℕ) → unused (a ∷ b ∷ []) ≡ unused (a ∷ b ∷ 0 ∷ 0 ∷ [])
@@ -57,5 +57,5 @@ module _ (f : List ℕ) (ts : List Ty) (k : ℕ) (e : TypeEntry) where
 
 -- Where member `first` lies.
 pub place-first : (f : List ℕ) (base first : ℕ) → base ≡ membersStart f → base + 12 * first ≡ memberPlace f first
-unfolding membersStart memberPlace memberEntryLength
+unfolding membersStart memberPlace
 place-first f base first e = omega arith

@@ -1,4 +1,4 @@
--- What the loop over the members of a struct knows after i of them (`Reached`), and after one turn more (specs/Run).
+-- What the loop over the members of a struct knows after i of them (`Reached`), and after one turn more (specs/SoFar).
 --
 -- In order: before the first; the next member (`Coming`), and a turn that goes on or that rule 5 ends; past the last.
 -- Assumes nothing.
@@ -18,33 +18,33 @@ use Rattle.wgsl.specs.File.{MemberEntry, memberEntryFrom, givenSize, givenAlign
 use Rattle.wgsl.specs.Rule.{when, andThen, lower, countOf, memberAllowed, membersAllowed, isWellFormed, membersGivenFit}
 use Rattle.wgsl.proofs.Absent.{both-hold, hold-both, some-not-none}
 use Rattle.wgsl.proofs.Said.{when-some}
-use Rattle.layout_values.specs.declared.value.Layout.{Layout}
+use Rattle.layout_values.specs.declared.value.Value.{Value}
 use Rattle.layout_values.specs.declared.value.Made.the-variants.{Rule}
-use Rattle.layout_values.specs.Value.{narrowest, valueOf, layoutAt, verdictOn, madeOf}
-use Rattle.layout_structs.specs.declared.Run.{Run}
-use Rattle.layout_structs.specs.declared.Run.the-variants.{Placed}
+use Rattle.layout_values.specs.Value.{narrowest, valueOf, valueAt, verdictOn, madeOf}
+use Rattle.layout_structs.specs.declared.SoFar.{SoFar}
+use Rattle.layout_structs.specs.declared.SoFar.the-variants.{Good}
 use Rattle.layout_structs.specs.declared.Stepped.the-variants as stepped
-use Rattle.layout_structs.specs.Run.{wordsOfMembers, endsOf, membersFit, runOf, Meets, steppedTo, Closes, Lower, followed, allSized}
+use Rattle.layout_structs.specs.SoFar.{wordsOfMembers, endsOf, membersFit, soFar, Meets, steppedTo, Closes, Lower, followed, allSized}
 use Rattle.layout_structs.proofs.Froms.{joined, membersAt, lower-found, lower-past}
 use Rattle.layout_structs.proofs.Afters.{after-every, after-count}
 use Rattle.layout_structs.proofs.Steps.{allowed-last}
 use Rattle.layout_structs.proofs.Allowed.{allowedSo, allowed-after, refused-members}
 
-pub record Reached (f : List ℕ) (ts : List Ty) (at i n : ℕ) (run : Run) : Type 0 where
+pub record Reached (f : List ℕ) (ts : List Ty) (at i n : ℕ) (run : SoFar) : Type 0 where
   pub members : Members
   pub read : membersAt f ts at i ≡ some members
-  pub verdict : run ≡ runOf members
+  pub verdict : run ≡ soFar members
   pub counted : countOf members ≡ i
   pub well-formed : everyMember isWellFormed members ≡ true
   pub allowed : membersAllowed members ≡ true
   pub sized : i < n → allSized members ≡ true
 
 -- the verdict on no members
-pub no-members : Placed (record { end = 0; align = 1; words = 0; opens = false; narrow = 4 }) ≡ runOf no-more
-unfolding runOf endsOf membersFit membersGivenFit wordsOfMembers withinLimits withinLimit limit membersEnd membersAlign offsetsOf present endsInRuntime narrowest
+pub no-members : Good (record { end = 0; align = 1; words = 0; opens = false; narrow = 4 }) ≡ soFar no-more
+unfolding soFar endsOf membersFit membersGivenFit wordsOfMembers withinLimits withinLimit membersEnd membersAlign offsetsOf present endsInRuntime narrowest
 no-members = refl
 
-pub reached-none : {run : Run} (f : List ℕ) (ts : List Ty) (at n : ℕ) → run ≡ runOf no-more → Reached f ts at 0 n run
+pub reached-none : {run : SoFar} (f : List ℕ) (ts : List Ty) (at n : ℕ) → run ≡ soFar no-more → Reached f ts at 0 n run
 unfolding membersAt everyMember countOf membersAllowed allSized
 reached-none f ts at n e =
     record { members = no-more; read = refl; verdict = e; counted = refl; well-formed = refl; allowed = refl; sized = λ h. refl }
@@ -52,11 +52,11 @@ reached-none f ts at n e =
 -- ---- the next member
 
 -- what `steppedTo` tells
-next-told : (last : Bool) (ms : Members) (t : Ty) (e : MemberEntry) (r : Run) → stepped.Next r ≡ steppedTo last ms t e → ((restIsZero e && memberAllowed last t) ≡ true) × (r ≡ runOf (followed ms t e))
+next-told : (last : Bool) (ms : Members) (t : Ty) (e : MemberEntry) (r : SoFar) → stepped.Next r ≡ steppedTo last ms t e → ((restIsZero e && memberAllowed last t) ≡ true) × (r ≡ soFar (followed ms t e))
 unfolding steppedTo
 next-told last ms t e r h = go (restIsZero e && memberAllowed last t) h
   where
-    go : (b : Bool) → stepped.Next r ≡ cond b (stepped.Next (runOf (followed ms t e))) stepped.Rule → (b ≡ true) × (r ≡ runOf (followed ms t e))
+    go : (b : Bool) → stepped.Next r ≡ cond b (stepped.Next (soFar (followed ms t e))) stepped.Rule → (b ≡ true) × (r ≡ soFar (followed ms t e))
     go true q = (refl, cc)
     go false q = let z : _≡_ {A = ℕ} 0 1 = cc in absurd (omega arith)
 
@@ -64,12 +64,12 @@ rule-told : (last : Bool) (ms : Members) (t : Ty) (e : MemberEntry) → stepped.
 unfolding steppedTo
 rule-told last ms t e h = go (restIsZero e && memberAllowed last t) h
   where
-    go : (b : Bool) → stepped.Rule ≡ cond b (stepped.Next (runOf (followed ms t e))) stepped.Rule → b ≡ false
+    go : (b : Bool) → stepped.Rule ≡ cond b (stepped.Next (soFar (followed ms t e))) stepped.Rule → b ≡ false
     go true q = let z : _≡_ {A = ℕ} 0 1 = cc in absurd (omega arith)
     go false q = refl
 
 -- member i of n: its entry, of a lower type, whose layout is l
-pub record Coming (f : List ℕ) (ts : List Ty) (at i n : ℕ) (e : MemberEntry) (l : Layout) : Type 0 where
+pub record Coming (f : List ℕ) (ts : List Ty) (at i n : ℕ) (e : MemberEntry) (l : Value) : Type 0 where
   pub before : i < n
   pub entry : e ≡ memberEntryFrom f (at + 12 * i)
   pub type : Ty
@@ -77,7 +77,7 @@ pub record Coming (f : List ℕ) (ts : List Ty) (at i n : ℕ) (e : MemberEntry)
   pub layout : l ≡ valueOf (l .reference) type
   pub well-formed : everywhere isWellFormed type ≡ true
 
-pub coming : {f : List ℕ} {ts : List Ty} {at i n : ℕ} {e : MemberEntry} (table : List (List ℕ)) (k r : ℕ) → Lower f table k ts → i < n → e ≡ memberEntryFrom f (at + 12 * i) → r ≡ e .type → r < k → Coming f ts at i n e (layoutAt table r)
+pub coming : {f : List ℕ} {ts : List Ty} {at i n : ℕ} {e : MemberEntry} (table : List (List ℕ)) (k r : ℕ) → Lower f table k ts → i < n → e ≡ memberEntryFrom f (at + 12 * i) → r ≡ e .type → r < k → Coming f ts at i n e (valueAt table r)
 coming {f} {ts} table k r low h e q l =
     let x = lower-found f table k ts r low l in
     record {
@@ -89,7 +89,7 @@ coming {f} {ts} table k r low h e q l =
       well-formed = x .well-formed;
     }
 
-module _ {f : List ℕ} {ts : List Ty} {at i n : ℕ} {e : MemberEntry} {l : Layout} (run : Run) (d : Reached f ts at i n run) (m : Coming f ts at i n e l) where
+module _ {f : List ℕ} {ts : List Ty} {at i n : ℕ} {e : MemberEntry} {l : Value} (run : SoFar) (d : Reached f ts at i n run) (m : Coming f ts at i n e l) where
   pub reached-meets : Meets run l (d .members) (m .type)
   reached-meets =
       record {
@@ -105,7 +105,7 @@ module _ {f : List ℕ} {ts : List Ty} {at i n : ℕ} {e : MemberEntry} {l : Lay
   more-read = rw (d .read, ← m .entry, m .type-is)
 
   -- After a step that goes on, i + 1 members are known.
-  pub reached-next : (r : Run) → stepped.Next r ≡ steppedTo (eqb (i + 1) n) (d .members) (m .type) e → Reached f ts at (i + 1) n r
+  pub reached-next : (r : SoFar) → stepped.Next r ≡ steppedTo (eqb (i + 1) n) (d .members) (m .type) e → Reached f ts at (i + 1) n r
   unfolding when allowedSo
   reached-next r h =
       let x = next-told (eqb (i + 1) n) (d .members) (m .type) e r h in
@@ -141,7 +141,7 @@ module _ {f : List ℕ} {ts : List Ty} {at i n : ℕ} {e : MemberEntry} {l : Lay
       ∙ rw no (and-false (allSized (d .members))))
 
 -- A member whose type is not lower refuses the struct.
-pub reached-past : {f : List ℕ} {ts : List Ty} {at i n : ℕ} {e : MemberEntry} (table : List (List ℕ)) (r k : ℕ) (run : Run) → Reached f ts at i n run → Lower f table k ts → i < n → e ≡ memberEntryFrom f (at + 12 * i) → k ≤ e .type → madeOf r (andThen (membersAt f ts at n) (λ ms. some (struct k ms))) ≡ Rule
+pub reached-past : {f : List ℕ} {ts : List Ty} {at i n : ℕ} {e : MemberEntry} (table : List (List ℕ)) (r k : ℕ) (run : SoFar) → Reached f ts at i n run → Lower f table k ts → i < n → e ≡ memberEntryFrom f (at + 12 * i) → k ≤ e .type → madeOf r (andThen (membersAt f ts at n) (λ ms. some (struct k ms))) ≡ Rule
 unfolding membersAt andThen joined when
 reached-past {f} {ts} {at} {i} {n} {e} table r k run d low l h past =
     refused-members f ts at r i n k l
@@ -153,7 +153,7 @@ reached-past {f} {ts} {at} {i} {n} {e} table r k run d low l h past =
 
 -- ---- past the last
 
-pub reached-closes : {f : List ℕ} {ts : List Ty} {at i n : ℕ} (run : Run) (d : Reached f ts at i n run) → i ≡ n → 1 ≤ n → n ≤ 1024 → Closes run (d .members)
+pub reached-closes : {f : List ℕ} {ts : List Ty} {at i n : ℕ} (run : SoFar) (d : Reached f ts at i n run) → i ≡ n → 1 ≤ n → n ≤ 1024 → Closes run (d .members)
 reached-closes run d e low high =
     record {
       verdict = d .verdict;
@@ -166,6 +166,6 @@ reached-closes run d e low high =
           };
     }
 
-pub reached-made : {f : List ℕ} {ts : List Ty} {at i n : ℕ} (run : Run) (d : Reached f ts at i n run) (r k : ℕ) → i ≡ n → madeOf r (andThen (membersAt f ts at n) (λ ms. some (struct k ms))) ≡ verdictOn r (struct k (d .members))
+pub reached-made : {f : List ℕ} {ts : List Ty} {at i n : ℕ} (run : SoFar) (d : Reached f ts at i n run) (r k : ℕ) → i ≡ n → madeOf r (andThen (membersAt f ts at n) (λ ms. some (struct k ms))) ≡ verdictOn r (struct k (d .members))
 unfolding andThen madeOf
 reached-made run d r k e = rw (← e, d .read)

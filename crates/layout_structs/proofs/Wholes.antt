@@ -1,6 +1,6 @@
--- What all members of a struct come to (specs/Run): the struct's layout, or its refusal.
+-- What all members of a struct come to (specs/SoFar): the struct's layout, or its refusal.
 --
--- In order: 5 and 6; the words; its layout, if it is open and if not; 7; what `runOf` tells.
+-- In order: 5 and 6; the words; its layout, if it is open and if not; 7; what `soFar` tells.
 -- Assumes nothing.
 use Prim.Native.Nat.{ℕ, _<_, _≤_}
 use mathlib.Core.Bool.{Bool, true, false, cond, or-true}
@@ -10,7 +10,7 @@ use mathlib.Core.Path.{_≡_, refl, sym, ap, _∙_}
 use native.Mathlib.Omega.{arith}
 use borrow.Author.Tests.{le-leb}
 use Rattle.wgsl.specs.Round.{up, limit}
-use Rattle.wgsl.specs.Types.{struct, Members, no-more, member, isOpen, endsInRuntime, everyMember}
+use Rattle.wgsl.specs.Types.{struct, Members, no-more, member, isOpen, endsInRuntime, everyMember, kindOf}
 use Rattle.wgsl.specs.Size.{both, isPresent, present, sizeOf, alignOf, membersAlign, membersEnd, offsetsOf, withinLimits, fitsLimit, hasLayout}
 use Rattle.wgsl.specs.File.{between, TypeEntry, memberEntryLength}
 use Rattle.wgsl.specs.Rule.{countOf, membersAllowed, isAllowed, membersGivenFit, givenFits, isWellFormed}
@@ -21,12 +21,12 @@ use Rattle.wgsl.proofs.Count.{membersWords, wordCount-struct}
 use Rattle.numbers.specs.Limit.{limited}
 use Rattle.numbers.specs.declared.limit.Limited.the-variants.{Is, TooLarge}
 use Rattle.layout_values.specs.declared.value.Made.the-variants.{Laid, Given, Large}
-use Rattle.layout_values.specs.Value.{kindOfType, narrowOf, partsOf, partWords, partStride, fixedWords, valueOf, verdictOn}
+use Rattle.layout_values.specs.Value.{narrowOf, partsOf, fixedWords, valueOf, verdictOn}
 use Rattle.layout_values.proofs.Verdict.{value-is, verdict-laid}
 use Rattle.layout_structs.specs.declared.Ends.{Ends}
-use Rattle.layout_structs.specs.declared.Run.{Run}
-use Rattle.layout_structs.specs.declared.Run.the-variants as run
-use Rattle.layout_structs.specs.Run.{wordsOfMembers, endsOf, structOf, membersFit, runOf, Complete, Ended, Closes}
+use Rattle.layout_structs.specs.declared.SoFar.{SoFar}
+use Rattle.layout_structs.specs.declared.SoFar.the-variants as run
+use Rattle.layout_structs.specs.SoFar.{wordsOfMembers, endsOf, structOf, membersFit, soFar, Complete, Ended, Closes}
 use Rattle.layout_structs.proofs.Runs.{limited-is, limited-large}
 use Rattle.layout_structs.proofs.Numbers.{members-aligned, aligned-positive, open-end, closed-end, struct-fits, past-members, open-fits, closed-fits, closed-past}
 
@@ -66,7 +66,7 @@ struct-words k p ms d =
 
 -- A struct that is within the limit is laid out.
 laid : (k : ℕ) (e : TypeEntry) (p : Ends) (ms : Members) (size : ℕ) → Ended p ms → countOf ms ≡ e .count → hasLayout (struct k ms) ≡ true → size ≡ present (sizeOf (struct k ms)) → fitsLimit (struct k ms) ≡ true → verdictOn (e .reference) (struct k ms) ≡ Laid (structOf e p size)
-unfolding structOf endsOf kindOfType narrowOf partsOf partWords partStride memberEntryLength present alignOf givenFits
+unfolding structOf endsOf kindOf narrowOf partsOf present alignOf givenFits
 laid k e p ms size d count has z fits =
     verdict-laid (struct k ms) (structOf e p size) (complete-allowed k ms (d .complete)) (d .given) fits
     (value-is (struct k ms) (structOf e p size) refl (ap (λ (x : Ends). x .narrow) (d .ends)) (sym count)
@@ -144,14 +144,14 @@ ended-positive p ms e =
     let al : p .align ≡ a .align = ap (λ (x : Ends). x .align) (e .ends) ∙ ap present (a .is) ∙ present-is (a .align) in
     omega (arith, al, aligned-positive ms (a .align) (e .complete .well-formed) (e .given) (a .is))
 
--- ---- what `runOf` tells
+-- ---- what `soFar` tells
 
--- the cases of `runOf`
-runs : {A : Type 0} (r : Run) (ms : Members) → r ≡ runOf ms → (r ≡ run.Placed (endsOf ms) → membersGivenFit ms ≡ true → membersFit ms ≡ true → A) → (r ≡ run.TooLarge → membersGivenFit ms ≡ true → membersFit ms ≡ false → A) → (r ≡ run.Unfit → membersGivenFit ms ≡ false → A) → A
-unfolding runOf
+-- the cases of `soFar`
+runs : {A : Type 0} (r : SoFar) (ms : Members) → r ≡ soFar ms → (r ≡ run.Good (endsOf ms) → membersGivenFit ms ≡ true → membersFit ms ≡ true → A) → (r ≡ run.TooLarge → membersGivenFit ms ≡ true → membersFit ms ≡ false → A) → (r ≡ run.Unfit → membersGivenFit ms ≡ false → A) → A
+unfolding soFar
 runs {A} r ms e placed past unfit = go (membersGivenFit ms) (membersFit ms) refl refl e
   where
-    go : (g f : Bool) → membersGivenFit ms ≡ g → membersFit ms ≡ f → r ≡ cond g (cond f (run.Placed (endsOf ms)) run.TooLarge) run.Unfit → A
+    go : (g f : Bool) → membersGivenFit ms ≡ g → membersFit ms ≡ f → r ≡ cond g (cond f (run.Good (endsOf ms)) run.TooLarge) run.Unfit → A
     go true true p q h = placed h p q
     go true false p q h = past h p q
     go false f p q h = unfit h p
@@ -159,9 +159,9 @@ runs {A} r ms e placed past unfit = go (membersGivenFit ms) (membersFit ms) refl
 no-run : {A : Type 0} → _≡_ {A = ℕ} 0 1 → A
 no-run e = absurd (omega arith)
 
-pub closes-placed : (p : Ends) (ms : Members) → Closes (run.Placed p) ms → Ended p ms
+pub closes-placed : (p : Ends) (ms : Members) → Closes (run.Good p) ms → Ended p ms
 closes-placed p ms c =
-    runs (run.Placed p) ms (c .verdict) (λ h g f. record { ends = cc; complete = c .complete; given = g; fits = f })
+    runs (run.Good p) ms (c .verdict) (λ h g f. record { ends = cc; complete = c .complete; given = g; fits = f })
     (λ h g f. no-run cc) (λ h g. no-run cc)
 
 -- Where a given size or align does not fit, that is refusal 6.

@@ -1,6 +1,6 @@
 // A struct: its members one after the other.
-use file::fields::Entry;
-use file::fields::Member;
+use file::fields::MemberEntry;
+use file::fields::TypeEntry;
 use layout_members::align_fits;
 use layout_members::align_given;
 use layout_members::is_allowed;
@@ -8,8 +8,8 @@ use layout_members::rest_is_zero;
 use layout_members::size_fits;
 use layout_members::size_given;
 use layout_values::scalars::zeros;
-use layout_values::value::Layout;
 use layout_values::value::Made;
+use layout_values::value::Value;
 use layout_values::value::opens;
 use layout_values::value::words_of;
 use numbers::limit::Limited;
@@ -24,7 +24,7 @@ ghost use Rattle.wgsl.specs.Rule.{countOf};
 ghost use Rattle.file.specs.Fields.{entryIs, memberIs};
 ghost use Rattle.layout_values.specs.Value.{verdictOn};
 ghost use Rattle.layout_values.specs.declared.value.Made.the-variants.{Rule};
-ghost use Rattle.layout_structs.specs.Run.{runOf, followed, Joins, Meets, steppedTo, Ended, Closes, Spans, structOf};
+ghost use Rattle.layout_structs.specs.SoFar.{soFar, followed, Joins, Meets, steppedTo, Ended, Closes, Spans, structOf};
 
 // Where the members so far end, and what they hold.
 pub struct Ends {
@@ -37,14 +37,14 @@ pub struct Ends {
 }
 
 // What the members so far come to: "5 before 6 before 7".
-pub enum Run {
-    Placed(Ends),
+pub enum SoFar {
+    Good(Ends),
     Unfit,
     TooLarge,
 }
 
 pub enum Stepped {
-    Next(Run),
+    Next(SoFar),
     Rule,
 }
 
@@ -74,19 +74,19 @@ fn smaller(a: u32, b: u32) -> u32
 }
 
 // One more member, whose size and align fit, after those that end as `p` says.
-fn place(p: Ends, l: Layout, m: Member) -> Run
+fn join(p: Ends, l: Value, m: MemberEntry) -> SoFar
     requires { ⌜ ((ms : Members) × (t : Ty) × Joins p l (memberIs m) ms t) ⌝ }
-    ensures { λ r. ⌜ ((ms : Members) (t : Ty) → Joins p l (memberIs m) ms t → r ≡ runOf (followed ms t (memberIs m))) ⌝ }
+    ensures { λ r. ⌜ ((ms : Members) (t : Ty) → Joins p l (memberIs m) ms t → r ≡ soFar (followed ms t (memberIs m))) ⌝ }
 {
     let align = chosen(align_given(m), m.align, l.align);
     let size = chosen(size_given(m), m.size, l.size);
     let Limited::Is(start) = round_up(align, p.end) else {
-        return Run::TooLarge;
+        return SoFar::TooLarge;
     };
     let most = larger(p.align, align);
     let narrow = smaller(p.narrow, l.narrow);
     if opens(l) {
-        return Run::Placed(Ends {
+        return SoFar::Good(Ends {
             end: 0,
             align: most,
             words: p.words,
@@ -95,9 +95,9 @@ fn place(p: Ends, l: Layout, m: Member) -> Run
         });
     }
     let Limited::Is(end) = sum(start, size) else {
-        return Run::TooLarge;
+        return SoFar::TooLarge;
     };
-    Run::Placed(Ends {
+    SoFar::Good(Ends {
         end,
         align: most,
         words: p.words + words_of(l),
@@ -107,10 +107,10 @@ fn place(p: Ends, l: Layout, m: Member) -> Run
 }
 
 // Before the first member.
-pub fn no_members() -> Run
-    ensures { λ r. ⌜ r ≡ runOf no-more ⌝ }
+pub fn no_members() -> SoFar
+    ensures { λ r. ⌜ r ≡ soFar no-more ⌝ }
 {
-    Run::Placed(Ends {
+    SoFar::Good(Ends {
         end: 0,
         align: 1,
         words: 0,
@@ -120,9 +120,9 @@ pub fn no_members() -> Run
 }
 
 // One more member.
-pub fn step(run: Run, l: Layout, m: Member, last: bool) -> Stepped
-    requires { ⌜ ((ms : Members) × (t : Ty) × Meets run l ms t) ⌝ }
-    ensures { λ r. ⌜ ((ms : Members) (t : Ty) → Meets run l ms t → r ≡ steppedTo last ms t (memberIs m)) ⌝ }
+pub fn step(past: SoFar, l: Value, m: MemberEntry, last: bool) -> Stepped
+    requires { ⌜ ((ms : Members) × (t : Ty) × Meets past l ms t) ⌝ }
+    ensures { λ r. ⌜ ((ms : Members) (t : Ty) → Meets past l ms t → r ≡ steppedTo last ms t (memberIs m)) ⌝ }
 {
     if !rest_is_zero(m) {
         return Stepped::Rule;
@@ -131,23 +131,23 @@ pub fn step(run: Run, l: Layout, m: Member, last: bool) -> Stepped
         return Stepped::Rule;
     }
     if !size_fits(m, l) {
-        return Stepped::Next(Run::Unfit);
+        return Stepped::Next(SoFar::Unfit);
     }
     if !align_fits(m, l) {
-        return Stepped::Next(Run::Unfit);
+        return Stepped::Next(SoFar::Unfit);
     }
-    match run {
-        Run::Placed(p) => Stepped::Next(place(p, l, m)),
-        Run::Unfit => Stepped::Next(Run::Unfit),
-        Run::TooLarge => Stepped::Next(Run::TooLarge),
+    match past {
+        SoFar::Good(p) => Stepped::Next(join(p, l, m)),
+        SoFar::Unfit => Stepped::Next(SoFar::Unfit),
+        SoFar::TooLarge => Stepped::Next(SoFar::TooLarge),
     }
 }
 
 // A struct's layout. Its member entries are 12 bytes long.
-fn struct_of(e: Entry, p: Ends, size: u32) -> Layout
+fn struct_of(e: TypeEntry, p: Ends, size: u32) -> Value
     ensures { λ r. ⌜ r ≡ structOf (entryIs e) p size ⌝ }
 {
-    Layout {
+    Value {
         kind: 12,
         narrow: p.narrow,
         reference: e.reference,
@@ -160,7 +160,7 @@ fn struct_of(e: Entry, p: Ends, size: u32) -> Layout
 }
 
 // The struct with the entry `e` whose members end as `p` says.
-fn whole(e: Entry, p: Ends) -> Made
+fn whole(e: TypeEntry, p: Ends) -> Made
     requires { ⌜ ((ms : Members) × Ended p ms) ⌝ }
     ensures { λ r. ⌜ ((k : ℕ) (ms : Members) → Ended p ms → countOf ms ≡ e .count → r ≡ verdictOn (e .reference) (struct k ms)) ⌝ }
 {
@@ -174,24 +174,24 @@ fn whole(e: Entry, p: Ends) -> Made
 }
 
 // Past the last of `count` members: a struct has one at least.
-pub fn finish(e: Entry, run: Run, count: usize) -> Made
-    requires { ⌜ (1 ≤ count → (ms : Members) × Closes run ms) ⌝ }
+pub fn finish(e: TypeEntry, past: SoFar, count: usize) -> Made
+    requires { ⌜ (1 ≤ count → (ms : Members) × Closes past ms) ⌝ }
     ensures none { λ r. ⌜ (count ≡ 0 → r ≡ Rule) ⌝ }
-    ensures all { λ r. ⌜ (1 ≤ count → (k : ℕ) (ms : Members) → Closes run ms → countOf ms ≡ e .count → r ≡ verdictOn (e .reference) (struct k ms)) ⌝ }
+    ensures all { λ r. ⌜ (1 ≤ count → (k : ℕ) (ms : Members) → Closes past ms → countOf ms ≡ e .count → r ≡ verdictOn (e .reference) (struct k ms)) ⌝ }
 {
     if count < 1 {
         return Made::Rule;
     }
-    match run {
-        Run::Placed(p) => whole(e, p),
-        Run::Unfit => Made::Given,
-        Run::TooLarge => Made::Large,
+    match past {
+        SoFar::Good(p) => whole(e, p),
+        SoFar::Unfit => Made::Given,
+        SoFar::TooLarge => Made::Large,
     }
 }
 
 // "12 struct: reference = first member, count = members, 1 to 1,024, all within M": those members; or none, where the
 // entry is no struct's or names others.
-pub fn span_of(e: Entry, members: usize) -> Span
+pub fn span_of(e: TypeEntry, members: usize) -> Span
     ensures { λ r. ⌜ Spans members (entryIs e) (r .first) (r .count) ⌝ }
 {
     if e.kind != 12 {

@@ -15,8 +15,8 @@ use Rattle.wgsl.specs.File.{Trailer, trailerLength, typeEntryLength, memberEntr
 use Rattle.wgsl.specs.Rule.{typeOfEntry, typesBelow, typesOf}
 use Rattle.wgsl.proofs.Said.{then-is, then-refused}
 use Rattle.wgsl.proofs.Accepted.{below-length, below-well-formed, Trailed, trailed}
-use Rattle.layout_values.specs.Value.{valueOf, madeOf, numbersOf, blankTable, valuesFrom, valuesOf}
-use Rattle.layout_values.specs.declared.value.Layout.{Layout}
+use Rattle.layout_values.specs.Value.{valueOf, madeOf, rowOf, blankTable, valuesFrom, valuesOf}
+use Rattle.layout_values.specs.declared.value.Value.{Value}
 use Rattle.layout_values.specs.declared.value.Made.{Made}
 use Rattle.layout_values.specs.declared.value.Made.the-variants.{Laid}
 use Rattle.layout_values.proofs.Values.{values-more}
@@ -45,7 +45,7 @@ unfolding blankTable
 blank-length = length-replicate 256 blank
 
 pub filled-none : {f : List ℕ} {r : Trailer} {table : List (List ℕ)} → checkTrailer f ≡ good r → table ≡ blankTable → Filled f r 0 table
-unfolding typesBelow lengthBy typeEntryLength memberEntryLength trailerLength blankTable valuesFrom
+unfolding typesBelow lengthBy blankTable valuesFrom
 filled-none {f} {r} e h =
     record {
       checked = e;
@@ -87,10 +87,10 @@ module _ {f : List ℕ} {r : Trailer} {k : ℕ} {table : List (List ℕ)} (t : F
 -- ---- one entry more
 
 -- one element more of those that are filled, and one less of those that are not
-first-more : (f : List ℕ) (table : List (List ℕ)) (k : ℕ) (l : Layout) (ts : List Ty) (t : Ty) → length ts ≡ k → k < length table → take k table ≡ valuesFrom f 0 ts → l ≡ valueOf (typeEntryAt f k .reference) t → take (k + 1) (set table k (numbersOf l)) ≡ valuesFrom f 0 (ts ++ (t ∷ []))
+first-more : (f : List ℕ) (table : List (List ℕ)) (k : ℕ) (l : Value) (ts : List Ty) (t : Ty) → length ts ≡ k → k < length table → take k table ≡ valuesFrom f 0 ts → l ≡ valueOf (typeEntryAt f k .reference) t → take (k + 1) (set table k (rowOf l)) ≡ valuesFrom f 0 (ts ++ (t ∷ []))
 first-more f table k l ts t n h e q =
     let z : 0 + length ts ≡ k = omega arith in
-    rw (add-one k, values-more f 0 ts t, z, ← e, ← q) (take-suc-set table k (numbersOf l) h)
+    rw (add-one k, values-more f 0 ts t, z, ← e, ← q) (take-suc-set table k (rowOf l) h)
 
 rest-more : (table : List (List ℕ)) (k : ℕ) (v : List ℕ) → k < 256 → drop k table ≡ replicate (256 - k) blank → drop (k + 1) (set table k v) ≡ replicate (256 - (k + 1)) blank
 rest-more table k v h e =
@@ -100,7 +100,7 @@ rest-more table k v h e =
     ∙ ap (λ (n : ℕ). drop 1 (replicate n blank)) z
 
 module _ {f : List ℕ} {r : Trailer} {k : ℕ} {table : List (List ℕ)} {e : TypeEntry} (t : Filled f r k table) (h : k < r .types) (is : e ≡ typeEntryAt f k) where
-  pub filled-more : {l : Layout} {v : List ℕ} → Laid l ≡ madeOf (e .reference) (typeOfEntry f (t .types) k) → v ≡ numbersOf l → Filled f r (k + 1) (set table k v)
+  pub filled-more : {l : Value} {v : List ℕ} → Laid l ≡ madeOf (e .reference) (typeOfEntry f (t .types) k) → v ≡ rowOf l → Filled f r (k + 1) (set table k v)
   filled-more {l} {v} m q =
       let x = entry-laid f k (e .reference) (t .below) m l refl in
       let high = t .trailer .high in

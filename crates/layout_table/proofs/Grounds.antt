@@ -19,11 +19,11 @@ use Rattle.said.specs.Refusal.{numberOf, placeOf}
 use Rattle.file.specs.Members.{membersStart}
 use Rattle.said.specs.declared.refusal.Refusal.{Refusal}
 use Rattle.file.specs.declared.trailer.Trailer.{Trailer}
-use Rattle.layout_values.specs.declared.value.Layout.{Layout}
-use Rattle.layout_values.specs.Value.{layoutAt, valuesOf}
+use Rattle.layout_values.specs.declared.value.Value.{Value}
+use Rattle.layout_values.specs.Value.{valueAt, valuesOf}
 use Rattle.layout_values.proofs.Values.{table-at}
 use Rattle.layout_structs.proofs.Froms.{getElem-below}
-use Rattle.layout_table.specs.Table.{groundOf, Standing, groundIn, saidGround}
+use Rattle.layout_table.specs.Table.{groundOf, InTable, groundIn, saidGround}
 use Rattle.layout_table.specs.declared.Ground.{Ground}
 use Rattle.layout_table.specs.declared.Grounded.{Grounded}
 use Rattle.layout_table.specs.declared.Grounded.the-variants.{Is, Refused}
@@ -48,11 +48,11 @@ module _ (f : List ℕ) (t : Trailer) (e : ℕ) (x : Taken f t) where
     type-there : (u : Ty) × (getElem? (x .ts) e ≡ some u)
     type-there = getElem-below (x .ts) e (omega (arith, x .count))
 
-    pub ground-is : {l : Layout} {start end : ℕ} (table : List (List ℕ)) → table ≡ valuesOf f (x .ts) → l ≡ layoutAt table e → start ≡ t .start + 12 * t .types → end ≡ start + 12 * t .members → good (record { ground = record { layout = l; start = start; end = end }; table = table }) ≡ groundIn f e
-    unfolding groundIn entryOf orRefuse groundOf membersStart typeEntryLength memberEntryLength
+    pub ground-is : {l : Value} {start end : ℕ} (table : List (List ℕ)) → table ≡ valuesOf f (x .ts) → l ≡ valueAt table e → start ≡ t .start + 12 * t .types → end ≡ start + 12 * t .members → good (record { ground = record { value = l; start = start; end = end }; table = table }) ≡ groundIn f e
+    unfolding groundIn entryOf orRefuse groundOf membersStart
     ground-is table values is p q =
         let u = type-there in
-        let known = is ∙ ap (λ (v : List (List ℕ)). layoutAt v e) values ∙ table-at f (x .ts) e (u .0) (u .1) in
+        let known = is ∙ ap (λ (v : List (List ℕ)). valueAt v e) values ∙ table-at f (x .ts) e (u .0) (u .1) in
         sym (then-is _ (x .taken) ∙ then-is {a = u .0} _ (then-is _ (x .taken) ∙ rw (u .1)) ∙ rw (known, values, q, p, ← x .trailer-is))
 
 -- ---- what its answer tells
@@ -78,8 +78,8 @@ module _ (f : List ℕ) (e : ℕ) (answer : Grounded) (table : List (List ℕ)) 
         taken = x .first;
         type = y .value;
         entry-is = y .first;
-        ground-is = sym (ap (λ (s : Standing). s .ground) same);
-        table-is = sym (ap (λ (s : Standing). s .table) same);
+        ground-is = sym (ap (λ (s : InTable). s .ground) same);
+        table-is = sym (ap (λ (s : InTable). s .table) same);
       }
 
   pub ground-told-refused : (r : Refusal) → answer ≡ Refused r → entryOf f e ≡ refused (numberOf r) (placeOf r)

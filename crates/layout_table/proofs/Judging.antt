@@ -20,7 +20,7 @@ use Rattle.wgsl.proofs.Said.{good-not-refused, then-is, then-refused}
 use Rattle.wgsl.proofs.Accepted.{Trailed}
 use Rattle.file.specs.Members.{membersStart}
 use Rattle.layout_values.specs.Value.{valueOf, verdictOn, madeOf}
-use Rattle.layout_values.specs.declared.value.Layout.{Layout}
+use Rattle.layout_values.specs.declared.value.Value.{Value}
 use Rattle.layout_values.specs.declared.value.Made.{Made}
 use Rattle.layout_values.specs.declared.value.Made.the-variants.{Laid, Rule, Given, Large}
 
@@ -34,11 +34,11 @@ types-of f r e = then-is _ e
 -- Where the entries and the members lie.
 module _ {f : List ℕ} {r : Trailer} {start : ℕ} (t : Trailed f r) (at : start ≡ r .start) where
   pub entry-is : {e : TypeEntry} (k : ℕ) → e ≡ typeEntryFrom f (start + 12 * k) → e ≡ typeEntryAt f k
-  unfolding typeEntryAt typeEntryLength
+  unfolding typeEntryAt
   entry-is k h = rw (← t .is, ← at) h
 
   pub base-is : {types : ℕ} → types ≡ r .types → start + 12 * types ≡ membersStart f
-  unfolding membersStart typeEntryLength
+  unfolding membersStart
   base-is h = rw (← t .is, ← at, ← h)
 
   pub members-are : {members : ℕ} → members ≡ r .members → members ≡ trailerOf f .members
@@ -92,14 +92,14 @@ module _ (f : List ℕ) (ts : List Ty) (k r : ℕ) {e : TypeEntry} (is : e ≡ t
 -- ---- the verdict
 
 -- what the verdict on entry k says
-unfoldable pub says : ℕ → Made → Said Layout
+unfoldable pub says : ℕ → Made → Said Value
 says k (Laid l) = good l
 says k Rule = refused 5 k
 says k Given = refused 6 k
 says k Large = refused 7 k
 
 -- an entry's type, as the layout of it
-unfoldable valued : ℕ → Said Ty → Said Layout
+unfoldable valued : ℕ → Said Ty → Said Value
 valued r (good t) = good (valueOf r t)
 valued r (refused number place) = refused number place
 
@@ -124,7 +124,7 @@ unfolding valued
 valued-refused r (good t) e = good-not-refused refl e
 valued-refused r (refused number place) e = cc
 
-valued-good : {l : Layout} (r : ℕ) (s : Said Ty) → valued r s ≡ good l → (t : Ty) × (s ≡ good t) × (l ≡ valueOf r t)
+valued-good : {l : Value} (r : ℕ) (s : Said Ty) → valued r s ≡ good l → (t : Ty) × (s ≡ good t) × (l ≡ valueOf r t)
 unfolding valued
 valued-good r (good t) e = (t, refl, cc)
 valued-good r (refused number place) e = good-not-refused e refl
@@ -153,7 +153,7 @@ module _ {ts : List Ty} {m : Made} (f : List ℕ) (k r : ℕ) (below : typesBelo
       rw z (refused-more f (suc k) (n - suc k) next)
 
   -- The types up to an entry that has a layout.
-  pub entry-laid : (l : Layout) → m ≡ Laid l → (t : Ty) × (typesBelow f (suc k) ≡ good (ts ++ (t ∷ []))) × (l ≡ valueOf r t)
+  pub entry-laid : (l : Value) → m ≡ Laid l → (t : Ty) × (typesBelow f (suc k) ≡ good (ts ++ (t ∷ []))) × (l ≡ valueOf r t)
   unfolding typesBelow says
   entry-laid l e =
       let v = valued-good r (judged f ts k) (judged-says f ts k r ∙ ap (says k) (sym made ∙ e)) in

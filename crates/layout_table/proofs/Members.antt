@@ -14,18 +14,18 @@ use Rattle.wgsl.specs.Types.{Ty, Members, struct}
 use Rattle.wgsl.specs.File.{trailerOf, TypeEntry, MemberEntry, memberEntryFrom}
 use Rattle.wgsl.specs.Rule.{andThen, structMade, countOf}
 use Rattle.layout_values.specs.Value.{verdictOn, madeOf}
-use Rattle.layout_values.specs.declared.value.Layout.{Layout}
+use Rattle.layout_values.specs.declared.value.Value.{Value}
 use Rattle.layout_values.specs.declared.value.Made.{Made}
 use Rattle.layout_values.specs.declared.value.Made.the-variants.{Rule}
-use Rattle.layout_structs.specs.declared.Run.{Run}
+use Rattle.layout_structs.specs.declared.SoFar.{SoFar}
 use Rattle.layout_structs.specs.declared.Stepped.the-variants as stepped
-use Rattle.layout_structs.specs.Run.{Spans, Closes, steppedTo}
+use Rattle.layout_structs.specs.SoFar.{Spans, Closes, steppedTo}
 use Rattle.layout_structs.proofs.Froms.{membersAt, from-first}
 use Rattle.layout_structs.proofs.Structs.{struct-members, place-first}
 use Rattle.layout_structs.proofs.Turns.{Reached, Coming, reached-past, reached-rule, reached-closes, reached-made}
 use Rattle.layout_table.specs.Table.{Upward}
 
-module _ {f : List ℕ} {k base members first count i : ℕ} {e : TypeEntry} {table : List (List ℕ)} {ts : List Ty} (u : Upward f k e base members table ts) (s : Spans members e first count) (run : Run) (d : Reached f ts (base + 12 * first) i count run) where
+module _ {f : List ℕ} {k base members first count i : ℕ} {e : TypeEntry} {table : List (List ℕ)} {ts : List Ty} (u : Upward f k e base members table ts) (s : Spans members e first count) (run : SoFar) (d : Reached f ts (base + 12 * first) i count run) where
   members-make : {x : Made} → 1 ≤ count → madeOf (e .reference) (andThen (membersAt f ts (base + 12 * first) count) (λ ms. some (struct k ms))) ≡ x → x ≡ madeOf (e .reference) (structMade f ts k e)
   members-make {x} l m =
       let n = s .named l in
@@ -39,7 +39,7 @@ module _ {f : List ℕ} {k base members first count i : ℕ} {e : TypeEntry} {ta
   members-past l h past =
       members-make (omega arith) (reached-past table (e .reference) k run d (u .lower) l h past)
 
-  pub members-rule : {m : MemberEntry} {l : Layout} (c : Coming f ts (base + 12 * first) i count m l) → stepped.Rule ≡ steppedTo (eqb (i + 1) count) (d .members) (c .type) m → Rule ≡ madeOf (e .reference) (structMade f ts k e)
+  pub members-rule : {m : MemberEntry} {l : Value} (c : Coming f ts (base + 12 * first) i count m l) → stepped.Rule ≡ steppedTo (eqb (i + 1) count) (d .members) (c .type) m → Rule ≡ madeOf (e .reference) (structMade f ts k e)
   members-rule c h =
       let b : i < count = c .before in
       members-make (omega arith) (reached-rule run d c (e .reference) k h)

@@ -36,7 +36,7 @@ pub record Taken (f : List ℕ) (t : Trailer) : Type 0 where
   pub inside : t .start + 12 * t .types + 12 * t .members ≤ length f
 
 taken-so : (f : List ℕ) (t : Trailer) (ts : List Ty) → typesOf f ≡ good ts → trailerIs t ≡ trailerOf f → Taken f t
-unfolding lengthBy typeEntryLength memberEntryLength trailerLength
+unfolding lengthBy
 taken-so f t ts e same =
     let a = accepted f ts e in
     let types : t .types ≡ trailerOf f .types = ap (λ (r : wgsl.Trailer). r .types) same in

@@ -16,7 +16,7 @@ use Rattle.said.specs.Refusal.{numberOf, placeOf}
 use Rattle.file.specs.Fields.{trailerIs}
 use Rattle.file.specs.Members.{membersStart}
 use Rattle.layout_values.specs.Value.{valueOf, valuesOf}
-use Rattle.layout_structs.specs.Run.{Lower}
+use Rattle.layout_structs.specs.SoFar.{Lower}
 use Rattle.layout_table.specs.declared.Checked.{Checked}
 use Rattle.layout_table.specs.declared.Checked.the-variants.{Types, Refused}
 use Rattle.layout_table.specs.declared.Ground.{Ground}
@@ -56,24 +56,24 @@ saidChecked (Refused r) = refused (numberOf r) (placeOf r)
 unfoldable pub groundOf : List ℕ → ℕ → Ty → Ground
 groundOf f e t =
     record {
-      layout = valueOf (typeEntryAt f e .reference) t;
+      value = valueOf (typeEntryAt f e .reference) t;
       start = membersStart f;
       end = membersStart f + memberEntryLength (trailerOf f .form) * trailerOf f .members;
     }
 
 -- an entry, and the table that it stands in
-pub record Standing : Type 0 where
+pub record InTable : Type 0 where
   pub ground : Ground
   pub table : List (List ℕ)
 
 -- 1 to 8
-unfoldable pub groundIn : List ℕ → ℕ → Said Standing
+unfoldable pub groundIn : List ℕ → ℕ → Said InTable
 groundIn f e = do
   ts ← typesOf f
   t ← entryOf f e
   good (record { ground = groundOf f e t; table = valuesOf f ts })
 
-abbrev pub saidGround : Grounded → List (List ℕ) → Said Standing
+abbrev pub saidGround : Grounded → List (List ℕ) → Said InTable
 saidGround (grounded.Is g) table = good (record { ground = g; table = table })
 saidGround (grounded.Refused r) table = refused (numberOf r) (placeOf r)
 

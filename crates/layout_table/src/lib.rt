@@ -1,12 +1,12 @@
 // The table of 256 layouts, worked out upward from entry 0.
-use file::fields::Entry;
+use file::fields::TypeEntry;
 use file::fields::entry_at;
 use file::fields::member_at;
 use file::trailer::Trailer;
 use file::trailer::Trailered;
 use file::trailer::check_trailer;
 use layout_referring::over_entry;
-use layout_structs::Run;
+use layout_structs::SoFar;
 use layout_structs::Stepped;
 use layout_structs::finish;
 use layout_structs::no_members;
@@ -14,12 +14,12 @@ use layout_structs::span_of;
 use layout_structs::step;
 use layout_values::scalars::scalar_entry;
 use layout_values::scalars::zeros;
-use layout_values::value::Layout;
 use layout_values::value::Made;
+use layout_values::value::Row;
 use layout_values::value::Value;
 use layout_values::value::blank;
-use layout_values::value::layout_at;
-use layout_values::value::numbers;
+use layout_values::value::row_of;
+use layout_values::value::value_at;
 use numbers::wide::wide;
 use said::refusal::Refusal;
 ghost use mathlib.Core.Path.{_≡_};
@@ -38,14 +38,21 @@ pub enum Checked {
 }
 
 // A struct's entry, number `k`, over the lower entries: its members one after the other.
-fn struct_entry(f: &[u8], e: Entry, k: usize, base: usize, members: usize, table: &[Value]) -> Made
+fn struct_entry(
+    f: &[u8],
+    e: TypeEntry,
+    k: usize,
+    base: usize,
+    members: usize,
+    table: &[Row],
+) -> Made
     requires { ⌜ (e .kind ≡ 12) × ((ts : List Ty) × Upward (now f) k (entryIs e) base members (now table) ts) ⌝ }
     ensures { λ r. ⌜ ((ts : List Ty) → Upward (now (f .entry)) k (entryIs e) base members (now (table .entry)) ts → r ≡ madeOf (e .reference) (structMade (now (f .entry)) ts k (entryIs e))) ⌝ }
 {
     let s = span_of(e, members);
     let count = s.count;
     let at = base + 12 * s.first;
-    let mut run = no_members();
+    let mut past = no_members();
     let mut i: usize = 0;
     while i < count {
         let m = member_at(f, at + 12 * i);
@@ -53,9 +60,9 @@ fn struct_entry(f: &[u8], e: Entry, k: usize, base: usize, members: usize, table
         if k <= ty {
             return Made::Rule;
         }
-        match step(run, layout_at(table, ty), m, i + 1 == count) {
+        match step(past, value_at(table, ty), m, i + 1 == count) {
             Stepped::Next(r) => {
-                run = r;
+                past = r;
             }
             Stepped::Rule => {
                 return Made::Rule;
@@ -63,11 +70,11 @@ fn struct_entry(f: &[u8], e: Entry, k: usize, base: usize, members: usize, table
         }
         i += 1;
     }
-    finish(e, run, count)
+    finish(e, past, count)
 }
 
 // Entry `k`, with the fields `e`, over the lower entries.
-fn entry_made(f: &[u8], e: Entry, k: usize, base: usize, members: usize, table: &[Value]) -> Made
+fn entry_made(f: &[u8], e: TypeEntry, k: usize, base: usize, members: usize, table: &[Row]) -> Made
     requires { ⌜ ((ts : List Ty) × Upward (now f) k (entryIs e) base members (now table) ts) ⌝ }
     ensures { λ r. ⌜ ((ts : List Ty) → Upward (now (f .entry)) k (entryIs e) base members (now (table .entry)) ts → r ≡ madeOf (e .reference) (typeOfEntry (now (f .entry)) ts k)) ⌝ }
 {
@@ -84,12 +91,12 @@ fn entry_made(f: &[u8], e: Entry, k: usize, base: usize, members: usize, table: 
     if k <= r {
         return Made::Rule;
     }
-    over_entry(e, layout_at(table, r))
+    over_entry(e, value_at(table, r))
 }
 
 // The layouts of the entries of a file whose trailer is good, worked out before anything else is read or written, or the refusal.
 // Refuses 5 to 7.
-pub fn fill(f: &[u8], t: Trailer, table: &mut [Value]) -> Checked
+pub fn fill(f: &[u8], t: Trailer, table: &mut [Row]) -> Checked
     requires { ⌜ (checkTrailer (now f) ≡ good (trailerIs t)) × (now table ≡ blankTable) ⌝ }
     ensures { λ r. ⌜ saidTable r (now (table .exit)) ≡ tableOf (now (f .entry)) ⌝ }
 {
@@ -102,7 +109,7 @@ pub fn fill(f: &[u8], t: Trailer, table: &mut [Value]) -> Checked
         let e = entry_at(f, start + 12 * k);
         match entry_made(f, e, k, base, members, table) {
             Made::Laid(l) => {
-                table[k] = numbers(l);
+                table[k] = row_of(l);
             }
             Made::Rule => {
                 return Checked::Refused(Refusal::Rule(k));
@@ -135,7 +142,7 @@ pub fn accept(f: &[u8]) -> Checked
 
 // The entry that a call speaks of: its layout, and where the file's member entries begin and end.
 pub struct Ground {
-    pub layout: Layout,
+    pub value: Value,
     pub start: usize,
     pub end: usize,
 }
@@ -146,7 +153,7 @@ pub enum Grounded {
 }
 
 // Fills the table, and finds entry `entry` in it. Refuses 5 to 8.
-pub fn find(f: &[u8], t: Trailer, entry: u32, table: &mut [Value]) -> Grounded
+pub fn find(f: &[u8], t: Trailer, entry: u32, table: &mut [Row]) -> Grounded
     requires { ⌜ (checkTrailer (now f) ≡ good (trailerIs t)) × (now table ≡ blankTable) ⌝ }
     ensures { λ r. ⌜ saidGround r (now (table .exit)) ≡ groundIn (now (f .entry)) entry ⌝ }
 {
@@ -158,7 +165,7 @@ pub fn find(f: &[u8], t: Trailer, entry: u32, table: &mut [Value]) -> Grounded
             }
             let start = wide(t.start) + 12 * wide(t.types);
             Grounded::Is(Ground {
-                layout: layout_at(table, wide(entry)),
+                value: value_at(table, wide(entry)),
                 start,
                 end: start + 12 * wide(t.members),
             })

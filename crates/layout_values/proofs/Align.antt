@@ -13,9 +13,8 @@ use lib.Dec.{eqb}
 use mir.Syntax.{w32}
 use mir.Val.{Fits}
 use mir.Facts.{fits-le, fits-lit}
-use Rattle.wgsl.specs.Types.{Scalar, bool, i32, u32, f32, f16, abstractInt, abstractFloat}
+use Rattle.wgsl.specs.Types.{Scalar, bool, i32, u32, f32, f16, abstractInt, abstractFloat, scalarKind}
 use Rattle.wgsl.specs.Size.{both, isPresent, present, widthOf, vec3Align, vectorSize, vectorAlign}
-use Rattle.wgsl.specs.Rank.{kindOf}
 
 -- ---- products
 
@@ -47,11 +46,11 @@ unfolding vectorAlign
 align-three n s h = rw (eq-eqb n 3 h)
 
 -- "none over bool"
-pub align-bool : (n : ℕ) (s : Scalar) → n ≡ 3 → kindOf s ≡ 0 → present (vectorAlign n s) ≡ 0
-unfolding kindOf vec3Align present
+pub align-bool : (n : ℕ) (s : Scalar) → n ≡ 3 → scalarKind s ≡ 0 → present (vectorAlign n s) ≡ 0
+unfolding scalarKind vec3Align present
 align-bool n s h k = rw (align-three n s h) (go s k)
   where
-    go : (s : Scalar) → kindOf s ≡ 0 → present (vec3Align s) ≡ 0
+    go : (s : Scalar) → scalarKind s ≡ 0 → present (vec3Align s) ≡ 0
     go bool k = refl
     go i32 k = omega arith
     go u32 k = omega arith
@@ -61,11 +60,11 @@ align-bool n s h k = rw (align-three n s h) (go s k)
     go abstractFloat k = refl
 
 -- "For n = 3: 16 over i32, u32, f32; 8 over f16"
-pub align-number : (n w : ℕ) (s : Scalar) → w ≡ present (widthOf s) → n ≡ 3 → (kindOf s ≡ 0 → ⊥) → present (vectorAlign n s) ≡ 4 * w
-unfolding kindOf vec3Align widthOf present
+pub align-number : (n w : ℕ) (s : Scalar) → w ≡ present (widthOf s) → n ≡ 3 → (scalarKind s ≡ 0 → ⊥) → present (vectorAlign n s) ≡ 4 * w
+unfolding scalarKind vec3Align widthOf present
 align-number n w s e h k = rw (align-three n s h, e) (go s k)
   where
-    go : (s : Scalar) → (kindOf s ≡ 0 → ⊥) → present (vec3Align s) ≡ 4 * present (widthOf s)
+    go : (s : Scalar) → (scalarKind s ≡ 0 → ⊥) → present (vec3Align s) ≡ 4 * present (widthOf s)
     go bool k = absurd (k refl)
     go i32 k = refl
     go u32 k = refl

@@ -13,7 +13,7 @@ use native.Mathlib.Nat.{mul-zero, mul-one}
 use borrow.Author.Tests.{ne-eqb}
 use lib.Dec.{eqb}
 use Rattle.wgsl.specs.Round.{up, limit}
-use Rattle.wgsl.specs.Types.{Ty, scalar, vector, matrix, array, runtime, atomic, struct, Members, no-more, member, isRuntime, endsInRuntime, isOpen, everywhere, everyMember}
+use Rattle.wgsl.specs.Types.{Ty, scalar, vector, matrix, array, runtime, atomic, struct, Members, no-more, member, isRuntime, endsInRuntime, isOpen, everywhere, everyMember, scalarKind, kindOf}
 use Rattle.wgsl.specs.Size.{both, isPresent, present, vectorSize, startAfter, endAfter, sizeOf, alignOf, membersAlign, membersEnd, numbersOf, hasLayout, memberEnd}
 use Rattle.wgsl.specs.Rule.{isLast, isAllowed, isWellFormed, membersAllowed, membersGivenFit}
 use Rattle.wgsl.specs.Place.{wordCount}
@@ -24,9 +24,8 @@ use Rattle.wgsl.proofs.Members.{first-member}
 use Rattle.wgsl.proofs.Entry.{align-positive, size-positive, number-limit}
 use Rattle.wgsl.proofs.Tail.{sized-closed}
 use Rattle.wgsl.proofs.Count.{wordCount-scalar, wordCount-vector, wordCount-matrix, wordCount-array, wordCount-runtime, wordCount-atomic, words-bounded}
-use Rattle.wgsl.specs.Rank.{kindOf}
-use Rattle.layout_values.specs.Value.{kindOfType, narrowOf, partsOf, partWords, fixedWords, valueOf, wordsIn}
-use Rattle.layout_values.specs.declared.value.Layout.{Layout}
+use Rattle.layout_values.specs.Value.{narrowOf, partsOf, fixedWords, valueOf, wordsIn}
+use Rattle.layout_values.specs.declared.value.Value.{Value}
 use Rattle.layout_values.proofs.Scalar.{kind-bounded}
 
 -- ---- members
@@ -113,14 +112,14 @@ open-aligned (struct k ms) w o =
     let p = struct-passed k ms w in
     members-aligned ms (p .below) (p .allowed) (p .given)
 
-module _ (t : Ty) (l : Layout) (is : l ≡ valueOf (l .reference) t) (w : everywhere isWellFormed t ≡ true) where
+module _ (t : Ty) (l : Value) (is : l ≡ valueOf (l .reference) t) (w : everywhere isWellFormed t ≡ true) where
   size-is : l .size ≡ present (sizeOf t)
   unfolding valueOf
-  size-is = ap (λ (x : Layout). x .size) is
+  size-is = ap (λ (x : Value). x .size) is
 
   align-is : l .align ≡ present (alignOf t)
   unfolding valueOf
-  align-is = ap (λ (x : Layout). x .align) is
+  align-is = ap (λ (x : Value). x .align) is
 
   -- An alignment of 0 stands for none.
   pub unaligned : l .align ≡ 0 → alignOf t ≡ none
@@ -185,9 +184,9 @@ times-cond false n u w h = mul-zero n
 
 -- The words of a value are those of its type.
 pub value-words : (r : ℕ) (t : Ty) → wordsIn (valueOf r t) ≡ fixedWords t
-unfolding wordsIn valueOf kindOfType partsOf partWords fixedWords
+unfolding wordsIn valueOf kindOf partsOf fixedWords
 value-words r (scalar s) =
-    rw (ne-eqb (kindOf s) 12 (λ z. omega (arith, kind-bounded s)))
+    rw (ne-eqb (scalarKind s) 12 (λ z. omega (arith, kind-bounded s)))
     (times-cond (hasLayout (scalar s)) 1 1 (wordCount 0 (scalar s)) (λ h. sym (wordCount-scalar 0 s)))
 value-words r (vector n s) =
     times-cond (hasLayout (vector n s)) n 1 (wordCount 0 (vector n s)) (λ h. mul-one n ∙ sym (wordCount-vector 0 n s))
@@ -205,7 +204,7 @@ value-words r (struct k ms) = refl
 -- ---- an element
 
 -- the numbers of a type that is not open and has an alignment, in its layout
-pub record Element (t : Ty) (l : Layout) : Type 0 where
+pub record Element (t : Ty) (l : Value) : Type 0 where
   pub well : everywhere isWellFormed t ≡ true
   pub closed : isOpen t ≡ false
   pub align-is : alignOf t ≡ some (l .align)
@@ -218,7 +217,7 @@ unfolding fixedWords hasLayout isPresent
 words-there t a z p q = rw (p, q, or-true (isOpen t))
 
 -- A type that is not open, and whose layout has an alignment above 0, is one.
-pub element : (t : Ty) (l : Layout) → l ≡ valueOf (l .reference) t → everywhere isWellFormed t ≡ true → isOpen t ≡ false → 0 < l .align → Element t l
+pub element : (t : Ty) (l : Value) → l ≡ valueOf (l .reference) t → everywhere isWellFormed t ≡ true → isOpen t ≡ false → 0 < l .align → Element t l
 unfolding valueOf
 element t l is w closed h =
     let align : alignOf t ≡ some (l .align) = there (alignOf t) (omega (arith, align-is t l is w)) ∙ ap some (sym (align-is t l is w)) in
@@ -229,18 +228,18 @@ element t l is w closed h =
       align-is = align;
       size-is = z .1 ∙ ap some (sym (size-is t l is w ∙ ap present (z .1) ∙ present-is (z .0)));
       words-is = sym (ap wordsIn is ∙ value-words (l .reference) t ∙ words-there t (l .align) (z .0) align (z .1));
-      narrow-is = sym (ap (λ (x : Layout). x .narrow) is);
+      narrow-is = sym (ap (λ (x : Value). x .narrow) is);
     }
 
 -- The alignment of an element is within the limit.
-pub align-within : (t : Ty) (l : Layout) → Element t l → l .align ≤ 4294967295
-unfolding numbersOf limit
+pub align-within : (t : Ty) (l : Value) → Element t l → l .align ≤ 4294967295
+unfolding numbersOf
 align-within t l x =
     number-limit t (l .align) (x .well) (List·Memᴰ·tail (List·Memᴰ·head (rw (x .align-is))))
 
 -- So are its words, since each takes at least 2 of its bytes.
-pub words-within : (t : Ty) (l : Layout) → Element t l → wordsIn l ≤ 4294967295
-unfolding numbersOf limit
+pub words-within : (t : Ty) (l : Value) → Element t l → wordsIn l ≤ 4294967295
+unfolding numbersOf
 words-within t l x =
     omega (
       arith,
@@ -250,6 +249,6 @@ words-within t l x =
     )
 
 -- A type with no alignment has no words.
-pub no-words : (t : Ty) (l : Layout) → l ≡ valueOf (l .reference) t → everywhere isWellFormed t ≡ true → l .align ≡ 0 → wordsIn l ≡ 0
+pub no-words : (t : Ty) (l : Value) → l ≡ valueOf (l .reference) t → everywhere isWellFormed t ≡ true → l .align ≡ 0 → wordsIn l ≡ 0
 unfolding fixedWords hasLayout isPresent
 no-words t l is w e = ap wordsIn is ∙ value-words (l .reference) t ∙ rw (unaligned t l is w e)

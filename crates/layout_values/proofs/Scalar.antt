@@ -10,22 +10,21 @@ use mathlib.Core.Option.{some}
 use mathlib.Core.Path.{_≡_, refl, sym, _∙_}
 use native.Mathlib.Omega.{arith}
 use lib.Dec.{eqb}
-use Rattle.wgsl.specs.Types.{Scalar, bool, i32, u32, f32, f16, abstractInt, abstractFloat, Ty, scalar, vector, matrix, array, runtime, atomic, struct, isOpen}
+use Rattle.wgsl.specs.Types.{Scalar, bool, i32, u32, f32, f16, abstractInt, abstractFloat, Ty, scalar, vector, matrix, array, runtime, atomic, struct, isOpen, scalarKind, kindOf}
 use Rattle.wgsl.specs.Size.{isPresent, present, widthOf, sizeOf, alignOf, minSizeOf, innerNumbersOf, hasLayout, isStored}
 use Rattle.wgsl.specs.File.{TypeEntry}
 use Rattle.wgsl.specs.Rule.{unused, scalarOfKind, scalarIn, scalarMade, isAllowed, givenFits}
-use Rattle.wgsl.specs.Rank.{kindOf}
 use Rattle.wgsl.proofs.Absent.{some-not-none}
 use Rattle.layout_values.proofs.Verdict.{present-positive, fits-small, layout-closed, layout-none, value-is, unit-laid, unit-none, verdict-laid, made-used, made-over}
-use Rattle.layout_values.specs.Value.{kindOfType, storedWidth, narrowOf, partsOf, partWords, partStride, valueOf, madeOf}
-use Rattle.layout_values.specs.declared.value.Layout.{Layout}
+use Rattle.layout_values.specs.Value.{storedWidth, narrowOf, partsOf, valueOf, madeOf}
+use Rattle.layout_values.specs.declared.value.Value.{Value}
 use Rattle.layout_values.specs.declared.value.Made.the-variants.{Laid, Rule}
 
 -- ---- widths
 
 -- "bool, i32, u32, f32 .. 4/4"
-pub width-four : (s : Scalar) → kindOf s ≤ 3 → present (widthOf s) ≡ 4
-unfolding kindOf widthOf present
+pub width-four : (s : Scalar) → scalarKind s ≤ 3 → present (widthOf s) ≡ 4
+unfolding scalarKind widthOf present
 width-four bool h = refl
 width-four i32 h = refl
 width-four u32 h = refl
@@ -35,8 +34,8 @@ width-four abstractInt h = omega arith
 width-four abstractFloat h = omega arith
 
 -- "f16: 2/2"
-pub width-two : (s : Scalar) → kindOf s ≡ 4 → present (widthOf s) ≡ 2
-unfolding kindOf widthOf present
+pub width-two : (s : Scalar) → scalarKind s ≡ 4 → present (widthOf s) ≡ 2
+unfolding scalarKind widthOf present
 width-two bool h = omega arith
 width-two i32 h = omega arith
 width-two u32 h = omega arith
@@ -46,8 +45,8 @@ width-two abstractInt h = omega arith
 width-two abstractFloat h = omega arith
 
 -- "Abstract: neither."
-pub width-none : (s : Scalar) → 4 < kindOf s → present (widthOf s) ≡ 0
-unfolding kindOf widthOf present
+pub width-none : (s : Scalar) → 4 < scalarKind s → present (widthOf s) ≡ 0
+unfolding scalarKind widthOf present
 width-none bool h = omega arith
 width-none i32 h = omega arith
 width-none u32 h = omega arith
@@ -79,8 +78,8 @@ width-absent abstractFloat h = refl
 
 -- ---- which are stored
 
-pub stored-bool : (s : Scalar) → kindOf s < 1 → storedWidth s ≡ 0
-unfolding kindOf storedWidth isStored
+pub stored-bool : (s : Scalar) → scalarKind s < 1 → storedWidth s ≡ 0
+unfolding scalarKind storedWidth isStored
 stored-bool bool h = refl
 stored-bool i32 h = absurd (omega arith)
 stored-bool u32 h = absurd (omega arith)
@@ -89,8 +88,8 @@ stored-bool f16 h = absurd (omega arith)
 stored-bool abstractInt h = refl
 stored-bool abstractFloat h = refl
 
-pub stored-number : (s : Scalar) → 1 ≤ kindOf s → storedWidth s ≡ present (widthOf s)
-unfolding kindOf storedWidth isStored widthOf present
+pub stored-number : (s : Scalar) → 1 ≤ scalarKind s → storedWidth s ≡ present (widthOf s)
+unfolding scalarKind storedWidth isStored widthOf present
 stored-number bool h = absurd (omega arith)
 stored-number i32 h = refl
 stored-number u32 h = refl
@@ -101,8 +100,8 @@ stored-number abstractFloat h = refl
 
 -- ---- the type that a layout is of
 
-pub kind-bounded : (s : Scalar) → kindOf s ≤ 6
-unfolding kindOf
+pub kind-bounded : (s : Scalar) → scalarKind s ≤ 6
+unfolding scalarKind
 kind-bounded bool = omega arith
 kind-bounded i32 = omega arith
 kind-bounded u32 = omega arith
@@ -112,15 +111,15 @@ kind-bounded abstractInt = omega arith
 kind-bounded abstractFloat = omega arith
 
 -- a scalar's type and its layout
-pub record ScalarOf (t : Ty) (l : Layout) : Type 0 where
+pub record ScalarOf (t : Ty) (l : Value) : Type 0 where
   pub scalar : Scalar
   pub found : scalarIn t ≡ some scalar
-  pub kind-is : kindOf scalar ≡ l .kind
+  pub kind-is : scalarKind scalar ≡ l .kind
   pub narrow-is : l .narrow ≡ storedWidth scalar
 
 -- A layout of a kind 0 to 6 is a scalar's,
-pub scalar-known : (t : Ty) (l : Layout) → l ≡ valueOf (l .reference) t → l .kind ≤ 6 → ScalarOf t l
-unfolding valueOf kindOfType narrowOf scalarIn
+pub scalar-known : (t : Ty) (l : Value) → l ≡ valueOf (l .reference) t → l .kind ≤ 6 → ScalarOf t l
+unfolding valueOf kindOf narrowOf scalarIn
 scalar-known (scalar s) l e h =
     record { scalar = s; found = refl; kind-is = rw e; narrow-is = rw e }
 scalar-known (vector n s) l e h = let k : 7 ≡ l .kind = rw e in absurd (omega arith)
@@ -131,11 +130,11 @@ scalar-known (atomic s) l e h = let k : 11 ≡ l .kind = rw e in absurd (omega a
 scalar-known (struct n ms) l e h = let k : 12 ≡ l .kind = rw e in absurd (omega arith)
 
 -- and a scalar's is of a kind 0 to 6, the scalar's own.
-pub scalar-kind : (t : Ty) (l : Layout) (s : Scalar) → l ≡ valueOf (l .reference) t → scalarIn t ≡ some s → (kindOf s ≡ l .kind) × (l .kind ≤ 6)
-unfolding valueOf kindOfType scalarIn
+pub scalar-kind : (t : Ty) (l : Value) (s : Scalar) → l ≡ valueOf (l .reference) t → scalarIn t ≡ some s → (scalarKind s ≡ l .kind) × (l .kind ≤ 6)
+unfolding valueOf kindOf scalarIn
 scalar-kind (scalar x) l s e h =
     let same : x ≡ s = cc in
-    let k : kindOf s ≡ l .kind = rw (e, same) in
+    let k : scalarKind s ≡ l .kind = rw (e, same) in
     (k, omega (arith, kind-bounded s))
 scalar-kind (vector n x) l s e h = some-not-none h refl
 scalar-kind (matrix c r x) l s e h = some-not-none h refl
@@ -146,8 +145,8 @@ scalar-kind (struct n ms) l s e h = some-not-none h refl
 
 -- ---- a scalar's entry
 
-scalar-of-kind : (k : ℕ) → k ≤ 6 → (s : Scalar) × (kindOf s ≡ k) × (scalarOfKind k ≡ some s)
-unfolding scalarOfKind kindOf
+scalar-of-kind : (k : ℕ) → k ≤ 6 → (s : Scalar) × (scalarKind s ≡ k) × (scalarOfKind k ≡ some s)
+unfolding scalarOfKind scalarKind
 scalar-of-kind zero h = (bool, refl, refl)
 scalar-of-kind (suc zero) h = (i32, refl, refl)
 scalar-of-kind (suc (suc zero)) h = (u32, refl, refl)
@@ -163,7 +162,7 @@ module _ (e : TypeEntry) where
   scalar-used h = made-used _ _ h
 
   module _ (zeros : unused (e .columns ∷ e .rows ∷ e .reference ∷ e .count ∷ []) ≡ true) (scalars : e .kind ≤ 6) where
-    scalar-verdict : (l : Layout) → l .reference ≡ e .reference → ((s : Scalar) → kindOf s ≡ e .kind → l ≡ valueOf (l .reference) (scalar s)) → madeOf (e .reference) (scalarMade e) ≡ Laid l
+    scalar-verdict : (l : Value) → l .reference ≡ e .reference → ((s : Scalar) → scalarKind s ≡ e .kind → l ≡ valueOf (l .reference) (scalar s)) → madeOf (e .reference) (scalarMade e) ≡ Laid l
     unfolding scalarMade isAllowed givenFits sizeOf alignOf minSizeOf innerNumbersOf
     scalar-verdict l q h =
         let (s, k, f) = scalar-of-kind (e .kind) scalars in
@@ -172,8 +171,8 @@ module _ (e : TypeEntry) where
         ∙ rw (← q) (verdict-laid (scalar s) l refl refl (fits-small (scalar s) refl (omega arith) (omega arith) refl) (h s k))
 
     -- The layout of a scalar.
-    pub scalar-laid : (w n : ℕ) → ((s : Scalar) → kindOf s ≡ e .kind → w ≡ present (widthOf s)) → ((s : Scalar) → kindOf s ≡ e .kind → n ≡ storedWidth s) → (u : ℕ) → u ≡ cond (eqb w 0) 0 1 → madeOf (e .reference) (scalarMade e) ≡ Laid (record { kind = e .kind; narrow = n; reference = e .reference; count = 1; unit = u; stride = w; size = w; align = w })
-    unfolding kindOfType narrowOf partsOf partWords partStride sizeOf alignOf isOpen
+    pub scalar-laid : (w n : ℕ) → ((s : Scalar) → scalarKind s ≡ e .kind → w ≡ present (widthOf s)) → ((s : Scalar) → scalarKind s ≡ e .kind → n ≡ storedWidth s) → (u : ℕ) → u ≡ cond (eqb w 0) 0 1 → madeOf (e .reference) (scalarMade e) ≡ Laid (record { kind = e .kind; narrow = n; reference = e .reference; count = 1; unit = u; stride = w; size = w; align = w })
+    unfolding kindOf narrowOf partsOf sizeOf alignOf isOpen
     scalar-laid w n width narrow u unit =
         scalar-verdict _ refl
         (λ s k. let size = width s k in

@@ -11,12 +11,12 @@ use mathlib.Core.Path.{_≡_, refl}
 use native.Mathlib.Omega.{arith}
 use borrow.Author.Tests.{le-leb, ne-eqb}
 use lib.Dec.{eqb}
-use Rattle.wgsl.specs.Types.{Scalar, Ty, isOpen}
+use Rattle.wgsl.specs.Types.{Scalar, Ty, isOpen, kindOf}
 use Rattle.wgsl.specs.Size.{isPresent, present, sizeOf, alignOf, minSizeOf, innerNumbersOf, numbersOf, withinLimits, fitsLimit, hasLayout}
 use Rattle.wgsl.specs.Round.{limit, withinLimit}
 use Rattle.wgsl.specs.Rule.{when, andThen, isAllowed, givenFits}
-use Rattle.layout_values.specs.Value.{kindOfType, narrowOf, partsOf, partWords, partStride, valueOf, verdictOn, madeOf}
-use Rattle.layout_values.specs.declared.value.Layout.{Layout}
+use Rattle.layout_values.specs.Value.{narrowOf, partsOf, valueOf, verdictOn, madeOf}
+use Rattle.layout_values.specs.declared.value.Value.{Value}
 use Rattle.layout_values.specs.declared.value.Made.the-variants.{Laid, Rule}
 
 -- ---- numbers that may be absent
@@ -29,7 +29,7 @@ present-positive none h = absurd (omega arith)
 -- ---- the limit
 
 limits-hold : (x : Option ℕ) (xs : List (Option ℕ)) → present x ≤ 4294967295 → withinLimits xs ≡ true → withinLimits (x ∷ xs) ≡ true
-unfolding present withinLimits withinLimit limit
+unfolding present withinLimits withinLimit
 limits-hold (some n) xs h e = rw (le-leb n 4294967295 h) e
 limits-hold none xs h e = e
 
@@ -56,7 +56,7 @@ layout-none t a = rw a
 
 -- ---- a layout's fields
 
-pub value-is : (t : Ty) (l : Layout) → l .kind ≡ kindOfType t → l .narrow ≡ narrowOf t → l .count ≡ partsOf t → l .unit ≡ cond (hasLayout t) (partWords t) 0 → l .stride ≡ present (partStride t) → l .size ≡ present (sizeOf t) → l .align ≡ present (alignOf t) → l ≡ valueOf (l .reference) t
+pub value-is : (t : Ty) (l : Value) → l .kind ≡ kindOf t → l .narrow ≡ narrowOf t → l .count ≡ partsOf t .count → l .unit ≡ cond (hasLayout t) (partsOf t .words) 0 → l .stride ≡ present (partsOf t .stride) → l .size ≡ present (sizeOf t) → l .align ≡ present (alignOf t) → l ≡ valueOf (l .reference) t
 unfolding valueOf
 value-is t l kind narrow count unit stride size align =
     rw (← kind, ← narrow, ← count, ← unit, ← stride, ← size, ← align)
@@ -74,7 +74,7 @@ verdict-rule : (r : ℕ) (t : Ty) → isAllowed t ≡ false → verdictOn r t �
 unfolding verdictOn
 verdict-rule r t h = rw h
 
-pub verdict-laid : (t : Ty) (l : Layout) → isAllowed t ≡ true → givenFits t ≡ true → fitsLimit t ≡ true → l ≡ valueOf (l .reference) t → verdictOn (l .reference) t ≡ Laid l
+pub verdict-laid : (t : Ty) (l : Value) → isAllowed t ≡ true → givenFits t ≡ true → fitsLimit t ≡ true → l ≡ valueOf (l .reference) t → verdictOn (l .reference) t ≡ Laid l
 unfolding verdictOn
 verdict-laid t l a g f e = rw (a, g, f, ← e)
 

@@ -1,6 +1,6 @@
 -- What the table holds of a type, and what becomes of an entry, in the words of crates/wgsl.
 --
--- In order: a type's kind, its narrowest word, its parts, their words and strides; its value; the numbers of a value, and values in a
+-- In order: a type's narrowest word, its parts; its value; the numbers of a value, and values in a
 -- table; the verdict on an entry's type; values that are some type's.
 -- Definitions only. Assumes nothing.
 use Prim.Native.Nat.{ℕ, suc, _+_, _-_, _*_, min}
@@ -10,27 +10,16 @@ use mathlib.Core.List.{List, [], _∷_, _++_}
 use mathlib.Core.Option.{Option, none, some}
 use lib.Dec.{eqb}
 use lib.ListN.{length, getD, replicate}
-use Rattle.wgsl.specs.Types.{Scalar, Ty, scalar, vector, matrix, array, runtime, atomic, struct, Members, no-more, member, everywhere}
+use Rattle.wgsl.specs.Types.{Scalar, Ty, scalar, vector, matrix, array, runtime, atomic, struct, Members, no-more, member, everywhere, kindOf, structKind}
 use Rattle.wgsl.specs.Size.{present, widthOf, vectorAlign, sizeOf, alignOf, strideOf, fitsLimit, hasLayout, isStored}
 use Rattle.wgsl.specs.File.{memberEntryLength, typeEntryAt}
 use Rattle.wgsl.specs.Rule.{countOf, isAllowed, givenFits, isWellFormed}
 use Rattle.wgsl.specs.Place.{wordCount}
-use Rattle.wgsl.specs.Rank.{kindOf}
-use Rattle.layout_values.specs.declared.value.Layout.{Layout}
+use Rattle.layout_values.specs.declared.value.Value.{Value}
 use Rattle.layout_values.specs.declared.value.Made.{Made}
 use Rattle.layout_values.specs.declared.value.Made.the-variants.{Laid, Rule, Given, Large}
 
 -- ---- a type's numbers
-
--- the kind that a type's entry has
-unfoldable pub kindOfType : Ty → ℕ
-kindOfType (scalar s) = kindOf s
-kindOfType (vector n s) = 7
-kindOfType (matrix c r s) = 8
-kindOfType (array n t) = 9
-kindOfType (runtime t) = 10
-kindOfType (atomic s) = 11
-kindOfType (struct k ms) = 12
 
 -- the bytes of a scalar, if it may be stored
 unfoldable pub storedWidth : Scalar → ℕ
@@ -51,72 +40,60 @@ unfoldable mutual
   narrowest no-more = 4
   narrowest (member t size align ms) = min (narrowOf t) (narrowest ms)
 
--- its parts: a vector's scalars, a matrix's columns, an array's elements; a scalar is one; of a struct its members
-unfoldable pub partsOf : Ty → ℕ
-partsOf (scalar s) = 1
-partsOf (vector n s) = n
-partsOf (matrix c r s) = c
-partsOf (array n t) = n
-partsOf (runtime t) = 0
-partsOf (atomic s) = 1
-partsOf (struct k ms) = countOf ms
-
 -- the words of a type that has a layout, with no element of a runtime array
 unfoldable pub fixedWords : Ty → ℕ
 fixedWords t = cond (hasLayout t) (wordCount 0 t) 0
 
--- the words of one part; of a struct all its words
-unfoldable pub partWords : Ty → ℕ
-partWords (scalar s) = 1
-partWords (vector n s) = 1
-partWords (matrix c r s) = r
-partWords (array n t) = fixedWords t
-partWords (runtime t) = fixedWords t
-partWords (atomic s) = 1
-partWords (struct k ms) = wordCount 0 (struct k ms)
+-- parts: a vector's scalars, a matrix's columns, an array's elements; a scalar and an atomic are one; of a struct its members
+pub record Part : Type 0 where
+  -- how many; of a runtime array none
+  pub count : ℕ
+  -- the words of one; of a struct all its words
+  pub words : ℕ
+  -- from one to the next; of a struct, from one member entry to the next
+  pub stride : Option ℕ
 
--- from one part to the next; of a struct, from one member entry to the next ("M member entries of 12 bytes follow")
-unfoldable pub partStride : Ty → Option ℕ
-partStride (scalar s) = widthOf s
-partStride (vector n s) = widthOf s
-partStride (matrix c r s) = vectorAlign r s
-partStride (array n t) = strideOf t
-partStride (runtime t) = strideOf t
-partStride (atomic s) = widthOf s
-partStride (struct k ms) = some (memberEntryLength 1)
+unfoldable pub partsOf : Ty → Part
+partsOf (scalar s) = record { count = 1; words = 1; stride = widthOf s }
+partsOf (vector n s) = record { count = n; words = 1; stride = widthOf s }
+partsOf (matrix c r s) = record { count = c; words = r; stride = vectorAlign r s }
+partsOf (array n t) = record { count = n; words = fixedWords t; stride = strideOf t }
+partsOf (runtime t) = record { count = 0; words = fixedWords t; stride = strideOf t }
+partsOf (atomic s) = record { count = 1; words = 1; stride = widthOf s }
+partsOf (struct k ms) = record { count = countOf ms; words = wordCount 0 (struct k ms); stride = some (memberEntryLength 1) }
 
 -- ---- its value
 
 -- the value of a type whose entry has this reference
-unfoldable pub valueOf : ℕ → Ty → Layout
+unfoldable pub valueOf : ℕ → Ty → Value
 valueOf reference t =
     record {
-      kind = kindOfType t;
+      kind = kindOf t;
       narrow = narrowOf t;
       reference = reference;
-      count = partsOf t;
-      unit = cond (hasLayout t) (partWords t) 0;
-      stride = present (partStride t);
+      count = partsOf t .count;
+      unit = cond (hasLayout t) (partsOf t .words) 0;
+      stride = present (partsOf t .stride);
       size = present (sizeOf t);
       align = present (alignOf t);
     }
 
 -- its words, with no element of a runtime array
-unfoldable pub wordsIn : Layout → ℕ
-wordsIn l = cond (eqb (l .kind) 12) (l .unit) (l .count * l .unit)
+unfoldable pub wordsIn : Value → ℕ
+wordsIn l = cond (eqb (l .kind) structKind) (l .unit) (l .count * l .unit)
 
 -- ---- numbers, and a table of them
 
-unfoldable pub numbersOf : Layout → List ℕ
-numbersOf l =
+unfoldable pub rowOf : Value → List ℕ
+rowOf l =
     l .kind ∷ l .narrow ∷ l .reference ∷ l .count ∷ l .unit ∷ l .stride ∷ l .size ∷ l .align ∷ []
 
 -- number i of entry e
 abbrev pub numberAt : List (List ℕ) → ℕ → ℕ → ℕ
 numberAt table e i = getD (getD table e []) i 0
 
-unfoldable pub layoutAt : List (List ℕ) → ℕ → Layout
-layoutAt table e =
+unfoldable pub valueAt : List (List ℕ) → ℕ → Value
+valueAt table e =
     record {
       kind = numberAt table e 0;
       narrow = numberAt table e 1;
@@ -135,7 +112,7 @@ blankTable = replicate 256 (replicate 8 0)
 -- the values of types whose entries are those of a file from entry k on
 unfoldable pub valuesFrom : List ℕ → ℕ → List Ty → List (List ℕ)
 valuesFrom f k [] = []
-valuesFrom f k (t ∷ ts) = numbersOf (valueOf (typeEntryAt f k .reference) t) ∷ valuesFrom f (suc k) ts
+valuesFrom f k (t ∷ ts) = rowOf (valueOf (typeEntryAt f k .reference) t) ∷ valuesFrom f (suc k) ts
 
 -- the table of a file with these types: their values, and blanks past them
 unfoldable pub valuesOf : List ℕ → List Ty → List (List ℕ)
@@ -156,7 +133,7 @@ madeOf reference none = Rule
 -- ---- values that are some type's
 
 -- a layout in the table: that of a type that the file's rules leave
-pub record Known (l : Layout) : Type 0 where
+pub record Known (l : Value) : Type 0 where
   pub type : Ty
   pub is : l ≡ valueOf (l .reference) type
   pub well-formed : everywhere isWellFormed type ≡ true

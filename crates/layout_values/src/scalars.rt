@@ -1,16 +1,15 @@
 // Scalars, and the alignment of vectors of them.
-use crate::value::Layout;
 use crate::value::Made;
-use file::fields::Entry;
+use crate::value::Value;
+use file::fields::TypeEntry;
 ghost use mathlib.Core.Path.{_≡_};
 ghost use mathlib.Core.Bool.{cond};
 ghost use mathlib.Core.List.{[], _∷_};
 ghost use Prim.Native.Nat.{_≤_};
 ghost use lib.Dec.{eqb};
-ghost use Rattle.wgsl.specs.Types.{Scalar};
+ghost use Rattle.wgsl.specs.Types.{Scalar, scalarKind};
 ghost use Rattle.wgsl.specs.Size.{present, widthOf, vectorAlign};
 ghost use Rattle.wgsl.specs.Rule.{unused, scalarMade};
-ghost use Rattle.wgsl.specs.Rank.{kindOf};
 ghost use Rattle.file.specs.Fields.{entryIs};
 ghost use Rattle.layout_values.specs.Value.{storedWidth, madeOf};
 
@@ -33,7 +32,7 @@ pub fn zeros(a: u32, b: u32, c: u32, d: u32) -> bool
 // The size of a scalar, and its alignment: 0 where it has none.
 pub fn scalar_size(kind: u32) -> u32
     requires { ⌜ kind ≤ 6 ⌝ }
-    ensures { λ r. ⌜ ((s : Scalar) → kindOf s ≡ kind → r ≡ present (widthOf s)) × (r ≤ 4) ⌝ }
+    ensures { λ r. ⌜ ((s : Scalar) → scalarKind s ≡ kind → r ≡ present (widthOf s)) × (r ≤ 4) ⌝ }
 {
     if kind <= 3 {
         return 4;
@@ -47,7 +46,7 @@ pub fn scalar_size(kind: u32) -> u32
 // The bytes of a scalar that may be stored; 0 of any other.
 fn stored_width(kind: u32) -> u32
     requires { ⌜ kind ≤ 6 ⌝ }
-    ensures { λ r. ⌜ ((s : Scalar) → kindOf s ≡ kind → r ≡ storedWidth s) ⌝ }
+    ensures { λ r. ⌜ ((s : Scalar) → scalarKind s ≡ kind → r ≡ storedWidth s) ⌝ }
 {
     if kind < 1 {
         return 0;
@@ -58,7 +57,7 @@ fn stored_width(kind: u32) -> u32
 // The alignment of a vector, and of a matrix column: 0 where it has none.
 pub fn vector_align(rows: u32, kind: u32) -> u32
     requires { ⌜ (rows ≤ 4) × (kind ≤ 6) ⌝ }
-    ensures { λ r. ⌜ ((s : Scalar) → kindOf s ≡ kind → r ≡ present (vectorAlign rows s)) × (r ≤ 16) ⌝ }
+    ensures { λ r. ⌜ ((s : Scalar) → scalarKind s ≡ kind → r ≡ present (vectorAlign rows s)) × (r ≤ 16) ⌝ }
 {
     let w = scalar_size(kind);
     if rows != 3 {
@@ -78,7 +77,7 @@ pub fn unless_absent(align: u32, unit: u32) -> u32
 }
 
 // A scalar's entry: kinds 0 to 6.
-pub fn scalar_entry(e: Entry) -> Made
+pub fn scalar_entry(e: TypeEntry) -> Made
     requires { ⌜ e .kind ≤ 6 ⌝ }
     ensures { λ r. ⌜ r ≡ madeOf (e .reference) (scalarMade (entryIs e)) ⌝ }
 {
@@ -89,7 +88,7 @@ pub fn scalar_entry(e: Entry) -> Made
     let w = scalar_size(kind);
     let narrow = stored_width(kind);
     let unit = unless_absent(w, 1);
-    Made::Laid(Layout {
+    Made::Laid(Value {
         kind,
         narrow,
         reference: e.reference,

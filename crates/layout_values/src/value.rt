@@ -5,14 +5,14 @@ ghost use Prim.Native.Nat.{_<_, _≤_};
 ghost use lib.ListN.{length};
 ghost use Rattle.wgsl.specs.Types.{Ty, everywhere, isOpen};
 ghost use Rattle.wgsl.specs.Rule.{isWellFormed};
-ghost use Rattle.layout_values.specs.Value.{valueOf, wordsIn, numbersOf, layoutAt, blankTable};
+ghost use Rattle.layout_values.specs.Value.{valueOf, wordsIn, rowOf, valueAt, blankTable};
 
 // The numbers of a layout, in its order. Without a gap, so that a blank table is cleared at once.
-pub type Value = [u32; 8];
+pub type Row = [u32; 8];
 
 // The layout of a type. A size, an alignment and a stride are above 0, and 0 stands for an absent one. Its parts are a vector's scalars,
 // a matrix's columns, an array's elements; a scalar and an atomic are one part.
-pub struct Layout {
+pub struct Value {
     pub kind: u32,
     // the fewest bytes that one of its words takes: 4, or 2 where it holds an f16; 0 where it holds what cannot be stored
     pub narrow: u32,
@@ -30,21 +30,21 @@ pub struct Layout {
 
 // What becomes of an entry: a layout, or document 01's 5, 6 or 7.
 pub enum Made {
-    Laid(Layout),
+    Laid(Value),
     Rule,
     Given,
     Large,
 }
 
 // The table before it is filled.
-pub fn blank() -> [Value; 256]
+pub fn blank() -> [Row; 256]
     ensures { λ r. ⌜ r ≡ blankTable ⌝ }
 {
     [[0u32; 8]; 256]
 }
 
-pub fn numbers(l: Layout) -> Value
-    ensures { λ r. ⌜ r ≡ numbersOf l ⌝ }
+pub fn row_of(l: Value) -> Row
+    ensures { λ r. ⌜ r ≡ rowOf l ⌝ }
 {
     [
         l.kind,
@@ -59,11 +59,11 @@ pub fn numbers(l: Layout) -> Value
 }
 
 // The layout of entry `e`.
-pub fn layout_at(table: &[Value], e: usize) -> Layout
+pub fn value_at(table: &[Row], e: usize) -> Value
     requires { ⌜ e < length (now table) ⌝ }
-    ensures { λ r. ⌜ r ≡ layoutAt (now (table .entry)) e ⌝ }
+    ensures { λ r. ⌜ r ≡ valueAt (now (table .entry)) e ⌝ }
 {
-    Layout {
+    Value {
         kind: table[e][0],
         narrow: table[e][1],
         reference: table[e][2],
@@ -76,7 +76,7 @@ pub fn layout_at(table: &[Value], e: usize) -> Layout
 }
 
 // Whether a type is open: what has an alignment is open or has a size.
-pub fn opens(l: Layout) -> bool
+pub fn opens(l: Value) -> bool
     ensures { λ r. ⌜ ((t : Ty) → l ≡ valueOf (l .reference) t → everywhere isWellFormed t ≡ true → r ≡ isOpen t) ⌝ }
 {
     if l.size != 0 {
@@ -86,7 +86,7 @@ pub fn opens(l: Layout) -> bool
 }
 
 // The words of a type, with no element of a runtime array; 0 where it has no layout.
-pub fn words_of(l: Layout) -> u32
+pub fn words_of(l: Value) -> u32
     requires { ⌜ wordsIn l ≤ 4294967295 ⌝ }
     ensures { λ r. ⌜ r ≡ wordsIn l ⌝ }
 {

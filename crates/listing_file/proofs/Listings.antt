@@ -25,9 +25,9 @@ use Rattle.wgsl.proofs.Entry.{size-positive, align-positive}
 use Rattle.said.specs.Refusal.{numberOf, placeOf}
 use Rattle.said.specs.declared.refusal.Refusal.{Refusal}
 use Rattle.file.specs.declared.trailer.Trailer.{Trailer}
-use Rattle.layout_values.specs.Value.{valueOf, layoutAt, valuesOf}
+use Rattle.layout_values.specs.Value.{valueOf, valueAt, valuesOf}
 use Rattle.layout_values.proofs.Values.{table-at}
-use Rattle.layout_values.specs.declared.value.Layout.{Layout}
+use Rattle.layout_values.specs.declared.value.Value.{Value}
 use Rattle.layout_table.proofs.Taken.{Taken}
 use Rattle.listing_text.specs.Put.{Put, marked, line, heading}
 use Rattle.listing_text.proofs.Lines.{marked-absent, marked-number}
@@ -43,7 +43,7 @@ unfolding present orDash
 marked-present none h = marked-absent 0 refl
 marked-present (some n) h = let l : 1 ≤ n = h n refl in marked-number n (λ z. omega arith)
 
-line-is : (k r : ℕ) (l : Layout) (t : Ty) → l ≡ valueOf r t → everywhere isWellFormed t ≡ true → line k (l .size) (l .align) ≡ entryLine k t
+line-is : (k r : ℕ) (l : Value) (t : Ty) → l ≡ valueOf r t → everywhere isWellFormed t ≡ true → line k (l .size) (l .align) ≡ entryLine k t
 unfolding line entryLine valueOf
 line-is k r l t e w =
     rw (
@@ -61,13 +61,13 @@ next (t ∷ ts) zero h = (t, refl, refl)
 next (t ∷ ts) (suc k) h = next ts k (omega arith)
 
 -- The lines that are left begin with that of entry k.
-lines-next : {f : List ℕ} {table : List (List ℕ)} {types : ℕ} {ts : List Ty} (k : ℕ) → Entries f table types ts → k < types → line k (layoutAt table k .size) (layoutAt table k .align) ++ entryLines (suc k) (drop (suc k) ts) ≡ entryLines k (drop k ts)
+lines-next : {f : List ℕ} {table : List (List ℕ)} {types : ℕ} {ts : List Ty} (k : ℕ) → Entries f table types ts → k < types → line k (valueAt table k .size) (valueAt table k .align) ++ entryLines (suc k) (drop (suc k) ts) ≡ entryLines k (drop k ts)
 unfolding entryLines
 lines-next {f} {table} {types} {ts} k e h =
     let low : k < length ts = omega (arith, e .count) in
     let x = next ts k low in
-    let is : layoutAt table k ≡ valueOf (typeEntryAt f k .reference) (x .0) = rw (e .table-is) (table-at f ts k (x .0) (x .1)) in
-    rw (x .2, line-is k _ (layoutAt table k) (x .0) is (e .well-formed k (x .0) (x .1)))
+    let is : valueAt table k ≡ valueOf (typeEntryAt f k .reference) (x .0) = rw (e .table-is) (table-at f ts k (x .0) (x .1)) in
+    rw (x .2, line-is k _ (valueAt table k) (x .0) is (e .well-formed k (x .0) (x .1)))
 
 -- ---- the turns of the loop: what is left to put, from here, gives what all lines give from the start
 
@@ -89,12 +89,12 @@ going-none {types = types} h p =
     }
 
 module _ {table : List (List ℕ)} {types at₀ at k : ℕ} {out₀ out : List ℕ} (g : Going table types out₀ at₀ out at k) where
-  pub going-more : {r : ℕ} {after : List ℕ} → k < types → Put out at (line k (layoutAt table k .size) (layoutAt table k .align)) r after → Going table types out₀ at₀ after r (k + 1)
+  pub going-more : {r : ℕ} {after : List ℕ} → k < types → Put out at (line k (valueAt table k .size) (valueAt table k .align)) r after → Going table types out₀ at₀ after r (k + 1)
   going-more h p =
       record {
         few = g .few;
         turn = omega arith;
-        high = omega (arith, g .high, p .next, line-length k (layoutAt table k .size) (layoutAt table k .align));
+        high = omega (arith, g .high, p .next, line-length k (valueAt table k .size) (valueAt table k .align));
         same = put-length p ∙ g .same;
         left = λ f ts is s end q.
             g .left f ts is s end (rw (← lines-next k is h) (put-then p (rw (add-one k) at q)));

@@ -3,9 +3,9 @@ use file::trailer::Trailered;
 use file::trailer::check_trailer;
 use layout_table::Checked;
 use layout_table::fill;
-use layout_values::value::Value;
+use layout_values::value::Row;
 use layout_values::value::blank;
-use layout_values::value::layout_at;
+use layout_values::value::value_at;
 use listing_text::put_heading;
 use listing_text::put_line;
 use listing_text::put_refused;
@@ -21,7 +21,7 @@ ghost use Rattle.listing_text.specs.Put.{Put};
 ghost use Rattle.listing_file.specs.List.{Entries};
 
 // Puts the lines of an accepted file's entries.
-fn put_entries(out: &mut [u8], table: &[Value], types: u32) -> usize
+fn put_entries(out: &mut [u8], table: &[Row], types: u32) -> usize
     requires room { ⌜ 8467 ≤ length (now out) ⌝ }
     requires entries { ⌜ ((f : List ℕ) × (ts : List Ty) × Entries f (now table) types ts) ⌝ }
     ensures { λ r. ⌜ ((f : List ℕ) (ts : List Ty) → Entries f (now (table .entry)) types ts → Put (now (out .entry)) 0 (listed (good ts)) r (now (out .exit))) ⌝ }
@@ -29,7 +29,7 @@ fn put_entries(out: &mut [u8], table: &[Value], types: u32) -> usize
     let mut at = put_heading(out, 0, types);
     let mut k: u32 = 0;
     while k < types {
-        let l = layout_at(table, k as usize);
+        let l = value_at(table, k as usize);
         at = put_line(out, at, k, l.size, l.align);
         k += 1;
     }

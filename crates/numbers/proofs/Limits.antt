@@ -10,11 +10,11 @@ use Rattle.numbers.specs.Limit.{limited}
 use Rattle.numbers.specs.declared.limit.Limited.the-variants.{Is, TooLarge}
 
 pub limited-within : (n : ℕ) → n ≤ 4294967295 → limited n ≡ Is n
-unfolding limited withinLimit limit
+unfolding limited withinLimit
 limited-within n h = rw (le-leb n 4294967295 h)
 
 pub limited-past : (n : ℕ) → 4294967295 < n → limited n ≡ TooLarge
-unfolding limited withinLimit limit
+unfolding limited withinLimit
 limited-past n h = rw (lt-leb n 4294967295 h)
 
 -- The product of two numbers of k bits has at most k + k.

@@ -20,12 +20,12 @@ use Rattle.wgsl.specs.Call.{isShort, targetIn}
 use Rattle.wgsl.proofs.Call.{short-no}
 use Rattle.wgsl.proofs.Tail.{closed-tail, closed-extent}
 use Rattle.wgsl.proofs.Elements.{open-tail}
-use Rattle.layout_values.specs.declared.value.Layout.{Layout}
+use Rattle.layout_values.specs.declared.value.Value.{Value}
 use Rattle.layout_values.specs.Value.{valueOf}
-use Rattle.walk_shapes.proofs.Sites.{site-well-formed}
-use Rattle.walk_decide.specs.declared.Tail as declared
-use Rattle.walk_decide.specs.declared.Found.the-variants as found
-use Rattle.walk_decide.specs.Decide.{elementsFound, tailFrom, Findable}
+use Rattle.walk_shapes.proofs.Basis.{basis-well-formed}
+use Rattle.walk_decide.specs.declared.Rest as declared
+use Rattle.walk_decide.specs.declared.Fits.the-variants as found
+use Rattle.walk_decide.specs.Decide.{elementsFound, restFrom, Findable}
 use Rattle.walk_decide.proofs.Calls.{found-short, found-there}
 use Rattle.walk_decide.proofs.Tails.{layout-value, open-found, found-opened}
 use Rattle.paths.specs.declared.locate.Held.{Held}
@@ -34,16 +34,16 @@ use Rattle.paths.specs.Locate.{heldOf, Viewable, Opening}
 
 -- ---- an entry
 
-module _ {f ms : List ℕ} {table : List (List ℕ)} {e : ℕ} {l : Layout} {t : Ty} (x : Viewable f ms table e l t) where
+module _ {f ms : List ℕ} {table : List (List ℕ)} {e : ℕ} {l : Value} {t : Ty} (x : Viewable f ms table e l t) where
   pub viewable-value : l ≡ valueOf (l .reference) t
-  viewable-value = rw (x .layout-is) (layout-value (x .site) e t (x .there))
+  viewable-value = rw (x .layout-is) (layout-value (x .basis) e t (x .there))
 
   pub viewable-well-formed : everywhere isWellFormed t ≡ true
-  viewable-well-formed = site-well-formed (x .site) e t (x .there)
+  viewable-well-formed = basis-well-formed (x .basis) e t (x .there)
 
   size-is : l .size ≡ present (sizeOf t)
   unfolding valueOf
-  size-is = ap (λ (y : Layout). y .size) viewable-value
+  size-is = ap (λ (y : Value). y .size) viewable-value
 
   -- ---- a type of fixed size
 
@@ -61,33 +61,33 @@ module _ {f ms : List ℕ} {table : List (List ℕ)} {e : ℕ} {l : Layout} {t :
 
   -- Its tail can be found,
   pub open-findable : isOpen t ≡ true → Findable ms table l
-  open-findable o = rw (x .layout-is) (open-found (x .site) e t (x .there) o .2 .findable)
+  open-findable o = rw (x .layout-is) (open-found (x .basis) e t (x .there) o .2 .findable)
 
   -- and is the type's.
-  pub open-opening : isOpen t ≡ true → {y : declared.Tail} → y ≡ tailFrom ms table l → Opening t y
+  pub open-opening : isOpen t ≡ true → {y : declared.Rest} → y ≡ restFrom ms table l → Opening t y
   open-opening o is =
       record {
         well-formed = viewable-well-formed;
         opens = o;
-        tail-is = rw (is, x .layout-is) (found-opened (x .site) e (open-found (x .site) e t (x .there) o .2) .tail-is);
+        tail-is = rw (is, x .layout-is) (found-opened (x .basis) e (open-found (x .basis) e t (x .there) o .2) .tail-is);
       }
 
-module _ {t : Ty} {y : declared.Tail} (x : Opening t y) where
-  pub stride-above : 0 < y .layout .stride
+module _ {t : Ty} {y : declared.Rest} (x : Opening t y) where
+  pub stride-above : 0 < y .value .stride
   stride-above =
       let z = open-tail t (x .well-formed) (x .opens) in
-      let same : z .0 ≡ record { offset = y .offset; stride = y .layout .stride } = Option·some-injective _ _ (sym (z .1) ∙ x .tail-is) in
+      let same : z .0 ≡ record { offset = y .offset; stride = y .value .stride } = Option·some-injective _ _ (sym (z .1) ∙ x .tail-is) in
       rw same at (z .2)
 
   module _ (b : List ℕ) where
-    pub open-short : elementsFound (length b) (y .offset) (y .layout .stride) ≡ found.No → heldOf t b ≡ No
+    pub open-short : elementsFound (length b) (y .offset) (y .value .stride) ≡ found.No → heldOf t b ≡ No
     unfolding heldOf
-    open-short h = rw (found-short t (x .opens) (y .offset) (y .layout .stride) (x .tail-is) b h) refl
+    open-short h = rw (found-short t (x .opens) (y .offset) (y .value .stride) (x .tail-is) b h) refl
 
-    pub open-there : {n : ℕ} → elementsFound (length b) (y .offset) (y .layout .stride) ≡ found.Is n → heldOf t b ≡ Is n (y .offset + n * y .layout .stride)
+    pub open-there : {n : ℕ} → elementsFound (length b) (y .offset) (y .value .stride) ≡ found.Is n → heldOf t b ≡ Is n (y .offset + n * y .value .stride)
     unfolding heldOf extentOf extentBy
     open-there h =
-        let z = found-there t (x .opens) (y .offset) (y .layout .stride) (x .tail-is) b h in
+        let z = found-there t (x .opens) (y .offset) (y .value .stride) (x .tail-is) b h in
         rw (z .0, z .1, x .tail-is) refl
 
 -- ---- the target

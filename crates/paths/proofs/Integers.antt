@@ -10,41 +10,36 @@ use mathlib.Core.Logic.{_⊎_, inl, inr, ⊎-elim}
 use native.Mathlib.Omega.{arith}
 use lib.ListN.{length}
 use Rattle.wgsl.specs.Number.{load, store}
-use Rattle.wgsl.specs.Types.{Scalar, bool, i32, u32, f32, f16, abstractInt, abstractFloat}
+use Rattle.wgsl.specs.Types.{Scalar, bool, i32, u32, f32, f16, abstractInt, abstractFloat, scalarKind}
 use Rattle.wgsl.specs.Said.{Said, good, refused, _>>=_, _>>_, refuse, orRefuse}
-use Rattle.wgsl.specs.Rank.{kindOf}
 use Rattle.wgsl.specs.Place.{Shape, one, parts, field, whole, spanOf, wordPlaces, storeWords}
 use Rattle.wgsl.specs.Path as path
-use Rattle.wgsl.specs.Call.{storedEntry, scalarAt}
+use Rattle.wgsl.specs.Call.{scalarAt, targetCall}
 use Rattle.wgsl.specs.BitField.{extractedU32, extractedI32, inserted}
-use Rattle.wgsl.specs.BitFieldCall.{isInteger, isSigned, Found, integerAt, wordOf, extractedAs, extractCall, insertCall}
+use Rattle.wgsl.specs.BitFieldCall.{isInteger, isSigned, FoundInteger, integerAt, wordOf, extractedAs, extractCall, insertCall, integerOf}
 use Rattle.wgsl.proofs.Absent.{true-not-false}
-use Rattle.wgsl.proofs.Said.{good-not-refused, then-good, then-cases, then-is, then-refused}
+use Rattle.wgsl.proofs.Said.{good-not-refused, then-is, then-refused}
 use Rattle.said.specs.declared.target.Target.{Target}
-use Rattle.said.specs.Target.{scalarIn, targetIs}
-use Rattle.paths.specs.Locate.{targetCall}
-use Rattle.paths.specs.Field.{integerOf, foundIs, foundIn, Integer}
+use Rattle.said.specs.Target.{kindIn, targetIs}
+use Rattle.paths.specs.Field.{foundIs, foundIn, Integer}
 use Rattle.wgsl.proofs.BitFieldCall.{integer-width, integer-room}
 
 -- ---- once the target is found
 
 module _ (f : List ℕ) (e : ℕ) (steps b : List ℕ) where
   pub integer-refused : {number place : ℕ} → targetCall true f e steps b ≡ refused number place → integerAt f e steps b ≡ refused number place
-  unfolding targetCall integerAt
-  integer-refused h =
-      then-cases (storedEntry f e b) _ h (λ q. then-refused _ q) (λ s. then-is _ (s .first) ∙ then-refused _ (s .after))
+  unfolding integerAt
+  integer-refused h = then-refused _ h
 
   pub integer-found : {u : path.Target} → targetCall true f e steps b ≡ good u → integerAt f e steps b ≡ integerOf u
-  unfolding targetCall integerAt integerOf
-  integer-found h =
-      let s = then-good (storedEntry f e b) _ h in
-      then-is _ (s .first) ∙ then-is _ (s .after)
+  unfolding integerAt
+  integer-found h = then-is _ h
 
 -- ---- 14, or one of the two
 
 -- The kind of i32 is no other scalar's.
-pub kind-one : (s : Scalar) → kindOf s ≡ 1 → s ≡ i32
-unfolding kindOf
+pub kind-one : (s : Scalar) → scalarKind s ≡ 1 → s ≡ i32
+unfolding scalarKind
 kind-one bool e = absurd (omega arith)
 kind-one i32 e = refl
 kind-one u32 e = absurd (omega arith)
@@ -54,8 +49,8 @@ kind-one abstractInt e = absurd (omega arith)
 kind-one abstractFloat e = absurd (omega arith)
 
 -- The kinds of i32 and u32 are those of integers.
-kinds-integer : (s : Scalar) → (kindOf s ≡ 1) ⊎ (kindOf s ≡ 2) → isInteger s ≡ true
-unfolding kindOf isInteger
+kinds-integer : (s : Scalar) → (scalarKind s ≡ 1) ⊎ (scalarKind s ≡ 2) → isInteger s ≡ true
+unfolding scalarKind isInteger
 kinds-integer bool (inl e) = absurd (omega arith)
 kinds-integer bool (inr e) = absurd (omega arith)
 kinds-integer i32 k = refl
@@ -69,8 +64,8 @@ kinds-integer abstractInt (inr e) = absurd (omega arith)
 kinds-integer abstractFloat (inl e) = absurd (omega arith)
 kinds-integer abstractFloat (inr e) = absurd (omega arith)
 
-no-integer : (s : Scalar) → (kindOf s ≡ 1 → ⊥) → (kindOf s ≡ 2 → ⊥) → isInteger s ≡ false
-unfolding kindOf isInteger
+no-integer : (s : Scalar) → (scalarKind s ≡ 1 → ⊥) → (scalarKind s ≡ 2 → ⊥) → isInteger s ≡ false
+unfolding scalarKind isInteger
 no-integer bool h k = refl
 no-integer i32 h k = absurd (h refl)
 no-integer u32 h k = absurd (k refl)
@@ -80,8 +75,8 @@ no-integer abstractInt h k = refl
 no-integer abstractFloat h k = refl
 
 -- An i32 or u32 has one of the two kinds.
-pub integer-kinds : (s : Scalar) → isInteger s ≡ true → (kindOf s ≡ 1 → ⊥) → s ≡ u32
-unfolding isInteger kindOf
+pub integer-kinds : (s : Scalar) → isInteger s ≡ true → (scalarKind s ≡ 1 → ⊥) → s ≡ u32
+unfolding isInteger scalarKind
 integer-kinds bool e h = true-not-false e refl
 integer-kinds i32 e h = absurd (h refl)
 integer-kinds u32 e h = refl
@@ -93,24 +88,24 @@ integer-kinds abstractFloat e h = true-not-false e refl
 -- A target whose kind is 1 or 2 is an i32 or a u32, and any other is refused.
 module _ (u : path.Target) where
   scalar-found : (s : Scalar) → u .shape ≡ one s → isInteger s ≡ true → good (targetIs u) ≡ foundIn (integerOf u)
-  unfolding integerOf scalarAt orRefuse _>>=_ _>>_ refuse scalarIn spanOf
+  unfolding integerOf scalarAt orRefuse _>>=_ _>>_ refuse kindIn spanOf
   scalar-found s is e = rw (is, e) refl
 
-  pub found-integer : (scalarIn (u .shape) ≡ 1) ⊎ (scalarIn (u .shape) ≡ 2) → good (targetIs u) ≡ foundIn (integerOf u)
-  unfolding scalarIn
+  pub found-integer : (kindIn (u .shape) ≡ 1) ⊎ (kindIn (u .shape) ≡ 2) → good (targetIs u) ≡ foundIn (integerOf u)
+  unfolding kindIn
   found-integer h = go (u .shape) refl h
     where
-      go : (x : Shape) → u .shape ≡ x → (scalarIn x ≡ 1) ⊎ (scalarIn x ≡ 2) → good (targetIs u) ≡ foundIn (integerOf u)
+      go : (x : Shape) → u .shape ≡ x → (kindIn x ≡ 1) ⊎ (kindIn x ≡ 2) → good (targetIs u) ≡ foundIn (integerOf u)
       go (one s) is k = scalar-found s is (kinds-integer s k)
       go (parts n stride x) is k = absurd (⊎-elim (λ e. omega arith) (λ e. omega arith) k)
       go (field offset x rest) is k = absurd (⊎-elim (λ e. omega arith) (λ e. omega arith) k)
       go (whole z) is k = absurd (⊎-elim (λ e. omega arith) (λ e. omega arith) k)
 
-  pub found-none : (scalarIn (u .shape) ≡ 1 → ⊥) → (scalarIn (u .shape) ≡ 2 → ⊥) → integerOf u ≡ refused 14 0
-  unfolding scalarIn integerOf scalarAt orRefuse _>>=_ _>>_ refuse
+  pub found-none : (kindIn (u .shape) ≡ 1 → ⊥) → (kindIn (u .shape) ≡ 2 → ⊥) → integerOf u ≡ refused 14 0
+  unfolding kindIn integerOf scalarAt orRefuse _>>=_ _>>_ refuse
   found-none h k = go (u .shape) refl h k
     where
-      go : (x : Shape) → u .shape ≡ x → (scalarIn x ≡ 1 → ⊥) → (scalarIn x ≡ 2 → ⊥) → integerOf u ≡ refused 14 0
+      go : (x : Shape) → u .shape ≡ x → (kindIn x ≡ 1 → ⊥) → (kindIn x ≡ 2 → ⊥) → integerOf u ≡ refused 14 0
       go (one s) is a b = rw (is, no-integer s a b)
       go (parts n stride x) is a b = rw is
       go (field offset x rest) is a b = rw is
@@ -119,27 +114,27 @@ module _ (u : path.Target) where
 -- ---- it lies inside the buffer
 
 -- What is found is an i32 or a u32 inside the buffer.
-pub integer-inside : (f : List ℕ) (e : ℕ) (steps b : List ℕ) (x : Found) → integerAt f e steps b ≡ good x → Integer (foundIs x) x (length b)
+pub integer-inside : (f : List ℕ) (e : ℕ) (steps b : List ℕ) (x : FoundInteger) → integerAt f e steps b ≡ good x → Integer (foundIs x) x (length b)
 integer-inside f e steps b x h =
     let (integer, inside, within) = integer-room f e steps b x h in
     record { is = refl; integer = integer; inside = inside; within = within }
 
 -- What the code has of an answer is there.
-pub found-good : {t : Target} (said : Said Found) → good t ≡ foundIn said → (x : Found) × (said ≡ good x) × (t ≡ foundIs x)
+pub found-good : {t : Target} (said : Said FoundInteger) → good t ≡ foundIn said → (x : FoundInteger) × (said ≡ good x) × (t ≡ foundIs x)
 found-good (good x) e = (x, refl, cc)
 found-good (refused number place) e = good-not-refused refl e
 
-pub found-refused : {number place : ℕ} (said : Said Found) → refused number place ≡ foundIn said → said ≡ refused number place
+pub found-refused : {number place : ℕ} (said : Said FoundInteger) → refused number place ≡ foundIn said → said ≡ refused number place
 found-refused (good x) e = good-not-refused e refl
 found-refused (refused number place) e = cc
 
 -- ---- its field
 
-module _ {t : Target} {x : Found} {bytes : ℕ} (i : Integer t x bytes) where
+module _ {t : Target} {x : FoundInteger} {bytes : ℕ} (i : Integer t x bytes) where
   pub at-offset : t .offset ≡ x .offset
   at-offset = ap (λ (u : Target). u .offset) (i .is)
 
-  kind-is : t .scalar ≡ kindOf (x .scalar)
+  kind-is : t .scalar ≡ scalarKind (x .scalar)
   kind-is = ap (λ (u : Target). u .scalar) (i .is)
 
   pub word-at : (b : List ℕ) → wordOf x b ≡ load 4 b (t .offset)
@@ -164,7 +159,7 @@ module _ {t : Target} {x : Found} {bytes : ℕ} (i : Integer t x bytes) where
 
 module _ (f : List ℕ) (e : ℕ) (steps b : List ℕ) where
   -- what the code has of the scalar, from its answer
-  pub integer-there : {t : Target} → good t ≡ foundIn (integerAt f e steps b) → (x : Found) × (integerAt f e steps b ≡ good x) × Integer t x (length b)
+  pub integer-there : {t : Target} → good t ≡ foundIn (integerAt f e steps b) → (x : FoundInteger) × (integerAt f e steps b ≡ good x) × Integer t x (length b)
   integer-there h =
       let (x, is, same) = found-good (integerAt f e steps b) h in
       let i = integer-inside f e steps b x is in
@@ -175,7 +170,7 @@ module _ (f : List ℕ) (e : ℕ) (steps b : List ℕ) where
     unfolding extractCall
     extract-refused h = then-refused _ (found-refused (integerAt f e steps b) h)
 
-    pub extract-found : {x : Found} → integerAt f e steps b ≡ good x → extractCall f e steps b offset count ≡ good (extractedAs (x .scalar) (wordOf x b) offset count)
+    pub extract-found : {x : FoundInteger} → integerAt f e steps b ≡ good x → extractCall f e steps b offset count ≡ good (extractedAs (x .scalar) (wordOf x b) offset count)
     unfolding extractCall
     extract-found h = then-is _ h
 
@@ -183,6 +178,6 @@ module _ (f : List ℕ) (e : ℕ) (steps b : List ℕ) where
     unfolding insertCall
     insert-refused new h = then-refused _ (found-refused (integerAt f e steps b) h)
 
-    pub insert-found : {x : Found} (new : ℕ) → integerAt f e steps b ≡ good x → insertCall f e steps new offset count b ≡ good (record { value = x .offset; contents = storeWords (wordPlaces (x .scalar) (x .offset)) (inserted (wordOf x b) new offset count ∷ []) b })
+    pub insert-found : {x : FoundInteger} (new : ℕ) → integerAt f e steps b ≡ good x → insertCall f e steps new offset count b ≡ good (record { value = x .offset; contents = storeWords (wordPlaces (x .scalar) (x .offset)) (inserted (wordOf x b) new offset count ∷ []) b })
     unfolding insertCall
     insert-found new h = then-is _ h

@@ -10,8 +10,7 @@ use lib.Seq.{length-take-le}
 use Rattle.wgsl.specs.Said.{Said, good, refused}
 use Rattle.wgsl.specs.Place.{spanOf}
 use Rattle.wgsl.specs.Path as path
-use Rattle.wgsl.specs.Call.{viewCall, partOf}
-use Rattle.paths.specs.Locate.{targetCall}
+use Rattle.wgsl.specs.Call.{viewCall, partOf, targetCall}
 use Rattle.paths.proofs.Rooms.{target-room}
 
 -- the bytes of the target; none where refused

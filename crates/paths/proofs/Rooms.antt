@@ -14,16 +14,14 @@ use Rattle.wgsl.specs.Said.{Said, good, refused}
 use Rattle.wgsl.specs.Place.{elementsIn, shapeOf, spanOf}
 use Rattle.wgsl.specs.Path as steps
 use Rattle.wgsl.specs.Path.{stepOf}
-use Rattle.wgsl.specs.Call.{targetIn, viewCall, partOf, partStart}
+use Rattle.wgsl.specs.Call.{targetIn, viewCall, partOf, partStart, targetCall, entryFor}
 use Rattle.wgsl.proofs.Said.{good-not-refused, then-good, refuse-good}
 use Rattle.wgsl.proofs.Path.{target-inside}
-use Rattle.wgsl.proofs.Call.{entry-sound, short-no}
+use Rattle.wgsl.proofs.Call.{laid-good, entry-sound, short-no}
 use Rattle.said.specs.declared.target.Target.{Target}
 use Rattle.said.specs.Target.{targetIs, reached}
-use Rattle.paths.specs.Locate.{targetCall}
 use Rattle.paths.specs.Set.{Roomy}
 use Rattle.paths.specs.View.{PartIs}
-use Rattle.paths.proofs.Permits.{entryAs, entry-laid-out}
 
 -- ---- what the code has
 
@@ -42,9 +40,9 @@ module _ (stored : Bool) (f : List ℕ) (e : ℕ) (path b : List ℕ) where
   pub target-room : {t : Target} {u : steps.Target} → t ≡ targetIs u → targetCall stored f e path b ≡ good u → Roomy t u (length b)
   unfolding targetCall targetIn withinLimit
   target-room {u = u} is h =
-      let s = then-good (entryAs stored f e b) _ h in
+      let s = then-good (entryFor stored f e b) _ h in
       let t = s .value in
-      let laid = entry-laid-out stored (s .first) in
+      let laid = laid-good stored (s .first) in
       let short = refuse-good 15 0 _ _ (s .after) in
       let n = elementsIn (length b) t in
       let x = entry-sound f e t (laid .entry) (laid .layout) n in

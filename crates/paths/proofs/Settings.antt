@@ -15,49 +15,45 @@ use Rattle.wgsl.specs.Size.{present, widthOf}
 use Rattle.wgsl.specs.Said.{good, refused, _>>=_, _>>_, refuse, orRefuse}
 use Rattle.wgsl.specs.Place.{Shape, one, parts, field, whole, spanOf, wordPlaces, storeWords, canHold, checkWords}
 use Rattle.wgsl.specs.Path as path
-use Rattle.wgsl.specs.Call.{storedEntry, scalarAt, setCall}
-use Rattle.wgsl.proofs.Shape.{Sound}
-use Rattle.wgsl.proofs.Said.{then-good, then-cases, then-is, then-refused}
+use Rattle.wgsl.specs.Call.{scalarAt, setCall, setScalar, setTarget, targetCall}
+use Rattle.wgsl.specs.Shapes.{Sound}
+use Rattle.wgsl.proofs.Said.{then-is, then-refused}
 use Rattle.layout_values.proofs.Scalar.{kind-bounded}
-use Rattle.said.specs.Target.{scalarIn}
+use Rattle.said.specs.Target.{kindIn}
 use Rattle.said.specs.declared.target.Target.{Target}
-use Rattle.paths.specs.Locate.{targetCall}
-use Rattle.paths.specs.Set.{storedAs, setAs, Narrow, Roomy}
+use Rattle.paths.specs.Set.{Narrow, Roomy}
 
 -- ---- once the target is found
 
 module _ (f : List ℕ) (e : ℕ) (steps : List ℕ) (w : ℕ) (b : List ℕ) where
   pub set-refused : {number place : ℕ} → targetCall true f e steps b ≡ refused number place → setCall f e steps w b ≡ refused number place
-  unfolding targetCall setCall
-  set-refused h =
-      then-cases (storedEntry f e b) _ h (λ q. then-refused _ q) (λ s. then-is _ (s .first) ∙ then-refused _ (s .after))
+  unfolding setCall
+  set-refused h = then-refused _ h
 
-  pub set-found : {u : path.Target} → targetCall true f e steps b ≡ good u → setCall f e steps w b ≡ setAs u w b
-  unfolding targetCall setCall setAs storedAs
-  set-found h =
-      let s = then-good (storedEntry f e b) _ h in
-      then-is _ (s .first) ∙ then-is _ (s .after)
+  pub set-found : {u : path.Target} → targetCall true f e steps b ≡ good u → setCall f e steps w b ≡ setTarget u w b
+  unfolding setCall
+  set-found h = then-is _ h
 
 -- ---- 14, or one scalar
 
 -- A kind above 6 is no scalar's, and any other is.
-no-scalar : (x : Shape) → 6 < scalarIn x → scalarAt x ≡ none
-unfolding scalarIn scalarAt
+no-scalar : (x : Shape) → 6 < kindIn x → scalarAt x ≡ none
+unfolding kindIn scalarAt
 no-scalar (one s) h = absurd (omega (arith, kind-bounded s))
 no-scalar (parts n stride x) h = refl
 no-scalar (field offset x rest) h = refl
 no-scalar (whole z) h = refl
 
 -- What is said to be one scalar is one.
-pub scalar-shape : (x : Shape) → scalarIn x ≤ 6 → (s : Scalar) × (x ≡ one s)
-unfolding scalarIn
+pub scalar-shape : (x : Shape) → kindIn x ≤ 6 → (s : Scalar) × (x ≡ one s)
+unfolding kindIn
 scalar-shape (one s) h = (s, refl)
 scalar-shape (parts n stride x) h = absurd (omega arith)
 scalar-shape (field offset x rest) h = absurd (omega arith)
 scalar-shape (whole z) h = absurd (omega arith)
 
-pub set-none : {t : Target} {u : path.Target} {bytes : ℕ} → Roomy t u bytes → (w : ℕ) (b : List ℕ) → 6 < t .scalar → setAs u w b ≡ refused 14 0
-unfolding setAs orRefuse _>>=_
+pub set-none : {t : Target} {u : path.Target} {bytes : ℕ} → Roomy t u bytes → (w : ℕ) (b : List ℕ) → 6 < t .scalar → setTarget u w b ≡ refused 14 0
+unfolding setTarget orRefuse _>>=_
 set-none {u = u} x w b h = rw (no-scalar (u .shape) (rw (x .is) at h)) refl
 
 -- the one scalar that a target is
@@ -80,8 +76,8 @@ one-scalar {u = u} x h =
       above = rw (y .1) at (x .sound);
     }
 
-pub set-one : {t : Target} {u : path.Target} (x : OneScalar t u) (w : ℕ) (b : List ℕ) → setAs u w b ≡ storedAs (x .scalar) (t .offset) w b
-unfolding setAs scalarAt orRefuse _>>=_
+pub set-one : {t : Target} {u : path.Target} (x : OneScalar t u) (w : ℕ) (b : List ℕ) → setTarget u w b ≡ setScalar (x .scalar) (t .offset) w b
+unfolding setTarget scalarAt orRefuse _>>=_
 set-one x w b = rw (x .shape-is, x .offset-is) refl
 
 -- ---- a scalar's width
@@ -114,17 +110,17 @@ wide x h =
 -- ---- 16, and the word stored
 
 module _ (s : Scalar) (at w : ℕ) (b : List ℕ) where
-  pub stored-large : Narrow s → 65535 < w → storedAs s at w b ≡ refused 16 0
-  unfolding storedAs wordPlaces checkWords canHold present _>>_ refuse
+  pub stored-large : Narrow s → 65535 < w → setScalar s at w b ≡ refused 16 0
+  unfolding setScalar wordPlaces checkWords canHold present _>>_ refuse
   stored-large x h = rw (x .width-is, le-ltb w 65536 (omega arith)) refl
 
-  stored-fits : {k : ℕ} → widthOf s ≡ some k → w < 256 ^ k → storedAs s at w b ≡ good (record { value = at; contents = store k b at w })
-  unfolding storedAs wordPlaces checkWords storeWords canHold present _>>_ refuse
+  stored-fits : {k : ℕ} → widthOf s ≡ some k → w < 256 ^ k → setScalar s at w b ≡ good (record { value = at; contents = store k b at w })
+  unfolding setScalar wordPlaces checkWords storeWords canHold present _>>_ refuse
   stored-fits {k} e h = rw (e, lt-ltb w (256 ^ k) h) refl
 
-  pub stored-narrow : Narrow s → w ≤ 65535 → storedAs s at w b ≡ good (record { value = at; contents = store 2 b at w })
+  pub stored-narrow : Narrow s → w ≤ 65535 → setScalar s at w b ≡ good (record { value = at; contents = store 2 b at w })
   stored-narrow x h = stored-fits (x .width-is) (omega arith)
 
 -- A scalar of four bytes takes any word.
-pub set-four : {t : Target} {u : path.Target} (x : OneScalar t u) (w : ℕ) (b : List ℕ) → (t .size ≡ 2 → ⊥) → w < 4294967296 → setAs u w b ≡ good (record { value = t .offset; contents = store 4 b (t .offset) w })
+pub set-four : {t : Target} {u : path.Target} (x : OneScalar t u) (w : ℕ) (b : List ℕ) → (t .size ≡ 2 → ⊥) → w < 4294967296 → setTarget u w b ≡ good (record { value = t .offset; contents = store 4 b (t .offset) w })
 set-four {t} x w b h fits = set-one x w b ∙ stored-fits (x .scalar) (t .offset) w b (wide x h .0) (omega arith)

@@ -11,16 +11,16 @@ use Rattle.wgsl.specs.Said.{good, _>>=_, orRefuse}
 use Rattle.wgsl.specs.Place.{shapeOf, spanOf}
 use Rattle.wgsl.specs.Call.{entryOf}
 use Rattle.wgsl.proofs.Call.{entry-sound}
-use Rattle.layout_values.specs.declared.value.Layout.{Layout}
-use Rattle.walk_path.specs.declared.enter.Place.the-variants.{Entry}
+use Rattle.layout_values.specs.declared.value.Value.{Value}
+use Rattle.walk_path.specs.declared.enter.Stand.the-variants.{Entry}
 use Rattle.walk_path.specs.Way.{at-entry, Standing}
 use Rattle.paths.specs.Locate.{Viewable}
 use Rattle.paths.proofs.Holds.{There}
 
-module _ {f ms : List ℕ} {table : List (List ℕ)} {e : ℕ} {l : Layout} {t : Ty} (x : Viewable f ms table e l t) where
+module _ {f ms : List ℕ} {table : List (List ℕ)} {e : ℕ} {l : Value} {t : Ty} (x : Viewable f ms table e l t) where
   entry-is : entryOf f e ≡ good t
   unfolding entryOf _>>=_ orRefuse
-  entry-is = rw (x .site .good-file, x .there) refl
+  entry-is = rw (x .basis .good-file, x .there) refl
 
   -- where it begins in a buffer that holds n elements of it
   pub record Begins (n size : ℕ) : Type 0 where
@@ -34,7 +34,7 @@ module _ {f ms : List ℕ} {table : List (List ℕ)} {e : ℕ} {l : Layout} {t :
       let span = entry-sound f e t entry-is (x .has-layout) n .1 in
       record {
         standing = record {
-          site = x .site;
+          basis = x .basis;
           stands = at-entry {e = e} (x .there) (x .has-layout);
           within = omega (arith, span, y .inside);
         };

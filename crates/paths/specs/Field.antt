@@ -1,34 +1,27 @@
--- A bit field's scalar once its target is found: the rest of crates/wgsl's `integerAt` (specs/BitFieldCall), and what the code has of it.
+-- A bit field's scalar (crates/wgsl, specs/BitFieldCall) as the code has it.
 -- Definitions only. Assumes nothing.
 use Prim.Native.Nat.{ℕ, _+_, _≤_}
 use mathlib.Core.Bool.{true, not}
 use mathlib.Core.Path.{_≡_}
+use Rattle.wgsl.specs.Types.{scalarKind}
 use Rattle.wgsl.specs.Round.{limit}
 use Rattle.wgsl.specs.Size.{present, widthOf}
 use Rattle.wgsl.specs.Said.{Said, good, refused, _>>=_, _>>_, refuse, orRefuse}
-use Rattle.wgsl.specs.Rank.{kindOf}
 use Rattle.wgsl.specs.Path as path
 use Rattle.wgsl.specs.Call.{scalarAt}
-use Rattle.wgsl.specs.BitFieldCall.{isInteger, Found}
+use Rattle.wgsl.specs.BitFieldCall.{isInteger, FoundInteger}
 use Rattle.said.specs.declared.target.Target.{Target}
 
--- 14
-unfoldable pub integerOf : path.Target → Said Found
-integerOf u = do
-  s ← orRefuse 14 0 (scalarAt (u .shape))
-  refuse 14 0 (not (isInteger s))
-  good (record { offset = u .offset; scalar = s })
-
 -- the scalar as the code has it
-abbrev pub foundIs : Found → Target
-foundIs x = record { offset = x .offset; size = present (widthOf (x .scalar)); scalar = kindOf (x .scalar) }
+abbrev pub foundIs : FoundInteger → Target
+foundIs x = record { offset = x .offset; size = present (widthOf (x .scalar)); scalar = scalarKind (x .scalar) }
 
-abbrev pub foundIn : Said Found → Said Target
+abbrev pub foundIn : Said FoundInteger → Said Target
 foundIn (good x) = good (foundIs x)
 foundIn (refused number place) = refused number place
 
 -- the i32 or u32 x as the code has it, inside a buffer of so many bytes
-pub record Integer (t : Target) (x : Found) (bytes : ℕ) : Type 0 where
+pub record Integer (t : Target) (x : FoundInteger) (bytes : ℕ) : Type 0 where
   pub is : t ≡ foundIs x
   pub integer : isInteger (x .scalar) ≡ true
   pub inside : x .offset + 4 ≤ bytes

@@ -1,4 +1,4 @@
--- A set once its target is found: the rest of crates/wgsl's `setCall` (specs/Call).
+-- What a set asks once its target is found (its steps are crates/wgsl's `setTarget`, specs/Call).
 -- Definitions only. Assumes nothing.
 use Prim.Native.Nat.{ℕ, _+_, _≤_}
 use mathlib.Core.Path.{_≡_}
@@ -11,21 +11,9 @@ use Rattle.wgsl.specs.Said.{Said, good, _>>=_, _>>_, orRefuse}
 use Rattle.wgsl.specs.Place.{spanOf, wordPlaces, storeWords, checkWords}
 use Rattle.wgsl.specs.Path as path
 use Rattle.wgsl.specs.Call.{Done, scalarAt}
-use Rattle.wgsl.proofs.Shape.{Sound}
+use Rattle.wgsl.specs.Shapes.{Sound}
 use Rattle.said.specs.declared.target.Target.{Target}
 use Rattle.said.specs.Target.{targetIs}
-
--- 16, and the word stored in a scalar
-unfoldable pub storedAs : Scalar → ℕ → ℕ → List ℕ → Said Done
-storedAs s at w b = do
-  checkWords 0 (wordPlaces s at) (w ∷ [])
-  good (record { value = at; contents = storeWords (wordPlaces s at) (w ∷ []) b })
-
--- 14 first
-unfoldable pub setAs : path.Target → ℕ → List ℕ → Said Done
-setAs u w b = do
-  s ← orRefuse 14 0 (scalarAt (u .shape))
-  storedAs s (u .offset) w b
 
 -- a scalar of two bytes
 pub record Narrow (s : Scalar) : Type 0 where

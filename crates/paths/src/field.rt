@@ -17,11 +17,11 @@ ghost use Rattle.wgsl.specs.Place.{wordPlaces, storeWords};
 ghost use Rattle.wgsl.specs.Path as path;
 ghost use Rattle.wgsl.specs.Call.{answerOf, contentsOf};
 ghost use Rattle.wgsl.specs.BitField.{inserted};
-ghost use Rattle.wgsl.specs.BitFieldCall.{Found, integerAt, wordOf, extractedAs, extractCall, insertCall};
+ghost use Rattle.wgsl.specs.BitFieldCall.{FoundInteger, integerAt, wordOf, extractedAs, extractCall, insertCall, integerOf};
 ghost use Rattle.said.specs.Answer.{saidNumber};
 ghost use Rattle.said.specs.declared.answer.Number.the-variants.{Is};
 ghost use Rattle.said.specs.Target.{saidWalked, targetIs};
-ghost use Rattle.paths.specs.Field.{integerOf, foundIn, Integer};
+ghost use Rattle.paths.specs.Field.{foundIn, Integer};
 
 // 14, but for an i32 (kind 1) or a u32 (kind 2).
 fn integer_of(t: Target) -> Walked
@@ -48,8 +48,8 @@ fn integer_at(file: &[u8], entry: u32, path: &[u32], bytes: usize) -> Walked
 
 // The field of the scalar `t`, as a word.
 fn field_of(t: Target, offset: u32, count: u32, buf: &[u8]) -> u32
-    requires { ⌜ ((x : Found) × Integer t x (length (now buf))) ⌝ }
-    ensures { λ r. ⌜ ((x : Found) → Integer t x (length (now (buf .entry))) → r ≡ extractedAs (x .scalar) (wordOf x (now (buf .entry))) offset count) ⌝ }
+    requires { ⌜ ((x : FoundInteger) × Integer t x (length (now buf))) ⌝ }
+    ensures { λ r. ⌜ ((x : FoundInteger) → Integer t x (length (now (buf .entry))) → r ≡ extractedAs (x .scalar) (wordOf x (now (buf .entry))) offset count) ⌝ }
 {
     let at = t.offset;
     let word = u32_at(buf, at);
@@ -61,9 +61,9 @@ fn field_of(t: Target, offset: u32, count: u32, buf: &[u8]) -> u32
 
 // Puts `newbits` into the field of the scalar `t`.
 fn put_field(t: Target, newbits: u32, offset: u32, count: u32, buf: &mut [u8]) -> Number
-    requires { ⌜ ((x : Found) × Integer t x (length (now buf))) ⌝ }
+    requires { ⌜ ((x : FoundInteger) × Integer t x (length (now buf))) ⌝ }
     ensures answer { λ r. ⌜ r ≡ Is (t .offset) ⌝ }
-    ensures buffer { λ _. ⌜ ((x : Found) → Integer t x (length (now (buf .entry))) → now (buf .exit) ≡ storeWords (wordPlaces (x .scalar) (x .offset)) (inserted (wordOf x (now (buf .entry))) newbits offset count ∷ []) (now (buf .entry))) ⌝ }
+    ensures buffer { λ _. ⌜ ((x : FoundInteger) → Integer t x (length (now (buf .entry))) → now (buf .exit) ≡ storeWords (wordPlaces (x .scalar) (x .offset)) (inserted (wordOf x (now (buf .entry))) newbits offset count ∷ []) (now (buf .entry))) ⌝ }
 {
     let at = t.offset;
     let word = u32_at(buf, at);

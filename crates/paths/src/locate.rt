@@ -4,7 +4,7 @@ use file::trailer::check_trailer;
 use layout_table::Ground;
 use layout_table::Grounded;
 use layout_table::find;
-use layout_values::value::Layout;
+use layout_values::value::Row;
 use layout_values::value::Value;
 use layout_values::value::blank;
 use layout_values::value::opens;
@@ -12,43 +12,23 @@ use numbers::wide::wide;
 use said::refusal::Refusal;
 use said::target::Walked;
 use walk_decide::Allowed;
-use walk_decide::Found;
-use walk_decide::Tail;
+use walk_decide::Fits;
+use walk_decide::Rest;
 use walk_decide::allow;
 use walk_decide::elements_in;
-use walk_decide::tail_of;
-use walk_path::enter::Place;
+use walk_decide::rest_of;
+use walk_path::enter::Stand;
 use walk_path::walk::walk;
 ghost use mathlib.Core.Path.{_≡_};
-ghost use mathlib.Core.Bool.{true};
 ghost use mathlib.Core.List.{List};
 ghost use Prim.Native.Nat.{ℕ, _≤_};
 ghost use lib.ListN.{length};
 ghost use Rattle.wgsl.specs.Round.{limit};
-ghost use Rattle.wgsl.specs.Types.{Ty, everywhere};
-ghost use Rattle.wgsl.specs.Rule.{isWellFormed};
-ghost use Rattle.wgsl.specs.Call.{targetIn};
-ghost use Rattle.layout_values.specs.Value.{valueOf};
-ghost use Rattle.walk_decide.specs.Decide.{saidAllowed};
-ghost use Rattle.walk_decide.specs.Entry.{Entry};
+ghost use Rattle.wgsl.specs.Types.{Ty};
+ghost use Rattle.wgsl.specs.Call.{targetIn, targetCall};
+ghost use Rattle.walk_decide.specs.Meant.{Meant};
 ghost use Rattle.said.specs.Target.{saidWalked, reached};
-ghost use Rattle.paths.specs.Locate.{allowedAs, heldOf, Viewable, Opening, targetCall};
-
-// 17 and 9; 10 too, for an entry that is to be stored.
-fn permit(l: Layout, bytes: usize, stored: bool) -> Allowed
-    ensures { λ r. ⌜ ((t : Ty) → l ≡ valueOf (l .reference) t → everywhere isWellFormed t ≡ true → saidAllowed r ≡ allowedAs stored t bytes) ⌝ }
-{
-    if stored {
-        return allow(l, bytes);
-    }
-    if 4294967295 < bytes {
-        return Allowed::Refused(Refusal::Long);
-    }
-    if l.align == 0 {
-        return Allowed::Refused(Refusal::Absent);
-    }
-    Allowed::Yes
-}
+ghost use Rattle.paths.specs.Locate.{heldOf, Viewable, Opening};
 
 // What a buffer holds of an entry: the elements of its runtime array, if it has one, and where it ends.
 pub enum Held {
@@ -57,23 +37,23 @@ pub enum Held {
 }
 
 // 15 for an open type with the tail `x`: a buffer with no whole element.
-fn held_open(x: Tail, bytes: usize) -> Held
+fn held_open(x: Rest, bytes: usize) -> Held
     requires { ⌜ ((t : Ty) × Opening t x × (bytes ≤ limit)) ⌝ }
     ensures { λ r. ⌜ ((t : Ty) (b : List ℕ) → Opening t x → length b ≡ bytes → r ≡ heldOf t b) ⌝ }
 {
-    match elements_in(bytes, x.offset, x.layout.stride) {
-        Found::No => Held::No,
-        Found::Is(n) => Held::Is(n, x.offset + n * wide(x.layout.stride)),
+    match elements_in(bytes, x.offset, x.value.stride) {
+        Fits::No => Held::No,
+        Fits::Is(n) => Held::Is(n, x.offset + n * wide(x.value.stride)),
     }
 }
 
 // 15: for an entry of the layout `l` and a buffer of so many bytes.
-fn held_of(members: &[u8], table: &[Value], l: Layout, bytes: usize) -> Held
+fn held_of(members: &[u8], table: &[Row], l: Value, bytes: usize) -> Held
     requires { ⌜ ((f : List ℕ) × (e : ℕ) × (t : Ty) × Viewable f (now members) (now table) e l t × (bytes ≤ limit)) ⌝ }
     ensures { λ r. ⌜ ((f : List ℕ) (e : ℕ) (t : Ty) (b : List ℕ) → Viewable f (now (members .entry)) (now (table .entry)) e l t → length b ≡ bytes → r ≡ heldOf t b) ⌝ }
 {
     if opens(l) {
-        return held_open(tail_of(members, table, l), bytes);
+        return held_open(rest_of(members, table, l), bytes);
     }
     let size = wide(l.size);
     if bytes < size {
@@ -85,9 +65,9 @@ fn held_of(members: &[u8], table: &[Value], l: Layout, bytes: usize) -> Held
 // What lies under a path: 15, and then the first bad step.
 fn target_in(
     members: &[u8],
-    table: &[Value],
+    table: &[Row],
     e: usize,
-    l: Layout,
+    l: Value,
     path: &[u32],
     bytes: usize,
 ) -> Walked
@@ -96,7 +76,7 @@ fn target_in(
 {
     match held_of(members, table, l, bytes) {
         Held::No => Walked::Refused(Refusal::Buffer),
-        Held::Is(n, size) => walk(members, table, n, Place::Entry(e), size, path, 0, 0),
+        Held::Is(n, size) => walk(members, table, n, Stand::Entry(e), size, path, 0, 0),
     }
 }
 
@@ -105,16 +85,16 @@ fn target_at(
     file: &[u8],
     e: usize,
     g: Ground,
-    table: &[Value],
+    table: &[Row],
     path: &[u32],
     bytes: usize,
     stored: bool,
 ) -> Walked
-    requires { ⌜ ((t : Ty) × Entry (now file) e g (now table) t) ⌝ }
-    ensures { λ r. ⌜ ((t : Ty) (b : List ℕ) → Entry (now (file .entry)) e g (now (table .entry)) t → length b ≡ bytes → saidWalked r ≡ reached (targetCall stored (now (file .entry)) e (now (path .entry)) b)) ⌝ }
+    requires { ⌜ ((t : Ty) × Meant (now file) e g (now table) t) ⌝ }
+    ensures { λ r. ⌜ ((t : Ty) (b : List ℕ) → Meant (now (file .entry)) e g (now (table .entry)) t → length b ≡ bytes → saidWalked r ≡ reached (targetCall stored (now (file .entry)) e (now (path .entry)) b)) ⌝ }
 {
-    let l = g.layout;
-    match permit(l, bytes, stored) {
+    let l = g.value;
+    match allow(l, bytes, stored) {
         Allowed::Refused(r) => Walked::Refused(r),
         Allowed::Yes => {
             let start = g.start;

@@ -18,7 +18,7 @@ use Rattle.runs.specs.Fold.{overPlaces, testing}
 use Rattle.runs.specs.Run.{runPlaces}
 use Rattle.runs.proofs.Folds.{over-append, over-all, over-next, over-none, run-length, run-append}
 use Rattle.runs.specs.declared.Parts.{Parts}
-use Rattle.runs.specs.Ask.{Room}
+use Rattle.runs.specs.Ask.{PartsRoom}
 
 -- ---- what is left of a run
 
@@ -55,7 +55,7 @@ inside : (i count size stride at end : ℕ) → i < count → size ≤ stride �
 inside i count size stride at end h fits room = omega (arith, mul-le-mul-right stride h)
 
 -- Where there is room for all parts, there is room for the i-th.
-pub part-room : {p : Parts} {at bytes k words : ℕ} (i : ℕ) → Room p at bytes k words → i < p .count → (at + i * p .stride + p .unit * p .width ≤ bytes) × (k + i * p .unit + p .unit ≤ words)
+pub part-room : {p : Parts} {at bytes k words : ℕ} (i : ℕ) → PartsRoom p at bytes k words → i < p .count → (at + i * p .stride + p .unit * p .width ≤ bytes) × (k + i * p .unit + p .unit ≤ words)
 part-room {p} {at} {bytes} {k} {words} i room h = (
   inside i (p .count) (p .unit * p .width) (p .stride) at bytes h (room .fits) (room .bytes-there),
   inside i (p .count) (p .unit) (p .unit) k words h (omega arith) (room .words-there),

@@ -9,7 +9,7 @@ use Rattle.runs.specs.declared.Scan.{Scan}
 use Rattle.runs.specs.declared.Scan.the-variants.{Fine, Bad}
 
 -- parts from byte `at` and word `k` on lie inside so many bytes and words
-pub record Room (p : Parts) (at bytes k words : ℕ) : Type 0 where
+pub record PartsRoom (p : Parts) (at bytes k words : ℕ) : Type 0 where
   pub width : (p .width ≡ 2) ⊎ (p .width ≡ 4)
   pub fits : p .unit * p .width ≤ p .stride
   pub bytes-there : at + p .count * p .stride ≤ bytes

@@ -11,7 +11,7 @@ ghost use lib.ListN.{length};
 ghost use Rattle.wgsl.specs.Said.{good};
 ghost use Rattle.runs.specs.Fold.{overPlaces, storing, loading, testing};
 ghost use Rattle.runs.specs.Run.{runPlaces, partPlaces};
-ghost use Rattle.runs.specs.Ask.{Room, saidScan};
+ghost use Rattle.runs.specs.Ask.{PartsRoom, saidScan};
 
 // `count` runs of `unit` words of `width` bytes, each a `stride` after the one before.
 pub struct Parts {
@@ -92,7 +92,7 @@ fn write_run(words: &[u32], k: usize, n: usize, width: usize, buf: &mut [u8], at
 
 // Stores the words from `k` on in parts from byte `at` on. Every byte that no word takes stays.
 pub fn write_parts(words: &[u32], k: usize, p: Parts, buf: &mut [u8], at: usize)
-    requires { ⌜ Room p at (length (now buf)) k (length (now words)) ⌝ }
+    requires { ⌜ PartsRoom p at (length (now buf)) k (length (now words)) ⌝ }
     ensures { λ _. ⌜ now (buf .exit) ≡ overPlaces (storing (now (words .entry))) (partPlaces (p .count) (p .unit) (p .width) (p .stride) at) k (now (buf .entry)) ⌝ }
 {
     if p.stride == p.unit * p.width {
@@ -178,7 +178,7 @@ fn read_run(buf: &[u8], at: usize, n: usize, width: usize, words: &mut [u32], k:
 
 // Puts the words of parts from byte `at` on into the words from `k` on. Every other word stays.
 pub fn read_parts(buf: &[u8], at: usize, p: Parts, words: &mut [u32], k: usize)
-    requires { ⌜ Room p at (length (now buf)) k (length (now words)) ⌝ }
+    requires { ⌜ PartsRoom p at (length (now buf)) k (length (now words)) ⌝ }
     ensures { λ _. ⌜ now (words .exit) ≡ overPlaces (loading (now (buf .entry))) (partPlaces (p .count) (p .unit) (p .width) (p .stride) at) k (now (words .entry)) ⌝ }
 {
     if p.stride == p.unit * p.width {

@@ -1,8 +1,8 @@
 -- What a walk answers, and where a part of a buffer lies (crates/wgsl, specs/Path).
 -- Definitions only. Assumes nothing.
 use Prim.Native.Nat.{ℕ, _+_}
+use Rattle.wgsl.specs.Types.{scalarKind}
 use Rattle.wgsl.specs.Said.{Said, good, refused}
-use Rattle.wgsl.specs.Rank.{kindOf}
 use Rattle.wgsl.specs.Place.{Shape, one, parts, field, whole, spanOf}
 use Rattle.wgsl.specs.Path as path
 use Rattle.said.specs.Refusal.{numberOf, placeOf}
@@ -11,15 +11,15 @@ use Rattle.said.specs.declared.target.Walked.{Walked}
 use Rattle.said.specs.declared.target.Walked.the-variants.{To, Refused}
 
 -- the kind of the one scalar that a shape is; 7 where it is none
-unfoldable pub scalarIn : Shape → ℕ
-scalarIn (one s) = kindOf s
-scalarIn (parts n stride x) = 7
-scalarIn (field offset x rest) = 7
-scalarIn (whole z) = 7
+unfoldable pub kindIn : Shape → ℕ
+kindIn (one s) = scalarKind s
+kindIn (parts n stride x) = 7
+kindIn (field offset x rest) = 7
+kindIn (whole z) = 7
 
 -- the offset of a target, its bytes, and the kind of the one scalar that it is (7 where it is none)
 abbrev pub targetIs : path.Target → Target
-targetIs t = record { offset = t .offset; size = spanOf (t .shape); scalar = scalarIn (t .shape) }
+targetIs t = record { offset = t .offset; size = spanOf (t .shape); scalar = kindIn (t .shape) }
 
 abbrev pub reached : Said path.Target → Said Target
 reached (good t) = good (targetIs t)

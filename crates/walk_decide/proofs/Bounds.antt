@@ -16,13 +16,13 @@ use Rattle.wgsl.proofs.Tail.{closed-tail}
 use Rattle.wgsl.proofs.Count.{count-words, words-room}
 use Rattle.wgsl.proofs.Elements.{open-tail}
 use Rattle.wgsl.proofs.Opened.{opened-words, opened-extent}
-use Rattle.layout_values.specs.declared.value.Layout.{Layout}
+use Rattle.layout_values.specs.declared.value.Value.{Value}
 use Rattle.layout_values.specs.Value.{valueOf}
-use Rattle.walk_decide.specs.Decide.{tailFrom}
+use Rattle.walk_decide.specs.Decide.{restFrom}
 use Rattle.walk_decide.specs.Whole.{Ready, Tailed}
 use Rattle.walk_decide.proofs.Wholes.{ready-words}
 
-module _ {ms : List ℕ} {table : List (List ℕ)} {e : ℕ} {l : Layout} {t : Ty} (r : Ready ms table e l t) where
+module _ {ms : List ℕ} {table : List (List ℕ)} {e : ℕ} {l : Value} {t : Ty} (r : Ready ms table e l t) where
   -- Each word takes at least two bytes.
   pub words-few : (n : ℕ) → 2 * wordCount n t ≤ extentOf n t
   unfolding isStorable hasLayout
@@ -35,9 +35,9 @@ module _ {ms : List ℕ} {table : List (List ℕ)} {e : ℕ} {l : Layout} {t : T
 
   pub size-is : l .size ≡ present (sizeOf t)
   unfolding valueOf
-  size-is = ap (λ (x : Layout). x .size) (r .layout-is)
+  size-is = ap (λ (x : Value). x .size) (r .layout-is)
 
-module _ {ms : List ℕ} {table : List (List ℕ)} {e : ℕ} {l : Layout} {t : Ty} (x : Tailed ms table e l t) where
+module _ {ms : List ℕ} {table : List (List ℕ)} {e : ℕ} {l : Value} {t : Ty} (x : Tailed ms table e l t) where
   -- It is open.
   pub tailed-open : isOpen t ≡ true
   tailed-open = go (isOpen t) refl
@@ -46,19 +46,19 @@ module _ {ms : List ℕ} {table : List (List ℕ)} {e : ℕ} {l : Layout} {t : T
       go true q = refl
       go false q = some-not-none (x .opened .tail-is) (closed-tail t q)
 
-  pub stride-above : 0 < tailFrom ms table l .layout .stride
+  pub stride-above : 0 < restFrom ms table l .value .stride
   stride-above =
       let (y, is, pos) = open-tail t (x .ready .well-formed) tailed-open in
-      let same : y ≡ record { offset = tailFrom ms table l .offset; stride = tailFrom ms table l .layout .stride } = Option·some-injective _ _ (sym is ∙ x .opened .tail-is) in
+      let same : y ≡ record { offset = restFrom ms table l .offset; stride = restFrom ms table l .value .stride } = Option·some-injective _ _ (sym is ∙ x .opened .tail-is) in
       rw same at pos
 
-  pub tailed-words : (n : ℕ) → wordCount n t ≡ tailFrom ms table l .fixed + n * tailFrom ms table l .layout .unit
+  pub tailed-words : (n : ℕ) → wordCount n t ≡ restFrom ms table l .fixed + n * restFrom ms table l .value .unit
   tailed-words n =
       opened-words (x .opened) n
       ∙ (λ i. x .fixed-is i + n * x .unit-is n i)
 
   -- Its fixed words are within the limit.
-  pub fixed-few : tailFrom ms table l .fixed ≤ 4294967295
+  pub fixed-few : restFrom ms table l .fixed ≤ 4294967295
   fixed-few = omega (arith, ready-words (x .ready), x .fixed-is, x .ready .counted)
 
   -- Its array takes a byte for each element at least.

@@ -18,13 +18,12 @@ use Rattle.wgsl.specs.Size.{present, sizeOf}
 use Rattle.wgsl.specs.Said.{good, refused, _>>_, refuse}
 use Rattle.wgsl.specs.Rule.{isWellFormed}
 use Rattle.wgsl.specs.Place.{tailOf, extentOf, elementsBy, elementsIn, placesOf, places, wordCount, written, wordsRead, checkWords}
-use Rattle.wgsl.specs.Call.{isShort, elementsFor, isWrongCount}
+use Rattle.wgsl.specs.Call.{isShort, elementsFor, isWrongCount, writeType, readType, writeElements, writeWords, readElements}
 use Rattle.wgsl.proofs.Tail.{closed-tail, closed-extent}
 use Rattle.wgsl.proofs.Closed.{closed-shape}
-use Rattle.walk_decide.specs.declared.Found.{Found}
-use Rattle.walk_decide.specs.declared.Found.the-variants.{Is, No}
+use Rattle.walk_decide.specs.declared.Fits.{Fits}
+use Rattle.walk_decide.specs.declared.Fits.the-variants.{Is, No}
 use Rattle.walk_decide.specs.Decide.{elementsOf, extentFor, elementsFound}
-use Rattle.walk_decide.specs.Whole.{writtenAs, readAs, heldAs, storedAs, loadedAs}
 
 -- ---- a type of fixed size
 
@@ -38,30 +37,30 @@ module _ (t : Ty) (w : everywhere isWellFormed t ≡ true) (o : isOpen t ≡ fal
   closed-words n = ap length (closed-places n)
 
   module _ (ws b : List ℕ) where
-    pub closed-wrong : (length ws ≡ wordCount 0 t → ⊥) → writtenAs t ws b ≡ refused 14 0
-    unfolding writtenAs isWrongCount _>>_ refuse
+    pub closed-wrong : (length ws ≡ wordCount 0 t → ⊥) → writeType t ws b ≡ refused 14 0
+    unfolding writeType isWrongCount _>>_ refuse
     closed-wrong h =
         let n = elementsFor (length ws) t in
         rw (closed-words n, ne-eqb (length ws) (wordCount 0 t) h) refl
 
-    pub closed-right : length ws ≡ wordCount 0 t → writtenAs t ws b ≡ heldAs 0 t ws b
-    unfolding writtenAs heldAs isWrongCount written _>>_ refuse
+    pub closed-right : length ws ≡ wordCount 0 t → writeType t ws b ≡ writeElements 0 t ws b
+    unfolding writeType writeElements writeWords isWrongCount written _>>_ refuse
     closed-right e =
         let n = elementsFor (length ws) t in
         rw (closed-words n, eq-eqb (length ws) (wordCount 0 t) e, o, closed-places n, closed-extent n t o, closed-extent 0 t o) refl
 
-    pub closed-short : length b < present (sizeOf t) → readAs t b ws ≡ refused 15 0
-    unfolding readAs isShort _>>_ refuse
+    pub closed-short : length b < present (sizeOf t) → readType t b ws ≡ refused 15 0
+    unfolding readType isShort _>>_ refuse
     closed-short h = rw (o, lt-ltb (length b) (present (sizeOf t)) h) refl
 
-    pub closed-there : present (sizeOf t) ≤ length b → readAs t b ws ≡ loadedAs 0 t b ws
-    unfolding readAs loadedAs isShort elementsIn elementsBy _>>_ refuse
+    pub closed-there : present (sizeOf t) ≤ length b → readType t b ws ≡ readElements 0 t b ws
+    unfolding readType readElements isShort elementsIn elementsBy _>>_ refuse
     closed-there h = rw (o, le-ltb (length b) (present (sizeOf t)) h, closed-tail t o) refl
 
 -- ---- an open type
 
 -- which answer it is
-abbrev tag : Found → ℕ
+abbrev tag : Fits → ℕ
 tag (Is k) = suc k
 tag No = 0
 
@@ -92,20 +91,20 @@ module _ (t : Ty) (o : isOpen t ≡ true) (fixed unit : ℕ) (words-are : (n : �
   unfolding elementsOf
   answers p q hp hq = rw (hp, hq) refl
 
-  pub open-wrong : elementsOf (length ws) fixed unit ≡ No → writtenAs t ws b ≡ refused 14 0
-  unfolding writtenAs _>>_ refuse
+  pub open-wrong : elementsOf (length ws) fixed unit ≡ No → writeType t ws b ≡ refused 14 0
+  unfolding writeType _>>_ refuse
   open-wrong e = go (eqb (length ws) (fixed + filled * unit)) (eqb filled 0) refl refl
     where
-      go : (p q : Bool) → eqb (length ws) (fixed + filled * unit) ≡ p → eqb filled 0 ≡ q → writtenAs t ws b ≡ refused 14 0
+      go : (p q : Bool) → eqb (length ws) (fixed + filled * unit) ≡ p → eqb filled 0 ≡ q → writeType t ws b ≡ refused 14 0
       go true true hp hq = rw (tests true true hp hq) refl
       go true false hp hq = is-not-no (sym (answers true false hp hq) ∙ e)
       go false q hp hq = rw (tests false q hp hq) refl
 
-  pub open-right : {k : ℕ} → elementsOf (length ws) fixed unit ≡ Is k → (length ws ≡ wordCount k t) × (1 ≤ k) × (writtenAs t ws b ≡ heldAs k t ws b)
-  unfolding writtenAs heldAs _>>_ refuse
+  pub open-right : {k : ℕ} → elementsOf (length ws) fixed unit ≡ Is k → (length ws ≡ wordCount k t) × (1 ≤ k) × (writeType t ws b ≡ writeElements k t ws b)
+  unfolding writeType writeElements _>>_ refuse
   open-right {k} e = go (eqb (length ws) (fixed + filled * unit)) (eqb filled 0) refl refl
     where
-      go : (p q : Bool) → eqb (length ws) (fixed + filled * unit) ≡ p → eqb filled 0 ≡ q → (length ws ≡ wordCount k t) × (1 ≤ k) × (writtenAs t ws b ≡ heldAs k t ws b)
+      go : (p q : Bool) → eqb (length ws) (fixed + filled * unit) ≡ p → eqb filled 0 ≡ q → (length ws ≡ wordCount k t) × (1 ≤ k) × (writeType t ws b ≡ writeElements k t ws b)
       go true true hp hq = is-not-no (sym e ∙ answers true true hp hq)
       go true false hp hq =
           let same : filled ≡ k = is-same (sym (answers true false hp hq) ∙ e) in
@@ -118,19 +117,19 @@ module _ (t : Ty) (o : isOpen t ≡ true) (fixed unit : ℕ) (words-are : (n : �
 
 -- where elements end
 module _ (t : Ty) (offset stride : ℕ) (extent-is : (n : ℕ) → extentOf n t ≡ offset + n * stride) (n : ℕ) (ws b : List ℕ) where
-  pub extent-short : extentFor (length b) offset stride n ≡ No → heldAs n t ws b ≡ refused 15 0
-  unfolding extentFor heldAs _>>_ refuse
+  pub extent-short : extentFor (length b) offset stride n ≡ No → writeElements n t ws b ≡ refused 15 0
+  unfolding extentFor writeElements _>>_ refuse
   extent-short e = go (leb (offset + n * stride) (length b)) refl
     where
-      go : (p : Bool) → leb (offset + n * stride) (length b) ≡ p → heldAs n t ws b ≡ refused 15 0
+      go : (p : Bool) → leb (offset + n * stride) (length b) ≡ p → writeElements n t ws b ≡ refused 15 0
       go true h = is-not-no {k = offset + n * stride} (sym (rw h refl) ∙ e)
       go false h = rw (extent-is n, lt-ltb (length b) (offset + n * stride) (leb-false (offset + n * stride) (length b) h)) refl
 
-  pub extent-there : {k : ℕ} → extentFor (length b) offset stride n ≡ Is k → (k ≡ extentOf n t) × (k ≤ length b) × (heldAs n t ws b ≡ storedAs n t ws b)
-  unfolding extentFor heldAs storedAs _>>_ refuse
+  pub extent-there : {k : ℕ} → extentFor (length b) offset stride n ≡ Is k → (k ≡ extentOf n t) × (k ≤ length b) × (writeElements n t ws b ≡ writeWords n t ws b)
+  unfolding extentFor writeElements writeWords _>>_ refuse
   extent-there {k} e = go (leb (offset + n * stride) (length b)) refl
     where
-      go : (p : Bool) → leb (offset + n * stride) (length b) ≡ p → (k ≡ extentOf n t) × (k ≤ length b) × (heldAs n t ws b ≡ storedAs n t ws b)
+      go : (p : Bool) → leb (offset + n * stride) (length b) ≡ p → (k ≡ extentOf n t) × (k ≤ length b) × (writeElements n t ws b ≡ writeWords n t ws b)
       go true h =
           let same : offset + n * stride ≡ k = is-same (sym (rw h refl) ∙ e) in
           let room = leb-true (offset + n * stride) (length b) h in
@@ -182,12 +181,12 @@ module _ (t : Ty) (o : isOpen t ≡ true) (offset stride : ℕ) (tail-is : tailO
       (rw (o, held-is (length b)) (x .0), held-is (length b) ∙ x .1)
 
   module _ (ws b : List ℕ) where
-    pub elements-short : elementsFound (length b) offset stride ≡ No → readAs t b ws ≡ refused 15 0
-    unfolding readAs _>>_ refuse
+    pub elements-short : elementsFound (length b) offset stride ≡ No → readType t b ws ≡ refused 15 0
+    unfolding readType _>>_ refuse
     elements-short e = rw (found-short b e) refl
 
-    pub elements-there : {k : ℕ} → elementsFound (length b) offset stride ≡ Is k → (offset + k * stride ≤ length b) × (readAs t b ws ≡ loadedAs k t b ws)
-    unfolding readAs loadedAs _>>_ refuse
+    pub elements-there : {k : ℕ} → elementsFound (length b) offset stride ≡ Is k → (offset + k * stride ≤ length b) × (readType t b ws ≡ readElements k t b ws)
+    unfolding readType readElements _>>_ refuse
     elements-there e =
         let x = found-there b e in
         (found-inside (length b) offset stride e, rw (x .0, x .1) refl)
@@ -195,26 +194,26 @@ module _ (t : Ty) (o : isOpen t ≡ true) (offset stride : ℕ) (tail-is : tailO
 -- ---- what is left
 
 module _ (n : ℕ) (t : Ty) (ws b : List ℕ) where
-  pub held-short : length b < extentOf n t → heldAs n t ws b ≡ refused 15 0
-  unfolding heldAs _>>_ refuse
+  pub held-short : length b < extentOf n t → writeElements n t ws b ≡ refused 15 0
+  unfolding writeElements _>>_ refuse
   held-short h = rw (lt-ltb (length b) (extentOf n t) h) refl
 
-  pub held-there : extentOf n t ≤ length b → heldAs n t ws b ≡ storedAs n t ws b
-  unfolding heldAs storedAs _>>_ refuse
+  pub held-there : extentOf n t ≤ length b → writeElements n t ws b ≡ writeWords n t ws b
+  unfolding writeElements writeWords _>>_ refuse
   held-there h = rw (le-ltb (length b) (extentOf n t) h) refl
 
-  pub stored-bad : {number place : ℕ} → refused number place ≡ checkWords 0 (places n t) ws → storedAs n t ws b ≡ refused number place
-  unfolding storedAs _>>_
+  pub stored-bad : {number place : ℕ} → refused number place ≡ checkWords 0 (places n t) ws → writeWords n t ws b ≡ refused number place
+  unfolding writeWords _>>_
   stored-bad e = rw (← e) refl
 
-  pub stored-done : good tt ≡ checkWords 0 (places n t) ws → storedAs n t ws b ≡ good (record { value = extentOf n t; contents = written n t ws b })
-  unfolding storedAs _>>_
+  pub stored-done : good tt ≡ checkWords 0 (places n t) ws → writeWords n t ws b ≡ good (record { value = extentOf n t; contents = written n t ws b })
+  unfolding writeWords _>>_
   stored-done e = rw (← e) refl
 
-  pub loaded-few : length ws < wordCount n t → loadedAs n t b ws ≡ refused 14 0
-  unfolding loadedAs _>>_ refuse
+  pub loaded-few : length ws < wordCount n t → readElements n t b ws ≡ refused 14 0
+  unfolding readElements _>>_ refuse
   loaded-few h = rw (lt-ltb (length ws) (wordCount n t) h) refl
 
-  pub loaded-done : wordCount n t ≤ length ws → loadedAs n t b ws ≡ good (record { value = wordCount n t; contents = wordsRead (places n t) b ++ drop (wordCount n t) ws })
-  unfolding loadedAs _>>_ refuse
+  pub loaded-done : wordCount n t ≤ length ws → readElements n t b ws ≡ good (record { value = wordCount n t; contents = wordsRead (places n t) b ++ drop (wordCount n t) ws })
+  unfolding readElements _>>_ refuse
   loaded-done h = rw (le-ltb (length ws) (wordCount n t) h) refl

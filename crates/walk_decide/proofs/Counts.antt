@@ -9,7 +9,7 @@ use native.Mathlib.Omega.{arith}
 use native.Mathlib.Nat.{div-eq-of-lt, le-div-iff-mul-le, div-lt-iff-lt-mul}
 use borrow.Author.Tests.{eq-eqb, ne-eqb, le-leb, lt-leb}
 use lib.Dec.{eqb}
-use Rattle.walk_decide.specs.declared.Found.the-variants.{Is, No}
+use Rattle.walk_decide.specs.declared.Fits.the-variants.{Is, No}
 use Rattle.walk_decide.specs.Decide.{elementsOf, extentFor, elementsFound}
 
 -- ---- elements that words fill

@@ -1,4 +1,4 @@
--- The entry that a call speaks of (specs/Entry), from what `table::find` and `file::check_trailer` ensure.
+-- The entry that a call speaks of (specs/Meant), from what `table::find` and `file::check_trailer` ensure.
 --
 -- In order: the members' part; an entry that is there; what it is; one that is not there.
 -- Assumes nothing.
@@ -18,12 +18,12 @@ use Rattle.wgsl.specs.Call.{entryOf}
 use Rattle.wgsl.proofs.Said.{good-not-refused, then-good, then-cases, then-is, then-refused, orRefuse-good}
 use Rattle.wgsl.proofs.Accepted.{accepted}
 use Rattle.file.specs.Members.{membersStart, memberBytes}
-use Rattle.layout_values.specs.Value.{valueOf, layoutAt, valuesOf}
+use Rattle.layout_values.specs.Value.{valueOf, valueAt, valuesOf}
 use Rattle.layout_table.specs.declared.Ground.{Ground}
-use Rattle.layout_table.specs.Table.{Standing, groundOf, groundIn}
-use Rattle.walk_shapes.specs.Site.{Site}
-use Rattle.walk_shapes.proofs.Sites.{site-layout, site-well-formed}
-use Rattle.walk_decide.specs.Entry.{membersPart, Entry}
+use Rattle.layout_table.specs.Table.{InTable, groundOf, groundIn}
+use Rattle.walk_shapes.specs.Basis.{Basis}
+use Rattle.walk_shapes.proofs.Basis.{basis-layout, basis-well-formed}
+use Rattle.walk_decide.specs.Meant.{membersPart, Meant}
 use Rattle.walk_decide.proofs.Tails.{layout-value}
 
 -- ---- the members' part
@@ -35,25 +35,25 @@ members-part f e t q =
 
 -- It lies inside the file.
 members-inside : (f : List ℕ) (ts : List Ty) (e : ℕ) (t : Ty) → typesOf f ≡ good ts → (groundOf f e t .start ≤ groundOf f e t .end) × (groundOf f e t .end ≤ length f)
-unfolding groundOf membersStart lengthBy trailerLength typeEntryLength memberEntryLength
+unfolding groundOf membersStart lengthBy
 members-inside f ts e t h = (omega arith, omega (arith, accepted f ts h .trailer-good .long))
 
 -- ---- an entry that is there
 
-pub entry-found : (f : List ℕ) (e : ℕ) (table : List (List ℕ)) (g : Ground) → good (record { ground = g; table = table }) ≡ groundIn f e → (t : Ty) × Entry f e g table t
+pub entry-found : (f : List ℕ) (e : ℕ) (table : List (List ℕ)) (g : Ground) → good (record { ground = g; table = table }) ≡ groundIn f e → (t : Ty) × Meant f e g table t
 unfolding groundIn entryOf
 entry-found f e table g p =
     let y = then-good (typesOf f) _ (sym p) in
     let x = then-good (entryOf f e) _ (y .after) in
     let there : getElem? (y .value) e ≡ some (x .value) = orRefuse-good 8 0 (getElem? (y .value) e) (sym (then-is _ (y .first)) ∙ x .first) in
-    let is : Standing = record { ground = groundOf f e (x .value); table = valuesOf f (y .value) } in
-    let want : Standing = record { ground = g; table = table } in
+    let is : InTable = record { ground = groundOf f e (x .value); table = valuesOf f (y .value) } in
+    let want : InTable = record { ground = g; table = table } in
     let both : is ≡ want = cc (x .after) in
-    let ground : g ≡ groundOf f e (x .value) = sym (ap (λ (s : Standing). s .ground) both) in (
+    let ground : g ≡ groundOf f e (x .value) = sym (ap (λ (s : InTable). s .ground) both) in (
       x .value,
       record {
         types = y .value;
-        site = record { good-file = y .first; members-are = refl; table-is = sym (ap (λ (s : Standing). s .table) both) };
+        basis = record { good-file = y .first; members-are = refl; table-is = sym (ap (λ (s : InTable). s .table) both) };
         there = there;
         entry-is = x .first;
         ground-is = ground;
@@ -63,22 +63,22 @@ entry-found f e table g p =
 
 -- ---- what it is
 
-module _ {f : List ℕ} {e : ℕ} {g : Ground} {table : List (List ℕ)} {t : Ty} (x : Entry f e g table t) where
+module _ {f : List ℕ} {e : ℕ} {g : Ground} {table : List (List ℕ)} {t : Ty} (x : Meant f e g table t) where
   -- It stands on the members' part.
-  pub entry-site : Site f (x .types) (membersPart f g) table
-  entry-site = rw (members-part f e t (x .ground-is)) (x .site)
+  pub entry-site : Basis f (x .types) (membersPart f g) table
+  entry-site = rw (members-part f e t (x .ground-is)) (x .basis)
 
   -- Its layout stands in the table,
-  pub entry-layout : g .layout ≡ layoutAt table e
+  pub entry-layout : g .value ≡ valueAt table e
   unfolding groundOf
-  entry-layout = ap (λ (y : Ground). y .layout) (x .ground-is) ∙ sym (site-layout (x .site) e t (x .there))
+  entry-layout = ap (λ (y : Ground). y .value) (x .ground-is) ∙ sym (basis-layout (x .basis) e t (x .there))
 
   -- and is its type's value.
-  pub entry-value : g .layout ≡ valueOf (g .layout .reference) t
-  entry-value = rw entry-layout (layout-value (x .site) e t (x .there))
+  pub entry-value : g .value ≡ valueOf (g .value .reference) t
+  entry-value = rw entry-layout (layout-value (x .basis) e t (x .there))
 
   pub entry-well-formed : everywhere isWellFormed t ≡ true
-  entry-well-formed = site-well-formed (x .site) e t (x .there)
+  entry-well-formed = basis-well-formed (x .basis) e t (x .there)
 
 -- ---- one that is not there
 

@@ -1,8 +1,8 @@
 pub mod Counts
-pub mod Allowing
+pub mod AllowedBy
 pub mod Wholes
 pub mod Bounds
 pub mod Calls
-pub mod Stored
+pub mod EntryFor
 pub mod Tails
 pub mod Entries

@@ -14,27 +14,27 @@ use Rattle.wgsl.specs.Types.{Ty, runtime, isOpen, everywhere}
 use Rattle.wgsl.specs.Size.{isPresent, sizeOf, alignOf, isPlain, hasLayout, isStorable}
 use Rattle.wgsl.specs.Said.{Said, good, refused}
 use Rattle.wgsl.specs.Place.{extentOf, whole, shapeOf, spanOf, Place, placesOf, repeated, places, wordCount, written, wordsRead, checkWords}
+use Rattle.wgsl.specs.Shapes.{shapeWords}
 use Rattle.wgsl.proofs.Absent.{both-hold, present-some}
 use Rattle.wgsl.proofs.Laid.{laid}
-use Rattle.wgsl.proofs.Count as counting
 use Rattle.wgsl.proofs.Count.{places-words}
 use Rattle.wgsl.proofs.Opened.{opened-extent}
-use Rattle.layout_values.specs.declared.value.Layout.{Layout}
+use Rattle.layout_values.specs.declared.value.Value.{Value}
 use Rattle.layout_values.specs.Value.{wordsIn}
 use Rattle.layout_values.proofs.Presence.{value-words, words-fixed}
 use Rattle.runs.specs.Fold.{overPlaces, storing, loading, testing}
 use Rattle.runs.specs.Run.{partPlaces}
 use Rattle.runs.proofs.Folds.{over-append, stored-words, loaded-words, tested-words, tested-refused}
 use Rattle.runs.proofs.Covered.{covers}
-use Rattle.walk_trees.specs.Placed.{partWidth, runAt}
+use Rattle.walk_trees.specs.Slot.{partWidth, runAt}
 use Rattle.walk_trees.specs.Tree.{Runs, runs, Room}
-use Rattle.walk_decide.specs.declared.Tail.{Tail}
-use Rattle.walk_decide.specs.Decide.{tailFrom, openTail, closedTail}
+use Rattle.walk_decide.specs.declared.Rest.{Rest}
+use Rattle.walk_decide.specs.Decide.{restFrom, openRest, closedRest}
 use Rattle.walk_decide.specs.Whole.{Ready, Tailed, Whole}
 
 -- ---- a storable type
 
-module _ {ms : List ℕ} {table : List (List ℕ)} {e : ℕ} {l : Layout} {t : Ty} (r : Ready ms table e l t) where
+module _ {ms : List ℕ} {table : List (List ℕ)} {e : ℕ} {l : Value} {t : Ty} (r : Ready ms table e l t) where
   has-layout : hasLayout t ≡ true
   unfolding isStorable
   has-layout = both-hold (hasLayout t) (everywhere isPlain t) (r .storable) .0
@@ -53,13 +53,13 @@ module _ {ms : List ℕ} {table : List (List ℕ)} {e : ℕ} {l : Layout} {t : T
 
   -- ---- a type of fixed size
 
-  nothing-runs : Runs table (closedTail l .layout) (whole 0)
-  unfolding closedTail partWidth spanOf placesOf partPlaces repeated counting.words
+  nothing-runs : Runs table (closedRest l .value) (whole 0)
+  unfolding closedRest partWidth spanOf placesOf partPlaces repeated shapeWords
   nothing-runs =
       record { referring = record { inside = λ h g. absurd (omega arith); counted = λ h g. absurd (omega arith) }; narrow-is = refl; width = inr refl; fits = omega arith; places-are = λ at. refl; span-is = refl; words-are = refl }
 
-  pub closed-whole : Whole ms table e (closedTail l) t 0
-  unfolding closedTail spanOf placesOf
+  pub closed-whole : Whole ms table e (closedRest l) t 0
+  unfolding closedRest spanOf placesOf
   closed-whole =
       record {
         run-asks = r .run-asks;
@@ -75,8 +75,8 @@ module _ {ms : List ℕ} {table : List (List ℕ)} {e : ℕ} {l : Layout} {t : T
 
 -- ---- an open type
 
-pub open-whole : {ms : List ℕ} {table : List (List ℕ)} {e : ℕ} {l : Layout} {t : Ty} → Tailed ms table e l t → (n : ℕ) → Whole ms table e (openTail (tailFrom ms table l) n) t n
-unfolding openTail shapeOf spanOf
+pub open-whole : {ms : List ℕ} {table : List (List ℕ)} {e : ℕ} {l : Value} {t : Ty} → Tailed ms table e l t → (n : ℕ) → Whole ms table e (openRest (restFrom ms table l) n) t n
+unfolding openRest shapeOf spanOf
 open-whole x n =
     let r = x .ready in
     record {
@@ -93,12 +93,12 @@ open-whole x n =
 
 -- ---- words and room
 
-module _ {ms : List ℕ} {table : List (List ℕ)} {e : ℕ} {x : Tail} {t : Ty} {n : ℕ} (w : Whole ms table e x t n) where
-  pub fixed-words : counting.words (shapeOf 0 t) ≡ x .fixed
+module _ {ms : List ℕ} {table : List (List ℕ)} {e : ℕ} {x : Rest} {t : Ty} {n : ℕ} (w : Whole ms table e x t n) where
+  pub fixed-words : shapeWords (shapeOf 0 t) ≡ x .fixed
   unfolding wordCount places
   fixed-words = sym (places-words (shapeOf 0 t) 0) ∙ w .fixed-is
 
-  pub whole-words : wordCount n t ≡ x .fixed + counting.words (w .rest)
+  pub whole-words : wordCount n t ≡ x .fixed + shapeWords (w .rest)
   unfolding wordCount
   whole-words =
       ap length (w .places-are)

@@ -1,3 +1,3 @@
 pub mod Decide
 pub mod Whole
-pub mod Entry
+pub mod Meant

@@ -1,7 +1,7 @@
 // What reading and writing decide before they store anything.
-use layout_values::value::Layout;
+use layout_values::value::Row;
 use layout_values::value::Value;
-use layout_values::value::layout_at;
+use layout_values::value::value_at;
 use layout_values::value::words_of;
 use numbers::wide::wide;
 use runs::Scan;
@@ -11,20 +11,21 @@ ghost use mathlib.Core.Path.{_≡_};
 ghost use mathlib.Core.Bool.{true};
 ghost use Rattle.wgsl.specs.Types.{Ty, everywhere};
 ghost use Rattle.wgsl.specs.Rule.{isWellFormed};
+ghost use Rattle.wgsl.specs.Call.{allowed};
 ghost use Rattle.layout_values.specs.Value.{valueOf};
 ghost use Rattle.runs.specs.Ask.{saidScan};
-ghost use Rattle.walk_trees.specs.Placed.{Counted};
+ghost use Rattle.walk_trees.specs.Slot.{Counted};
 ghost use Prim.Native.Nat.{_<_, _≤_};
-ghost use Rattle.walk_decide.specs.Decide.{allowedFor, saidAllowed, elementsOf, extentFor, elementsFound, tailFrom, Findable, openTail, closedTail};
+ghost use Rattle.walk_decide.specs.Decide.{saidAllowed, elementsOf, extentFor, elementsFound, restFrom, Findable, openRest, closedRest};
 
 pub enum Allowed {
     Yes,
     Refused(Refusal),
 }
 
-// 17, 9, 10: for an entry of the layout `l` and a buffer of so many bytes.
-pub fn allow(l: Layout, bytes: usize) -> Allowed
-    ensures { λ r. ⌜ ((t : Ty) → l ≡ valueOf (l .reference) t → everywhere isWellFormed t ≡ true → saidAllowed r ≡ allowedFor t bytes) ⌝ }
+// 17 and 9, and 10 too for an entry that is to be stored: for an entry of the value `l` and a buffer of so many bytes.
+pub fn allow(l: Value, bytes: usize, stored: bool) -> Allowed
+    ensures { λ r. ⌜ ((t : Ty) → l ≡ valueOf (l .reference) t → everywhere isWellFormed t ≡ true → saidAllowed r ≡ allowed stored t bytes) ⌝ }
 {
     if 4294967295 < bytes {
         return Allowed::Refused(Refusal::Long);
@@ -36,7 +37,10 @@ pub fn allow(l: Layout, bytes: usize) -> Allowed
     if l.narrow != 0 {
         return Allowed::Yes;
     }
-    Allowed::Refused(Refusal::Unstorable)
+    if stored {
+        return Allowed::Refused(Refusal::Unstorable);
+    }
+    Allowed::Yes
 }
 
 // 16: what a scan of the words says.
@@ -50,91 +54,91 @@ pub fn fit(s: Scan) -> Allowed
 }
 
 // A number, or none that would do.
-pub enum Found {
+pub enum Fits {
     Is(usize),
     No,
 }
 
 // How many elements so many words fill, after the fixed part.
-pub fn elements_for(words: usize, first: usize, unit: u32) -> Found
+pub fn elements_for(words: usize, first: usize, unit: u32) -> Fits
     requires { ⌜ (0 < unit) × (first ≤ 4294967295) ⌝ }
     ensures { λ r. ⌜ r ≡ elementsOf words first unit ⌝ }
 {
     let each = wide(unit);
     if words < first + each {
-        return Found::No;
+        return Fits::No;
     }
     let n = (words - first) / each;
     if first + n * each == words {
-        return Found::Is(n);
+        return Fits::Is(n);
     }
-    Found::No
+    Fits::No
 }
 
 // Where `n` elements end, if that is within so many bytes.
-pub fn extent_for(bytes: usize, first: usize, stride: u32, n: usize) -> Found
+pub fn extent_for(bytes: usize, first: usize, stride: u32, n: usize) -> Fits
     requires { ⌜ 0 < stride ⌝ }
     ensures { λ r. ⌜ r ≡ extentFor bytes first stride n ⌝ }
 {
     let each = wide(stride);
     if bytes < first {
-        return Found::No;
+        return Fits::No;
     }
     if (bytes - first) / each < n {
-        return Found::No;
+        return Fits::No;
     }
-    Found::Is(first + n * each)
+    Fits::Is(first + n * each)
 }
 
 // How many whole elements so many bytes hold.
-pub fn elements_in(bytes: usize, first: usize, stride: u32) -> Found
+pub fn elements_in(bytes: usize, first: usize, stride: u32) -> Fits
     requires { ⌜ 0 < stride ⌝ }
     ensures { λ r. ⌜ r ≡ elementsFound bytes first stride ⌝ }
 {
     if bytes < first {
-        return Found::No;
+        return Fits::No;
     }
     let n = (bytes - first) / wide(stride);
     if n == 0 {
-        return Found::No;
+        return Fits::No;
     }
-    Found::Is(n)
+    Fits::Is(n)
 }
 
 // What lies after the fixed part of an entry: parts as a layout says, from a byte and from a word on.
-pub struct Tail {
-    pub layout: Layout,
+pub struct Rest {
+    pub value: Value,
     pub offset: usize,
     pub fixed: usize,
 }
 
 // The runtime array that an open entry is or ends in.
-pub fn tail_of(members: &[u8], table: &[Value], l: Layout) -> Tail
+pub fn rest_of(members: &[u8], table: &[Row], l: Value) -> Rest
     requires { ⌜ Findable (now members) (now table) l ⌝ }
-    ensures { λ r. ⌜ r ≡ tailFrom (now (members .entry)) (now (table .entry)) l ⌝ }
+    ensures { λ r. ⌜ r ≡ restFrom (now (members .entry)) (now (table .entry)) l ⌝ }
 {
     if l.kind == 10 {
-        return Tail {
-            layout: l,
+        return Rest {
+            value: l,
             offset: 0,
             fixed: 0,
         };
     }
     let p = member_in(members, table, l, l.count - 1);
-    Tail {
-        layout: layout_at(table, p.ty),
+    Rest {
+        value: value_at(table, p.ty),
         offset: p.start,
         fixed: wide(l.unit),
     }
 }
 
 // A type of fixed size: nothing.
-pub fn closed_tail(l: Layout) -> Tail
+pub fn closed_rest(l: Value) -> Rest
     requires { ⌜ Counted l ⌝ }
-    ensures { λ r. ⌜ r ≡ closedTail l ⌝ }
+    ensures { λ r. ⌜ r ≡ closedRest l ⌝ }
 {
-    Tail {
-        layout: Layout {
+    Rest {
+        value: Value {
             kind: 0,
             narrow: 4,
             reference: 0,
@@ -150,12 +154,12 @@ pub fn closed_tail(l: Layout) -> Tail
 }
 
 // An open type: `n` elements.
-pub fn open_tail(x: Tail, n: u32) -> Tail
-    ensures { λ r. ⌜ r ≡ openTail x n ⌝ }
+pub fn open_rest(x: Rest, n: u32) -> Rest
+    ensures { λ r. ⌜ r ≡ openRest x n ⌝ }
 {
-    let l = x.layout;
-    Tail {
-        layout: Layout {
+    let l = x.value;
+    Rest {
+        value: Value {
             kind: l.kind,
             narrow: l.narrow,
             reference: l.reference,

@@ -12,41 +12,40 @@ use native.Mathlib.Omega.{arith}
 use borrow.Author.Tests.{eq-eqb, ne-eqb}
 use lib.ListN.{length, getElem?}
 use Rattle.wgsl.specs.Round.{up}
-use Rattle.wgsl.specs.Types.{Scalar, Ty, scalar, vector, matrix, array, runtime, Members, isOpen}
+use Rattle.wgsl.specs.Types.{Scalar, Ty, scalar, vector, matrix, array, runtime, Members, isOpen, scalarKind, kindOf}
 use Rattle.wgsl.specs.Size.{both, isPresent, present, widthOf, vectorSize, vectorAlign, sizeOf, alignOf, hasLayout}
 use Rattle.wgsl.specs.File.{typeEntryAt}
-use Rattle.wgsl.specs.Rank.{kindOf}
 use Rattle.wgsl.specs.Place.{Shape, one, parts, column, shapeOf, fieldsOf, spanOf}
 use Rattle.wgsl.proofs.Absent.{both-hold, hold-both, present-some, some-present, both-some}
 use Rattle.wgsl.proofs.Passed.{matrix-passed, runtime-passed}
 use Rattle.wgsl.proofs.Align.{vector-align}
 use Rattle.wgsl.proofs.AtEntry.{Refers, to-none, to-vector, to-matrix, to-array, to-runtime, to-atomic, to-members}
-use Rattle.layout_values.specs.declared.value.Layout.{Layout}
-use Rattle.layout_values.specs.Value.{kindOfType, partsOf, partWords, partStride, valueOf, layoutAt}
+use Rattle.layout_values.specs.declared.value.Value.{Value}
+use Rattle.layout_values.specs.Value.{partsOf, valueOf, valueAt}
 use Rattle.layout_values.proofs.Scalar.{kind-bounded}
-use Rattle.walk_shapes.specs.Site.{Site}
-use Rattle.walk_shapes.proofs.Sites.{site-inside, site-layout, site-well-formed, site-refers}
-use Rattle.walk_path.specs.declared.enter.Place.the-variants.{Entry, Column}
+use Rattle.walk_shapes.specs.Basis.{Basis}
+use Rattle.walk_shapes.proofs.Basis.{basis-inside, basis-layout, basis-well-formed, basis-refers}
+use Rattle.walk_path.specs.declared.enter.Stand.the-variants.{Entry, Column}
 use Rattle.walk_path.specs.Way.{sizeAt, partsAt, Stands, at-entry, at-column}
 use Rattle.walk_path.proofs.Sizes.{kind-there, inner-size}
 
 -- ---- a part
 
 -- a part, of the shape y, of an entry with the layout l: a column over the entry that it refers to, or that entry
-pub record Part (ts : List Ty) (table : List (List ℕ)) (n : ℕ) (l : Layout) (y : Shape) : Type 0 where
+pub record Part (ts : List Ty) (table : List (List ℕ)) (n : ℕ) (l : Value) (y : Shape) : Type 0 where
   pub inside : l .reference < length table
-  pub as-column : l .kind ≡ 8 → Stands ts n (Column (l .unit) (l .reference)) y × (l .unit * layoutAt table (l .reference) .size ≡ spanOf y)
+  pub as-column : l .kind ≡ 8 → Stands ts n (Column (l .unit) (l .reference)) y × (l .unit * valueAt table (l .reference) .size ≡ spanOf y)
   pub as-entry : (l .kind ≡ 8 → ⊥) → Stands ts n (Entry (l .reference)) y × (sizeAt table n (l .reference) ≡ spanOf y)
 
 -- ---- what an entry is
 
-pub data Found (ts : List Ty) (table : List (List ℕ)) (n e : ℕ) : Shape → Type 0 where
+pub data EntryFound (ts : List Ty) (table : List (List ℕ)) (n e : ℕ) : Shape → Type 0 where
   -- kinds 0 to 6
-  a-scalar : (s : Scalar) → layoutAt table e .kind ≡ kindOf s → layoutAt table e .kind ≤ 6 → Found ts table n e (one s)
-  an-atomic : (s : Scalar) → layoutAt table e .kind ≡ 11 → layoutAt table e .reference < length table → layoutAt table (layoutAt table e .reference) .kind ≡ kindOf s → Found ts table n e (one s)
+  a-scalar : (s : Scalar) → valueAt table e .kind ≡ scalarKind s → valueAt table e .kind ≤ 6 → EntryFound ts table n e (one s)
+  an-atomic : (s : Scalar) → valueAt table e .kind ≡ 11 → valueAt table e .reference < length table → valueAt table (valueAt table e .reference) .kind ≡ scalarKind s → EntryFound ts table n e (one s)
   -- kinds 7 to 10
-  of-parts : {count stride : ℕ} {y : Shape} → 7 ≤ layoutAt table e .kind → layoutAt table e .kind ≤ 10 → partsAt table n e ≡ count → layoutAt table e .stride ≡ stride → Part ts table n (layoutAt table e) y → Found ts table n e (parts count stride y)
-  of-members : (z : ℕ) (end : Option ℕ) (ms : Members) → layoutAt table e .kind ≡ 12 → Found ts table n e (fieldsOf n z end ms)
+  of-parts : {count stride : ℕ} {y : Shape} → 7 ≤ valueAt table e .kind → valueAt table e .kind ≤ 10 → partsAt table n e ≡ count → valueAt table e .stride ≡ stride → Part ts table n (valueAt table e) y → EntryFound ts table n e (parts count stride y)
+  of-members : (z : ℕ) (end : Option ℕ) (ms : Members) → valueAt table e .kind ≡ 12 → EntryFound ts table n e (fieldsOf n z end ms)
 
 -- ---- types with a size
 
@@ -82,57 +81,57 @@ array-sized c t h =
 
 -- ---- every kind
 
-module _ {f : List ℕ} {ts : List Ty} {ms : List ℕ} {table : List (List ℕ)} (site : Site f ts ms table) (n e : ℕ) where
+module _ {f : List ℕ} {ts : List Ty} {ms : List ℕ} {table : List (List ℕ)} (basis : Basis f ts ms table) (n e : ℕ) where
   -- the parts of a runtime array, and of the others
-  runtime-parts : layoutAt table e .kind ≡ 10 → partsAt table n e ≡ n
+  runtime-parts : valueAt table e .kind ≡ 10 → partsAt table n e ≡ n
   unfolding partsAt
-  runtime-parts is = rw (eq-eqb (layoutAt table e .kind) 10 is)
+  runtime-parts is = rw (eq-eqb (valueAt table e .kind) 10 is)
 
-  other-parts : (layoutAt table e .kind ≡ 10 → ⊥) → partsAt table n e ≡ layoutAt table e .count
+  other-parts : (valueAt table e .kind ≡ 10 → ⊥) → partsAt table n e ≡ valueAt table e .count
   unfolding partsAt
-  other-parts other = rw (ne-eqb (layoutAt table e .kind) 10 other)
+  other-parts other = rw (ne-eqb (valueAt table e .kind) 10 other)
 
   module _ {t : Ty} (there : getElem? ts e ≡ some t) where
-    kind : layoutAt table e .kind ≡ kindOfType t
-    kind = kind-there site e t there
+    kind : valueAt table e .kind ≡ kindOf t
+    kind = kind-there basis e t there
 
-    reference : layoutAt table e .reference ≡ typeEntryAt f e .reference
+    reference : valueAt table e .reference ≡ typeEntryAt f e .reference
     unfolding valueOf
-    reference = ap (λ (l : Layout). l .reference) (site-layout site e t there)
+    reference = ap (λ (l : Value). l .reference) (basis-layout basis e t there)
 
-    count : layoutAt table e .count ≡ partsOf t
+    count : valueAt table e .count ≡ partsOf t .count
     unfolding valueOf
-    count = ap (λ (l : Layout). l .count) (site-layout site e t there)
+    count = ap (λ (l : Value). l .count) (basis-layout basis e t there)
 
-    unit : hasLayout t ≡ true → layoutAt table e .unit ≡ partWords t
+    unit : hasLayout t ≡ true → valueAt table e .unit ≡ partsOf t .words
     unfolding valueOf
-    unit h = ap (λ (l : Layout). l .unit) (site-layout site e t there) ∙ rw h
+    unit h = ap (λ (l : Value). l .unit) (basis-layout basis e t there) ∙ rw h
 
-    stride : layoutAt table e .stride ≡ present (partStride t)
+    stride : valueAt table e .stride ≡ present (partsOf t .stride)
     unfolding valueOf
-    stride = ap (λ (l : Layout). l .stride) (site-layout site e t there)
+    stride = ap (λ (l : Value). l .stride) (basis-layout basis e t there)
 
     -- a part that is an entry
-    entry-part : {u : Ty} → (kindOfType t ≡ 8 → ⊥) → getElem? ts (typeEntryAt f e .reference) ≡ some u → Sized u → Part ts table n (layoutAt table e) (shapeOf n u)
+    entry-part : {u : Ty} → (kindOf t ≡ 8 → ⊥) → getElem? ts (typeEntryAt f e .reference) ≡ some u → Sized u → Part ts table n (valueAt table e) (shapeOf n u)
     entry-part {u} other found x =
         record {
-          inside = rw reference (site-inside site _ u found);
+          inside = rw reference (basis-inside basis _ u found);
           as-column = λ q. absurd (other (sym kind ∙ q));
           as-entry = λ q. rw reference (
             at-entry found (sized-layout x),
-            inner-size site n _ u found (sized-layout x) (inl (x .sized)),
+            inner-size basis n _ u found (sized-layout x) (inl (x .sized)),
           );
         }
 
   -- a part that is a column
-  column-part : {c r : ℕ} {s : Scalar} → getElem? ts e ≡ some (matrix c r s) → hasLayout (matrix c r s) ≡ true → getElem? ts (typeEntryAt f e .reference) ≡ some (scalar s) → Sized (scalar s) → Part ts table n (layoutAt table e) (column r s)
-  unfolding kindOfType partWords valueOf column spanOf sizeOf
+  column-part : {c r : ℕ} {s : Scalar} → getElem? ts e ≡ some (matrix c r s) → hasLayout (matrix c r s) ≡ true → getElem? ts (typeEntryAt f e .reference) ≡ some (scalar s) → Sized (scalar s) → Part ts table n (valueAt table e) (column r s)
+  unfolding kindOf partsOf valueOf column spanOf sizeOf
   column-part {r = r} {s} there h found x =
       record {
-        inside = rw (reference there) (site-inside site _ (scalar s) found);
+        inside = rw (reference there) (basis-inside basis _ (scalar s) found);
         as-column = λ q. rw (reference there, unit there h) (
           at-column found (sized-layout x),
-          ap (λ (l : Layout). r * l .size) (site-layout site _ (scalar s) found),
+          ap (λ (l : Value). r * l .size) (basis-layout basis _ (scalar s) found),
         );
         as-entry = λ q. absurd (q (kind there));
       }
@@ -142,39 +141,39 @@ module _ {f : List ℕ} {ts : List Ty} {ms : List ℕ} {table : List (List ℕ)}
   unfolding hasLayout alignOf
   matrix-sized {c} {r} {s} there h =
       let a = present-some (vectorAlign r s) (both-hold (isPresent (vectorAlign r s)) _ h .0) in
-      wide-scalar (vector-align r s (a .0) (matrix-passed c r s (site-well-formed site e (matrix c r s) there) .1) (a .1) .width-is)
+      wide-scalar (vector-align r s (a .0) (matrix-passed c r s (basis-well-formed basis e (matrix c r s) there) .1) (a .1) .width-is)
 
   runtime-sized : {t : Ty} → getElem? ts e ≡ some (runtime t) → Sized t
   runtime-sized {t} there =
-      let p = runtime-passed t (site-well-formed site e (runtime t) there) in
+      let p = runtime-passed t (basis-well-formed basis e (runtime t) there) in
       record { aligned = some-present (p .aligned-is); sized = some-present (p .own-is) }
 
   -- An entry with a layout is a scalar, an atomic, has parts, or is a struct.
-  pub found : {t : Ty} → getElem? ts e ≡ some t → hasLayout t ≡ true → Found ts table n e (shapeOf n t)
-  unfolding kindOfType partsOf partStride shapeOf column
-  found {t} there h = go (site-refers site e t there) there h
+  pub found : {t : Ty} → getElem? ts e ≡ some t → hasLayout t ≡ true → EntryFound ts table n e (shapeOf n t)
+  unfolding kindOf partsOf shapeOf column
+  found {t} there h = go (basis-refers basis e t there) there h
     where
-      go : {t : Ty} → Refers f ts e (typeEntryAt f e) t → getElem? ts e ≡ some t → hasLayout t ≡ true → Found ts table n e (shapeOf n t)
+      go : {t : Ty} → Refers f ts e (typeEntryAt f e) t → getElem? ts e ≡ some t → hasLayout t ≡ true → EntryFound ts table n e (shapeOf n t)
       go (to-none s) there h =
-          let is : layoutAt table e .kind ≡ kindOf s = kind there in
+          let is : valueAt table e .kind ≡ scalarKind s = kind there in
           a-scalar s is (omega (arith, kind-bounded s))
       go (to-vector s down found) there h =
-          let is : layoutAt table e .kind ≡ 7 = kind there in
+          let is : valueAt table e .kind ≡ 7 = kind there in
           of-parts (omega arith) (omega arith) (other-parts (λ q. omega arith) ∙ count there) (stride there)
           (entry-part there (λ q. omega arith) found (vector-sized _ s h))
       go (to-matrix s down found) there h =
-          let is : layoutAt table e .kind ≡ 8 = kind there in
+          let is : valueAt table e .kind ≡ 8 = kind there in
           of-parts (omega arith) (omega arith) (other-parts (λ q. omega arith) ∙ count there) (stride there)
           (column-part there h found (matrix-sized there h))
       go (to-array u down found) there h =
-          let is : layoutAt table e .kind ≡ 9 = kind there in
+          let is : valueAt table e .kind ≡ 9 = kind there in
           of-parts (omega arith) (omega arith) (other-parts (λ q. omega arith) ∙ count there) (stride there)
           (entry-part there (λ q. omega arith) found (array-sized _ u h))
       go (to-runtime u no-count down found) there h =
-          let is : layoutAt table e .kind ≡ 10 = kind there in
+          let is : valueAt table e .kind ≡ 10 = kind there in
           of-parts (omega arith) (omega arith) (runtime-parts is) (stride there)
           (entry-part there (λ q. omega arith) found (runtime-sized there))
       go (to-atomic s down found) there h =
-          an-atomic s (kind there) (rw (reference there) (site-inside site _ (scalar s) found))
-          (rw (reference there) (kind-there site _ (scalar s) found))
+          an-atomic s (kind there) (rw (reference there) (basis-inside basis _ (scalar s) found))
+          (rw (reference there) (kind-there basis _ (scalar s) found))
       go (to-members ms are within) there h = of-members _ _ ms (kind there)

@@ -12,7 +12,7 @@ use mathlib.Core.Path.{_≡_, refl, ap, _∙_}
 use native.Mathlib.Omega.{arith}
 use lib.ListN.{length, take, getElem?}
 use Rattle.wgsl.specs.Round.{limit}
-use Rattle.wgsl.specs.Types.{Ty, scalar, vector, matrix, array, runtime, atomic, struct, Members, no-more, isRuntime, isOpen}
+use Rattle.wgsl.specs.Types.{Ty, scalar, vector, matrix, array, runtime, atomic, struct, Members, no-more, isRuntime, isOpen, kindOf}
 use Rattle.wgsl.specs.Types as types
 use Rattle.wgsl.specs.Size.{isPresent, present, sizeOf, alignOf, hasLayout}
 use Rattle.wgsl.specs.Said.{good, refused}
@@ -25,14 +25,14 @@ use Rattle.wgsl.proofs.Said.{when-some, andThen-some}
 use Rattle.wgsl.proofs.Members.{member-has}
 use Rattle.wgsl.proofs.AtEntry.{Refers, to-none, to-vector, to-matrix, to-array, to-runtime, to-atomic, to-members}
 use Rattle.file.specs.Members.{memberBytes}
-use Rattle.layout_values.specs.declared.value.Layout.{Layout}
-use Rattle.layout_values.specs.Value.{kindOfType, partsOf, partStride, valueOf, layoutAt}
+use Rattle.layout_values.specs.declared.value.Value.{Value}
+use Rattle.layout_values.specs.Value.{partsOf, valueOf, valueAt}
 use Rattle.layout_values.proofs.Scalar.{kind-bounded}
-use Rattle.walk_trees.specs.Placed.{placedAt, Placeable, placedIn, Placeables}
-use Rattle.walk_shapes.specs.Site.{Site}
-use Rattle.walk_shapes.proofs.Sites.{site-inside, site-layout, site-well-formed, site-refers}
+use Rattle.walk_trees.specs.Slot.{slotAt, SlotAsks, slotIn, SlotsAsk}
+use Rattle.walk_shapes.specs.Basis.{Basis}
+use Rattle.walk_shapes.proofs.Basis.{basis-inside, basis-layout, basis-well-formed, basis-refers}
 use Rattle.walk_shapes.proofs.MemberRead.{Ruled, struct-ruled, first-ruled, rest-ruled, last-none, count-from, Read, read, first-placeable, first-start, first-end}
-use Rattle.walk_path.specs.declared.enter.Place.the-variants.{Entry}
+use Rattle.walk_path.specs.declared.enter.Stand.the-variants.{Entry}
 use Rattle.walk_path.specs.declared.enter.Entered.the-variants.{Into}
 use Rattle.walk_path.specs.Way.{sizeAt, Stands, at-entry, Standing, Enters}
 use Rattle.walk_path.proofs.Sizes.{step-inside, kind-there, inner-size}
@@ -42,22 +42,22 @@ use Rattle.walk_path.proofs.Parts.{stands-sound}
 
 -- of the members whose entries, each of so many bytes, begin at byte m; the one before them ended at `end`; x is their shape
 pub record MemberFound (ts : List Ty) (ms : List ℕ) (table : List (List ℕ)) (n long m end i : ℕ) (x : Shape) : Type 0 where
-  pub placeables : Placeables ms table long m end i
+  pub slots-ask : SlotsAsk ms table long m end i
   pub type : Ty
-  pub there : getElem? ts (placedIn ms table long m end i .ty) ≡ some type
+  pub there : getElem? ts (slotIn ms table long m end i .ty) ≡ some type
   pub laid : hasLayout type ≡ true
   pub sized : (isPresent (sizeOf type) ≡ true) ⊎ (isRuntime type ≡ true)
-  pub enters : (j : ℕ) → enter j x (member i) ≡ good (record { offset = placedIn ms table long m end i .start; shape = shapeOf n type })
+  pub enters : (j : ℕ) → enter j x (member i) ≡ good (record { offset = slotIn ms table long m end i .start; shape = shapeOf n type })
 
-module _ {f : List ℕ} {ts : List Ty} {ms : List ℕ} {table : List (List ℕ)} (site : Site f ts ms table) (n e : ℕ) where
+module _ {f : List ℕ} {ts : List Ty} {ms : List ℕ} {table : List (List ℕ)} (basis : Basis f ts ms table) (n e : ℕ) where
   -- ---- a member that is there
 
   first-found : {m lo : ℕ} {t : Ty} {others : Members} (z : ℕ) → Read f ts table e m t → Ruled (some lo) (types.member t (givenSize (memberEntryAt f m)) (givenAlign (memberEntryAt f m)) others) → MemberFound ts (memberBytes f) table n 12 (m * 12) lo 0 (fieldsOf n z (some lo) (types.member t (givenSize (memberEntryAt f m)) (givenAlign (memberEntryAt f m)) others))
-  unfolding Placeables placedIn placedAt hasLayout fieldsOf enter
+  unfolding SlotsAsk slotIn slotAt hasLayout fieldsOf enter
   first-found {m} {lo} {t} {others} z r x =
       let v = first-ruled x in
       record {
-        placeables = first-placeable r x;
+        slots-ask = first-placeable r x;
         type = t;
         there = r .there;
         laid = hold-both (isPresent (alignOf t)) (isOpen t || isPresent (sizeOf t)) (some-present (v .own-is)) (member-has t _ _ others v);
@@ -67,13 +67,13 @@ module _ {f : List ℕ} {ts : List Ty} {ms : List ℕ} {table : List (List ℕ)}
         enters = λ j. rw (first-start r x);
       }
 
-  later-found : (m end : ℕ) {i : ℕ} {offset : ℕ} {y rest : Shape} → Placeable (memberBytes f) table (m * 12) end → MemberFound ts (memberBytes f) table n 12 (suc m * 12) (placedAt (memberBytes f) table (m * 12) end .end) i rest → MemberFound ts (memberBytes f) table n 12 (m * 12) end (suc i) (field offset y rest)
-  unfolding Placeables placedIn enter
+  later-found : (m end : ℕ) {i : ℕ} {offset : ℕ} {y rest : Shape} → SlotAsks (memberBytes f) table (m * 12) end → MemberFound ts (memberBytes f) table n 12 (suc m * 12) (slotAt (memberBytes f) table (m * 12) end .end) i rest → MemberFound ts (memberBytes f) table n 12 (m * 12) end (suc i) (field offset y rest)
+  unfolding SlotsAsk slotIn enter
   later-found m end {i} {rest = rest} p x =
       let next : suc m * 12 ≡ m * 12 + 12 = omega arith in
-      let on : MemberFound ts (memberBytes f) table n 12 (m * 12 + 12) (placedAt (memberBytes f) table (m * 12) end .end) i rest = rw next at x in
+      let on : MemberFound ts (memberBytes f) table n 12 (m * 12 + 12) (slotAt (memberBytes f) table (m * 12) end .end) i rest = rw next at x in
       record {
-        placeables = (p, on .placeables);
+        slots-ask = (p, on .slots-ask);
         type = on .type;
         there = on .there;
         laid = on .laid;
@@ -90,7 +90,7 @@ module _ {f : List ℕ} {ts : List Ty} {ms : List ℕ} {table : List (List ℕ)}
       (λ (p : isPresent (sizeOf t) ≡ true).
       let next = first-end r x p in
       later-found m lo (first-placeable r x)
-      (rw next (later (placedAt (memberBytes f) table (m * 12) lo .end) i (rw next at (rest-ruled x)) (omega arith))))
+      (rw next (later (slotAt (memberBytes f) table (m * 12) lo .end) i (rw next at (rest-ruled x)) (omega arith))))
       (λ (p : (isLast others ≡ true) × (isRuntime t ≡ true)).
       absurd (omega (arith, last-none f (take e ts) c (suc m) others are (p .0) .0)))
       (first-ruled x .sized-or-last)
@@ -102,7 +102,7 @@ module _ {f : List ℕ} {ts : List Ty} {ms : List ℕ} {table : List (List ℕ)}
       let t = andThen-some _ _ (when-some _ _ are .1) in
       let rest = andThen-some _ _ (t .after) in
       let q = Option·some-injective _ _ (rest .after) in
-      let r = read site m (t .value) (omega arith) (t .first) in
+      let r = read basis m (t .value) (omega arith) (t .first) in
       rw (← q)
       (more-found c m lo z i (t .value) (rest .value) r (rest .first) (rw (← q) at x) h
       (λ lo′ i′ y g. found c (suc m) lo′ z i′ (rest .value) (rest .first) (omega arith) y g))
@@ -117,8 +117,8 @@ past n z (suc i) end (types.member t size align members) h j = past n z i _ memb
 
 -- ---- none outside a struct
 
-outside : (n i : ℕ) (t : Ty) → (kindOfType t ≡ 12 → ⊥) → (j : ℕ) → enter j (shapeOf n t) (member i) ≡ refused 11 j
-unfolding kindOfType shapeOf column enter
+outside : (n i : ℕ) (t : Ty) → (kindOf t ≡ 12 → ⊥) → (j : ℕ) → enter j (shapeOf n t) (member i) ≡ refused 11 j
+unfolding kindOf shapeOf column enter
 outside n i (scalar s) h j = refl
 outside n i (vector c s) h j = refl
 outside n i (matrix c r s) h j = refl
@@ -129,39 +129,39 @@ outside n i (struct c members) h j = absurd (h refl)
 
 -- ---- a member step at an entry
 
-module _ {f : List ℕ} {ts : List Ty} {ms : List ℕ} {table : List (List ℕ)} (site : Site f ts ms table) (n e : ℕ) where
+module _ {f : List ℕ} {ts : List Ty} {ms : List ℕ} {table : List (List ℕ)} (basis : Basis f ts ms table) (n e : ℕ) where
   module _ {members : Members} (there : getElem? ts e ≡ some (struct e members)) where
-    layout : layoutAt table e ≡ valueOf (typeEntryAt f e .reference) (struct e members)
-    layout = site-layout site e (struct e members) there
+    layout : valueAt table e ≡ valueOf (typeEntryAt f e .reference) (struct e members)
+    layout = basis-layout basis e (struct e members) there
 
-    count : layoutAt table e .count ≡ countOf members
+    count : valueAt table e .count ≡ countOf members
     unfolding valueOf partsOf
-    count = ap (λ (l : Layout). l .count) layout
+    count = ap (λ (l : Value). l .count) layout
 
-    reference : layoutAt table e .reference ≡ typeEntryAt f e .reference
+    reference : valueAt table e .reference ≡ typeEntryAt f e .reference
     unfolding valueOf
-    reference = ap (λ (l : Layout). l .reference) layout
+    reference = ap (λ (l : Value). l .reference) layout
 
-    stride : layoutAt table e .stride ≡ 12
-    unfolding valueOf partStride present memberEntryLength
-    stride = ap (λ (l : Layout). l .stride) layout
+    stride : valueAt table e .stride ≡ 12
+    unfolding valueOf partsOf present
+    stride = ap (λ (l : Value). l .stride) layout
 
   -- A struct's layout names its members.
-  struct-found : {t : Ty} → Refers f ts e (typeEntryAt f e) t → getElem? ts e ≡ some t → layoutAt table e .kind ≡ 12 → (i : ℕ) → i < layoutAt table e .count → MemberFound ts ms table n (layoutAt table e .stride) (layoutAt table e .reference * layoutAt table e .stride) 0 i (shapeOf n t)
-  unfolding kindOfType shapeOf
-  struct-found (to-none s) there is i h = absurd (omega (arith, kind-there site e (scalar s) there, kind-bounded s))
-  struct-found (to-vector s down below) there is i h = absurd (omega (arith, kind-there site e (vector _ s) there))
-  struct-found (to-matrix s down below) there is i h = absurd (omega (arith, kind-there site e (matrix _ _ s) there))
-  struct-found (to-array u down below) there is i h = absurd (omega (arith, kind-there site e (array _ u) there))
-  struct-found (to-runtime u none down below) there is i h = absurd (omega (arith, kind-there site e (runtime u) there))
-  struct-found (to-atomic s down below) there is i h = absurd (omega (arith, kind-there site e (atomic s) there))
+  struct-found : {t : Ty} → Refers f ts e (typeEntryAt f e) t → getElem? ts e ≡ some t → valueAt table e .kind ≡ 12 → (i : ℕ) → i < valueAt table e .count → MemberFound ts ms table n (valueAt table e .stride) (valueAt table e .reference * valueAt table e .stride) 0 i (shapeOf n t)
+  unfolding kindOf shapeOf
+  struct-found (to-none s) there is i h = absurd (omega (arith, kind-there basis e (scalar s) there, kind-bounded s))
+  struct-found (to-vector s down below) there is i h = absurd (omega (arith, kind-there basis e (vector _ s) there))
+  struct-found (to-matrix s down below) there is i h = absurd (omega (arith, kind-there basis e (matrix _ _ s) there))
+  struct-found (to-array u down below) there is i h = absurd (omega (arith, kind-there basis e (array _ u) there))
+  struct-found (to-runtime u none down below) there is i h = absurd (omega (arith, kind-there basis e (runtime u) there))
+  struct-found (to-atomic s down below) there is i h = absurd (omega (arith, kind-there basis e (atomic s) there))
   struct-found (to-members members are within) there is i h =
       let low : i < typeEntryAt f e .count = omega (arith, count there, count-from f (take e ts) (typeEntryAt f e .count) _ members are) in
-      rw (stride there, reference there, site .members-are)
-      (found site n e (typeEntryAt f e .count) (typeEntryAt f e .reference) 0 (extentOf n (struct e members)) i members are within
-      (struct-ruled e members (site-well-formed site e (struct e members) there)) low)
+      rw (stride there, reference there, basis .members-are)
+      (found basis n e (typeEntryAt f e .count) (typeEntryAt f e .reference) 0 (extentOf n (struct e members)) i members are within
+      (struct-ruled e members (basis-well-formed basis e (struct e members) there)) low)
 
-  struct-past : {t : Ty} → Refers f ts e (typeEntryAt f e) t → getElem? ts e ≡ some t → (i : ℕ) → layoutAt table e .count ≤ i → (j : ℕ) → enter j (shapeOf n t) (member i) ≡ refused 11 j
+  struct-past : {t : Ty} → Refers f ts e (typeEntryAt f e) t → getElem? ts e ≡ some t → (i : ℕ) → valueAt table e .count ≤ i → (j : ℕ) → enter j (shapeOf n t) (member i) ≡ refused 11 j
   unfolding shapeOf column enter
   struct-past (to-none s) there i h j = refl
   struct-past (to-vector s down below) there i h j = refl
@@ -171,33 +171,33 @@ module _ {f : List ℕ} {ts : List Ty} {ms : List ℕ} {table : List (List ℕ)}
   struct-past (to-atomic s down below) there i h j = refl
   struct-past (to-members members are within) there i h j = past n _ i (some 0) members (omega (arith, count there)) j
 
-module _ {f : List ℕ} {ts : List Ty} {ms : List ℕ} {table : List (List ℕ)} (site : Site f ts ms table) where
+module _ {f : List ℕ} {ts : List Ty} {ms : List ℕ} {table : List (List ℕ)} (basis : Basis f ts ms table) where
   -- Outside a struct there is no member,
-  pub member-outside : {n e : ℕ} {x : Shape} → Stands ts n (Entry e) x → (layoutAt table e .kind ≡ 12 → ⊥) → (i j : ℕ) → enter j x (member i) ≡ refused 11 j
-  member-outside {n} (at-entry {e} {t} there laid) h i j = outside n i t (λ q. h (kind-there site e t there ∙ q)) j
+  pub member-outside : {n e : ℕ} {x : Shape} → Stands ts n (Entry e) x → (valueAt table e .kind ≡ 12 → ⊥) → (i j : ℕ) → enter j x (member i) ≡ refused 11 j
+  member-outside {n} (at-entry {e} {t} there laid) h i j = outside n i t (λ q. h (kind-there basis e t there ∙ q)) j
 
   -- nor past the last one;
-  pub member-past : {n e : ℕ} {x : Shape} → Stands ts n (Entry e) x → (i : ℕ) → layoutAt table e .count ≤ i → (j : ℕ) → enter j x (member i) ≡ refused 11 j
-  member-past {n} (at-entry {e} {t} there laid) i h j = struct-past site n e (site-refers site e t there) there i h j
+  pub member-past : {n e : ℕ} {x : Shape} → Stands ts n (Entry e) x → (i : ℕ) → valueAt table e .count ≤ i → (j : ℕ) → enter j x (member i) ≡ refused 11 j
+  member-past {n} (at-entry {e} {t} there laid) i h j = struct-past basis n e (basis-refers basis e t there) there i h j
 
   -- any other is there.
-  pub member-found : {n e : ℕ} {x : Shape} → Stands ts n (Entry e) x → {l : Layout} → l ≡ layoutAt table e → l .kind ≡ 12 → (i : ℕ) → i < l .count → MemberFound ts ms table n (l .stride) (l .reference * l .stride) 0 i x
+  pub member-found : {n e : ℕ} {x : Shape} → Stands ts n (Entry e) x → {l : Value} → l ≡ valueAt table e → l .kind ≡ 12 → (i : ℕ) → i < l .count → MemberFound ts ms table n (l .stride) (l .reference * l .stride) 0 i x
   member-found {n} (at-entry {e} {t} there laid) same is i h =
-      rw same (struct-found site n e (site-refers site e t there) there (rw same at is) i (rw same at h))
+      rw same (struct-found basis n e (basis-refers basis e t there) there (rw same at is) i (rw same at h))
 
 -- What a walk finds of a member: its entry and the bytes of it, within the limit.
 module _ {f : List ℕ} {ts : List Ty} {ms : List ℕ} {table : List (List ℕ)} {n e : ℕ} {x : Shape} {long m i : ℕ} (s : Standing f ts ms table n (Entry e) x) (found : MemberFound ts ms table n long m 0 i x) where
-  pub found-inside : placedIn ms table long m 0 i .ty < length table
-  found-inside = site-inside (s .site) _ (found .type) (found .there)
+  pub found-inside : slotIn ms table long m 0 i .ty < length table
+  found-inside = basis-inside (s .basis) _ (found .type) (found .there)
 
-  found-size : sizeAt table n (placedIn ms table long m 0 i .ty) ≡ spanOf (shapeOf n (found .type))
-  found-size = inner-size (s .site) n _ (found .type) (found .there) (found .laid) (found .sized)
+  found-size : sizeAt table n (slotIn ms table long m 0 i .ty) ≡ spanOf (shapeOf n (found .type))
+  found-size = inner-size (s .basis) n _ (found .type) (found .there) (found .laid) (found .sized)
 
-  pub found-within : sizeAt table n (placedIn ms table long m 0 i .ty) ≤ limit
+  pub found-within : sizeAt table n (slotIn ms table long m 0 i .ty) ≤ limit
   found-within =
-      let inside = step-inside 0 x (member i) _ (stands-sound (s .site) (s .stands)) (found .enters 0) .1 in
+      let inside = step-inside 0 x (member i) _ (stands-sound (s .basis) (s .stands)) (found .enters 0) .1 in
       rw found-size (omega (arith, s .within))
 
-  pub found-enters : Enters ts n (Into (record { offset = placedIn ms table long m 0 i .start; size = sizeAt table n (placedIn ms table long m 0 i .ty); place = Entry (placedIn ms table long m 0 i .ty) })) x (member i)
+  pub found-enters : Enters ts n (Into (record { offset = slotIn ms table long m 0 i .start; size = sizeAt table n (slotIn ms table long m 0 i .ty); stand = Entry (slotIn ms table long m 0 i .ty) })) x (member i)
   unfolding Enters
   found-enters = (shapeOf n (found .type), at-entry (found .there) (found .laid), found-size, found .enters)

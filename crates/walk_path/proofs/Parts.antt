@@ -17,21 +17,21 @@ use Rattle.wgsl.specs.Size.{isPresent, present, widthOf, sizeOf, alignOf, hasLa
 use Rattle.wgsl.specs.Said.{good, refused}
 use Rattle.wgsl.specs.Place.{Shape, one, column, shapeOf, fieldsOf, spanOf}
 use Rattle.wgsl.specs.Path.{index, member, enter}
+use Rattle.wgsl.specs.Shapes.{Divides, Sound}
 use Rattle.wgsl.proofs.Absent.{both-hold, present-some, present-is}
 use Rattle.wgsl.proofs.Align.{width-power}
 use Rattle.wgsl.proofs.Path.{target}
-use Rattle.wgsl.proofs.Shape.{Divides, Sound}
-use Rattle.layout_values.specs.declared.value.Layout.{Layout}
-use Rattle.layout_values.specs.Value.{valueOf, layoutAt}
-use Rattle.walk_shapes.specs.Site.{Site}
-use Rattle.walk_shapes.proofs.Sites.{site-inside, site-layout}
-use Rattle.walk_path.specs.declared.enter.Place.{Place}
-use Rattle.walk_path.specs.declared.enter.Place.the-variants.{Entry, Column}
+use Rattle.layout_values.specs.declared.value.Value.{Value}
+use Rattle.layout_values.specs.Value.{valueOf, valueAt}
+use Rattle.walk_shapes.specs.Basis.{Basis}
+use Rattle.walk_shapes.proofs.Basis.{basis-inside, basis-layout}
+use Rattle.walk_path.specs.declared.enter.Stand.{Stand}
+use Rattle.walk_path.specs.declared.enter.Stand.the-variants.{Entry, Column}
 use Rattle.walk_path.specs.declared.enter.Entered.the-variants.{Into}
 use Rattle.walk_path.specs.Way.{sizeAt, partsAt, Parted, Stands, at-entry, at-column, Standing, Enters}
-use Rattle.said.specs.Target.{scalarIn}
+use Rattle.said.specs.Target.{kindIn}
 use Rattle.walk_path.proofs.Sizes.{step-inside, size-within, sound-at}
-use Rattle.walk_path.proofs.Entries.{Part, Found, a-scalar, an-atomic, of-parts, of-members, found}
+use Rattle.walk_path.proofs.Entries.{Part, EntryFound, a-scalar, an-atomic, of-parts, of-members, found}
 
 -- ---- where a walk stands
 
@@ -40,15 +40,15 @@ record InColumn (ts : List Ty) (table : List (List ℕ)) (n r e : ℕ) (x : Shap
   s : Scalar
   shape-is : x ≡ column r s
   there : e < length table
-  size-is : layoutAt table e .size ≡ present (widthOf s)
+  size-is : valueAt table e .size ≡ present (widthOf s)
   below : Stands ts n (Entry e) (one s)
 
-module _ {f : List ℕ} {ts : List Ty} {ms : List ℕ} {table : List (List ℕ)} (site : Site f ts ms table) where
+module _ {f : List ℕ} {ts : List Ty} {ms : List ℕ} {table : List (List ℕ)} (basis : Basis f ts ms table) where
   inside-of : {n e : ℕ} {x : Shape} → Stands ts n (Entry e) x → e < length table
-  inside-of (at-entry {e} {t} there has) = site-inside site e t there
+  inside-of (at-entry {e} {t} there has) = basis-inside basis e t there
 
-  found-of : {n e : ℕ} {x : Shape} → Stands ts n (Entry e) x → Found ts table n e x
-  found-of (at-entry there has) = found site _ _ there has
+  found-of : {n e : ℕ} {x : Shape} → Stands ts n (Entry e) x → EntryFound ts table n e x
+  found-of (at-entry there has) = found basis _ _ there has
 
   in-column : {n r e : ℕ} {x : Shape} → Stands ts n (Column r e) x → InColumn ts table n r e x
   unfolding valueOf sizeOf shapeOf
@@ -56,15 +56,15 @@ module _ {f : List ℕ} {ts : List Ty} {ms : List ℕ} {table : List (List ℕ)}
       record {
         s = s;
         shape-is = refl;
-        there = site-inside site e _ there;
-        size-is = ap (λ (l : Layout). l .size) (site-layout site e _ there);
+        there = basis-inside basis e _ there;
+        size-is = ap (λ (l : Value). l .size) (basis-layout basis e _ there);
         below = at-entry there has;
       }
 
   -- What a walk stands at is laid out soundly.
-  pub stands-sound : {n : ℕ} {p : Place} {x : Shape} → Stands ts n p x → Sound x
+  pub stands-sound : {n : ℕ} {p : Stand} {x : Shape} → Stands ts n p x → Sound x
   unfolding hasLayout alignOf column Sound spanOf Divides
-  stands-sound (at-entry there has) = sound-at site _ _ there has .0
+  stands-sound (at-entry there has) = sound-at basis _ _ there has .0
   stands-sound (at-column {s = s} there has) =
       let w = present-some (widthOf s) (both-hold (isPresent (widthOf s)) _ has .0) in
       let wide : present (widthOf s) ≡ w .0 = ap present (w .1) ∙ present-is (w .0) in
@@ -72,10 +72,10 @@ module _ {f : List ℕ} {ts : List Ty} {ms : List ℕ} {table : List (List ℕ)}
 
 module _ {f : List ℕ} {ts : List Ty} {ms : List ℕ} {table : List (List ℕ)} {n e : ℕ} {x : Shape} (at : Standing f ts ms table n (Entry e) x) where
   pub entry-inside : e < length table
-  entry-inside = inside-of (at .site) (at .stands)
+  entry-inside = inside-of (at .basis) (at .stands)
 
-  pub entry-found : Found ts table n e x
-  entry-found = found-of (at .site) (at .stands)
+  pub entry-found : EntryFound ts table n e x
+  entry-found = found-of (at .basis) (at .stands)
 
 -- ---- an entry without parts
 
@@ -85,7 +85,7 @@ members-no-index n z end no-more i j = refl
 members-no-index n z end (types.member t size align ms) i j = refl
 
 -- "index step on a struct, scalar or atomic"
-pub no-index : {ts : List Ty} {table : List (List ℕ)} {n e : ℕ} {x : Shape} → Found ts table n e x → (7 ≤ layoutAt table e .kind → layoutAt table e .kind ≤ 10 → ⊥) → (i j : ℕ) → enter j x (index i) ≡ refused 13 j
+pub no-index : {ts : List Ty} {table : List (List ℕ)} {n e : ℕ} {x : Shape} → EntryFound ts table n e x → (7 ≤ valueAt table e .kind → valueAt table e .kind ≤ 10 → ⊥) → (i j : ℕ) → enter j x (index i) ≡ refused 13 j
 unfolding enter
 no-index (a-scalar s is low) none i j = refl
 no-index (an-atomic s is lower below) none i j = refl
@@ -95,7 +95,7 @@ no-index (of-members z end ms is) none i j = members-no-index _ z end ms i j
 -- ---- the part of an entry
 
 -- "index not below the count"
-pub past-end : {ts : List Ty} {table : List (List ℕ)} {n e : ℕ} {x : Shape} → Found ts table n e x → 7 ≤ layoutAt table e .kind → layoutAt table e .kind ≤ 10 → (i : ℕ) → partsAt table n e ≤ i → (j : ℕ) → enter j x (index i) ≡ refused 12 j
+pub past-end : {ts : List Ty} {table : List (List ℕ)} {n e : ℕ} {x : Shape} → EntryFound ts table n e x → 7 ≤ valueAt table e .kind → valueAt table e .kind ≤ 10 → (i : ℕ) → partsAt table n e ≤ i → (j : ℕ) → enter j x (index i) ≡ refused 12 j
 unfolding enter
 past-end (a-scalar s is under) low high i h j = absurd (omega arith)
 past-end (an-atomic s is lower below) low high i h j = absurd (omega arith)
@@ -105,10 +105,10 @@ past-end (of-members z end ms is) low high i h j = absurd (omega arith)
 -- part i of entry e, of the shape x
 record Indexed (ts : List Ty) (table : List (List ℕ)) (n e i : ℕ) (x : Shape) : Type 0 where
   y : Shape
-  part : Part ts table n (layoutAt table e) y
-  enters : (j : ℕ) → enter j x (index i) ≡ good (record { offset = i * layoutAt table e .stride; shape = y })
+  part : Part ts table n (valueAt table e) y
+  enters : (j : ℕ) → enter j x (index i) ≡ good (record { offset = i * valueAt table e .stride; shape = y })
 
-indexed : {ts : List Ty} {table : List (List ℕ)} {n e i : ℕ} {x : Shape} → Found ts table n e x → Parted table n e i → Indexed ts table n e i x
+indexed : {ts : List Ty} {table : List (List ℕ)} {n e i : ℕ} {x : Shape} → EntryFound ts table n e x → Parted table n e i → Indexed ts table n e i x
 unfolding enter
 indexed (a-scalar s is under) has = absurd (omega (arith, has .low))
 indexed (an-atomic s is lower below) has = absurd (omega (arith, has .high))
@@ -122,31 +122,31 @@ module _ {f : List ℕ} {ts : List Ty} {ms : List ℕ} {table : List (List ℕ)}
   here = indexed (entry-found at) has
 
   -- it lies within the limit
-  inside : i * layoutAt table e .stride + spanOf (here .y) ≤ limit
+  inside : i * valueAt table e .stride + spanOf (here .y) ≤ limit
   inside =
-      let sound = stands-sound (at .site) (at .stands) in
-      omega (arith, step-inside 0 x (index i) (target (i * layoutAt table e .stride) (here .y)) sound (here .enters 0) .1, at .within)
+      let sound = stands-sound (at .basis) (at .stands) in
+      omega (arith, step-inside 0 x (index i) (target (i * valueAt table e .stride) (here .y)) sound (here .enters 0) .1, at .within)
 
   -- So the layout below is there, and the numbers that are worked out are within the limit.
-  pub part-inside : layoutAt table e .reference < length table
+  pub part-inside : valueAt table e .reference < length table
   part-inside = here .part .inside
 
-  pub part-offset : i * layoutAt table e .stride ≤ limit
+  pub part-offset : i * valueAt table e .stride ≤ limit
   part-offset = omega (arith, inside)
 
-  pub column-size : layoutAt table e .kind ≡ 8 → layoutAt table e .unit * layoutAt table (layoutAt table e .reference) .size ≤ limit
+  pub column-size : valueAt table e .kind ≡ 8 → valueAt table e .unit * valueAt table (valueAt table e .reference) .size ≤ limit
   column-size is = omega (arith, inside, here .part .as-column is .1)
 
-  pub part-size : (layoutAt table e .kind ≡ 8 → ⊥) → layoutAt table (layoutAt table e .reference) .kind ≡ 10 → n * layoutAt table (layoutAt table e .reference) .stride ≤ limit
-  part-size other = size-within table n (layoutAt table e .reference) (omega (arith, inside, here .part .as-entry other .1))
+  pub part-size : (valueAt table e .kind ≡ 8 → ⊥) → valueAt table (valueAt table e .reference) .kind ≡ 10 → n * valueAt table (valueAt table e .reference) .stride ≤ limit
+  part-size other = size-within table n (valueAt table e .reference) (omega (arith, inside, here .part .as-entry other .1))
 
   -- The step leads to a matrix's column,
-  pub column-enters : layoutAt table e .kind ≡ 8 → Enters ts n (Into (record { offset = i * layoutAt table e .stride; size = layoutAt table e .unit * layoutAt table (layoutAt table e .reference) .size; place = Column (layoutAt table e .unit) (layoutAt table e .reference) })) x (index i)
+  pub column-enters : valueAt table e .kind ≡ 8 → Enters ts n (Into (record { offset = i * valueAt table e .stride; size = valueAt table e .unit * valueAt table (valueAt table e .reference) .size; stand = Column (valueAt table e .unit) (valueAt table e .reference) })) x (index i)
   unfolding Enters
   column-enters is = (here .y, here .part .as-column is .0, here .part .as-column is .1, here .enters)
 
   -- and else to the entry below.
-  pub part-enters : (layoutAt table e .kind ≡ 8 → ⊥) → Enters ts n (Into (record { offset = i * layoutAt table e .stride; size = sizeAt table n (layoutAt table e .reference); place = Entry (layoutAt table e .reference) })) x (index i)
+  pub part-enters : (valueAt table e .kind ≡ 8 → ⊥) → Enters ts n (Into (record { offset = i * valueAt table e .stride; size = sizeAt table n (valueAt table e .reference); stand = Entry (valueAt table e .reference) })) x (index i)
   unfolding Enters
   part-enters other = (here .y, here .part .as-entry other .0, here .part .as-entry other .1, here .enters)
 
@@ -158,7 +158,7 @@ column-indexed r s i j h = rw (lt-ltb i r h)
 
 module _ {f : List ℕ} {ts : List Ty} {ms : List ℕ} {table : List (List ℕ)} {n r e : ℕ} {x : Shape} (at : Standing f ts ms table n (Column r e) x) where
   own : InColumn ts table n r e x
-  own = in-column (at .site) (at .stands)
+  own = in-column (at .basis) (at .stands)
 
   pub column-inside : e < length table
   column-inside = own .there
@@ -171,14 +171,14 @@ module _ {f : List ℕ} {ts : List Ty} {ms : List ℕ} {table : List (List ℕ)}
   unfolding enter column
   column-no-member i j = rw (own .shape-is)
 
-  pub scalar-offset : (i : ℕ) → i < r → i * layoutAt table e .size ≤ limit
+  pub scalar-offset : (i : ℕ) → i < r → i * valueAt table e .size ≤ limit
   unfolding column spanOf
   scalar-offset i h =
       let w : ℕ = present (widthOf (own .s)) in
       let span : r * w ≤ limit = rw (own .shape-is) at (at .within) in
       rw (own .size-is) (omega (arith, mul-le-mul-right w h, suc-mul i w))
 
-  pub scalar-enters : (i : ℕ) → i < r → Enters ts n (Into (record { offset = i * layoutAt table e .size; size = layoutAt table e .size; place = Entry e })) x (index i)
+  pub scalar-enters : (i : ℕ) → i < r → Enters ts n (Into (record { offset = i * valueAt table e .size; size = valueAt table e .size; stand = Entry e })) x (index i)
   unfolding Enters spanOf
   scalar-enters i h =
       let s : Scalar = own .s in (
@@ -189,36 +189,36 @@ module _ {f : List ℕ} {ts : List Ty} {ms : List ℕ} {table : List (List ℕ)}
             ∙ ap (λ (w : ℕ). good (target (i * w) (one s))) (sym (own .size-is)),
       )
 
-  pub column-no-scalar : scalarIn x ≡ 7
-  unfolding column scalarIn
+  pub column-no-scalar : kindIn x ≡ 7
+  unfolding column kindIn
   column-no-scalar = rw (own .shape-is)
 
 -- ---- the one scalar
 
-members-no-scalar : (n z : ℕ) (end : Option ℕ) (ms : Members) → scalarIn (fieldsOf n z end ms) ≡ 7
-unfolding scalarIn fieldsOf
+members-no-scalar : (n z : ℕ) (end : Option ℕ) (ms : Members) → kindIn (fieldsOf n z end ms) ≡ 7
+unfolding kindIn fieldsOf
 members-no-scalar n z end no-more = refl
 members-no-scalar n z end (types.member t size align ms) = refl
 
 -- A scalar's layout says its kind.
-pub its-scalar : {ts : List Ty} {table : List (List ℕ)} {n e : ℕ} {x : Shape} → Found ts table n e x → layoutAt table e .kind ≤ 6 → layoutAt table e .kind ≡ scalarIn x
-unfolding scalarIn
+pub its-scalar : {ts : List Ty} {table : List (List ℕ)} {n e : ℕ} {x : Shape} → EntryFound ts table n e x → valueAt table e .kind ≤ 6 → valueAt table e .kind ≡ kindIn x
+unfolding kindIn
 its-scalar (a-scalar s is under) low = is
 its-scalar (an-atomic s is lower below) low = absurd (omega arith)
 its-scalar (of-parts under over count stride part) low = absurd (omega arith)
 its-scalar (of-members z end ms is) low = absurd (omega arith)
 
 -- An atomic's layout refers to its scalar's.
-pub atomic-scalar : {ts : List Ty} {table : List (List ℕ)} {n e : ℕ} {x : Shape} → Found ts table n e x → layoutAt table e .kind ≡ 11 → (layoutAt table e .reference < length table) × (layoutAt table (layoutAt table e .reference) .kind ≡ scalarIn x)
-unfolding scalarIn
+pub atomic-scalar : {ts : List Ty} {table : List (List ℕ)} {n e : ℕ} {x : Shape} → EntryFound ts table n e x → valueAt table e .kind ≡ 11 → (valueAt table e .reference < length table) × (valueAt table (valueAt table e .reference) .kind ≡ kindIn x)
+unfolding kindIn
 atomic-scalar (a-scalar s is under) eleven = absurd (omega arith)
 atomic-scalar (an-atomic s is lower below) eleven = (lower, below)
 atomic-scalar (of-parts under over count stride part) eleven = absurd (omega arith)
 atomic-scalar (of-members z end ms is) eleven = absurd (omega arith)
 
 -- Parts and structs are no one scalar.
-pub no-scalar : {ts : List Ty} {table : List (List ℕ)} {n e : ℕ} {x : Shape} → Found ts table n e x → 6 < layoutAt table e .kind → (layoutAt table e .kind ≡ 11 → ⊥) → scalarIn x ≡ 7
-unfolding scalarIn
+pub no-scalar : {ts : List Ty} {table : List (List ℕ)} {n e : ℕ} {x : Shape} → EntryFound ts table n e x → 6 < valueAt table e .kind → (valueAt table e .kind ≡ 11 → ⊥) → kindIn x ≡ 7
+unfolding kindIn
 no-scalar (a-scalar s is under) high other = absurd (omega arith)
 no-scalar (an-atomic s is lower below) high other = absurd (other is)
 no-scalar (of-parts under over count stride part) high other = refl

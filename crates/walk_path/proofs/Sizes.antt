@@ -13,21 +13,21 @@ use native.Mathlib.Omega.{arith}
 use borrow.Author.Tests.{eq-eqb, ne-eqb}
 use lib.ListN.{getElem?}
 use Rattle.wgsl.specs.Round.{limit}
-use Rattle.wgsl.specs.Types.{Ty, scalar, vector, matrix, array, runtime, atomic, struct, isRuntime, isOpen}
+use Rattle.wgsl.specs.Types.{Ty, scalar, vector, matrix, array, runtime, atomic, struct, isRuntime, isOpen, kindOf}
 use Rattle.wgsl.specs.Size.{isPresent, present, sizeOf, alignOf, hasLayout}
 use Rattle.wgsl.specs.Said.{good, _>>=_}
 use Rattle.wgsl.specs.Place.{Shape, extentOf, shapeOf, spanOf}
 use Rattle.wgsl.specs.Path.{Step, Target, enter, walk}
+use Rattle.wgsl.specs.Shapes.{Sound}
 use Rattle.wgsl.proofs.Absent.{both-hold, true-not-false, some-not-none, present-some, present-is}
-use Rattle.wgsl.proofs.Shape.{Sound}
 use Rattle.wgsl.proofs.Path.{target, target-inside}
 use Rattle.wgsl.proofs.Tail.{runtime-unsized, sized-takes}
 use Rattle.wgsl.proofs.Laid.{laid}
-use Rattle.layout_values.specs.declared.value.Layout.{Layout}
-use Rattle.layout_values.specs.Value.{kindOfType, partStride, valueOf, layoutAt}
+use Rattle.layout_values.specs.declared.value.Value.{Value}
+use Rattle.layout_values.specs.Value.{partsOf, valueOf, valueAt}
 use Rattle.layout_values.proofs.Scalar.{kind-bounded}
-use Rattle.walk_shapes.specs.Site.{Site}
-use Rattle.walk_shapes.proofs.Sites.{site-layout, site-well-formed}
+use Rattle.walk_shapes.specs.Basis.{Basis}
+use Rattle.walk_shapes.proofs.Basis.{basis-layout, basis-well-formed}
 use Rattle.walk_path.specs.Way.{sizeAt}
 
 -- ---- a step
@@ -42,8 +42,8 @@ step-inside j x s t sound h =
 -- ---- kind 10
 
 -- Only a runtime array is of kind 10.
-pub ten-runtime : (t : Ty) → kindOfType t ≡ 10 → isRuntime t ≡ true
-unfolding kindOfType isRuntime
+pub ten-runtime : (t : Ty) → kindOf t ≡ 10 → isRuntime t ≡ true
+unfolding kindOf isRuntime
 ten-runtime (scalar s) e = absurd (omega (arith, kind-bounded s))
 ten-runtime (vector n s) e = absurd (omega arith)
 ten-runtime (matrix c r s) e = absurd (omega arith)
@@ -53,14 +53,14 @@ ten-runtime (atomic s) e = absurd (omega arith)
 ten-runtime (struct k ms) e = absurd (omega arith)
 
 -- Where the bytes of an entry are within the limit, the product that `size_at` works out is.
-pub size-within : (table : List (List ℕ)) (n e : ℕ) → sizeAt table n e ≤ limit → layoutAt table e .kind ≡ 10 → n * layoutAt table e .stride ≤ limit
+pub size-within : (table : List (List ℕ)) (n e : ℕ) → sizeAt table n e ≤ limit → valueAt table e .kind ≡ 10 → n * valueAt table e .stride ≤ limit
 unfolding sizeAt
-size-within table n e h is = rw (eq-eqb (layoutAt table e .kind) 10 is) at h
+size-within table n e h is = rw (eq-eqb (valueAt table e .kind) 10 is) at h
 
-module _ {f : List ℕ} {ts : List Ty} {ms : List ℕ} {table : List (List ℕ)} (site : Site f ts ms table) where
-  pub kind-there : (e : ℕ) (t : Ty) → getElem? ts e ≡ some t → layoutAt table e .kind ≡ kindOfType t
+module _ {f : List ℕ} {ts : List Ty} {ms : List ℕ} {table : List (List ℕ)} (basis : Basis f ts ms table) where
+  pub kind-there : (e : ℕ) (t : Ty) → getElem? ts e ≡ some t → valueAt table e .kind ≡ kindOf t
   unfolding valueOf
-  kind-there e t there = ap (λ (l : Layout). l .kind) (site-layout site e t there)
+  kind-there e t there = ap (λ (l : Value). l .kind) (basis-layout basis e t there)
 
   -- ---- the shape of an entry
 
@@ -70,7 +70,7 @@ module _ {f : List ℕ} {ts : List Ty} {ms : List ℕ} {table : List (List ℕ)}
   sound-at n e {t} there h =
       let has = both-hold (isPresent (alignOf t)) (isOpen t || isPresent (sizeOf t)) h in
       let a = present-some (alignOf t) (has .0) in
-      let x = laid n t (a .0) (site-well-formed site e t there) (a .1) (has .1) in
+      let x = laid n t (a .0) (basis-well-formed basis e t there) (a .1) (has .1) in
       (x .sound, x .span)
 
   -- ---- its bytes
@@ -79,21 +79,21 @@ module _ {f : List ℕ} {ts : List Ty} {ms : List ℕ} {table : List (List ℕ)}
   unfolding sizeAt valueOf
   sized-size n e t there p =
       let z = present-some (sizeOf t) p in
-      let other : layoutAt table e .kind ≡ 10 → ⊥ =
+      let other : valueAt table e .kind ≡ 10 → ⊥ =
       λ q. some-not-none (z .1) (runtime-unsized t (ten-runtime t (sym (kind-there e t there) ∙ q))) in
-      rw (ne-eqb (layoutAt table e .kind) 10 other)
-      (ap (λ (l : Layout). l .size) (site-layout site e t there) ∙ ap present (z .1) ∙ present-is (z .0)
-      ∙ sym (sized-takes n t (z .0) (site-well-formed site e t there) (z .1)))
+      rw (ne-eqb (valueAt table e .kind) 10 other)
+      (ap (λ (l : Value). l .size) (basis-layout basis e t there) ∙ ap present (z .1) ∙ present-is (z .0)
+      ∙ sym (sized-takes n t (z .0) (basis-well-formed basis e t there) (z .1)))
 
   runtime-size : (n e : ℕ) (t : Ty) → getElem? ts e ≡ some t → isRuntime t ≡ true → sizeAt table n e ≡ spanOf (shapeOf n t)
-  unfolding sizeAt valueOf partStride kindOfType isRuntime shapeOf spanOf
+  unfolding sizeAt valueOf partsOf kindOf isRuntime shapeOf spanOf
   runtime-size n e (scalar s) there q = true-not-false q refl
   runtime-size n e (vector c s) there q = true-not-false q refl
   runtime-size n e (matrix c r s) there q = true-not-false q refl
   runtime-size n e (array c t) there q = true-not-false q refl
   runtime-size n e (runtime t) there q =
-      rw (eq-eqb (layoutAt table e .kind) 10 (kind-there e (runtime t) there))
-      (ap (λ (l : Layout). n * l .stride) (site-layout site e (runtime t) there))
+      rw (eq-eqb (valueAt table e .kind) 10 (kind-there e (runtime t) there))
+      (ap (λ (l : Value). n * l .stride) (basis-layout basis e (runtime t) there))
   runtime-size n e (atomic s) there q = true-not-false q refl
   runtime-size n e (struct c m) there q = true-not-false q refl
 

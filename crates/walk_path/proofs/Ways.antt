@@ -14,7 +14,7 @@ use Rattle.wgsl.specs.Said.{good, refused, _>>=_}
 use Rattle.wgsl.specs.Place.{Shape, spanOf}
 use Rattle.wgsl.specs.Path.{Step, stepOf, enter, walk}
 use Rattle.wgsl.proofs.Path.{target}
-use Rattle.walk_path.specs.declared.enter.Place.{Place}
+use Rattle.walk_path.specs.declared.enter.Stand.{Stand}
 use Rattle.walk_path.specs.declared.enter.Inner.{Inner}
 use Rattle.walk_path.specs.declared.enter.Entered.the-variants.{Into}
 use Rattle.walk_path.specs.Way.{Standing, Enters}
@@ -26,18 +26,18 @@ use Rattle.walk_path.proofs.Parts.{stands-sound}
 -- what a step into i leads to from the shape x
 pub record Next (f : List ℕ) (ts : List Ty) (ms : List ℕ) (table : List (List ℕ)) (n : ℕ) (i : Inner) (x : Shape) (s : Step) : Type 0 where
   pub y : Shape
-  pub at : Standing f ts ms table n (i .place) y
+  pub at : Standing f ts ms table n (i .stand) y
   pub size-is : i .size ≡ spanOf y
   pub inside : i .offset + spanOf y ≤ spanOf x
   pub enters : (j : ℕ) → enter j x s ≡ good (target (i .offset) y)
 
-pub next : {f : List ℕ} {ts : List Ty} {ms : List ℕ} {table : List (List ℕ)} {n : ℕ} {p : Place} {x : Shape} {i : Inner} {s : Step} → Standing f ts ms table n p x → Enters ts n (Into i) x s → Next f ts ms table n i x s
+pub next : {f : List ℕ} {ts : List Ty} {ms : List ℕ} {table : List (List ℕ)} {n : ℕ} {p : Stand} {x : Shape} {i : Inner} {s : Step} → Standing f ts ms table n p x → Enters ts n (Into i) x s → Next f ts ms table n i x s
 unfolding Enters
 next {x = x} {i = i} {s = s} at (y, stands, size, enters) =
-    let inside = step-inside 0 x s (target (i .offset) y) (stands-sound (at .site) (at .stands)) (enters 0) .1 in
+    let inside = step-inside 0 x s (target (i .offset) y) (stands-sound (at .basis) (at .stands)) (enters 0) .1 in
     record {
       y = y;
-      at = record { site = at .site; stands = stands; within = omega (arith, at .within) };
+      at = record { basis = at .basis; stands = stands; within = omega (arith, at .within) };
       size-is = size;
       inside = inside;
       enters = enters;

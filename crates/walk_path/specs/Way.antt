@@ -1,4 +1,4 @@
--- Where a walk stands, and what a step leads to, by the table of an accepted file (crates/shapes, specs/Site).
+-- Where a walk stands, and what a step leads to, by the table of an accepted file (crates/shapes, specs/Basis).
 --
 -- In order: what a layout says; a place and its shape; what a step leads to.
 -- Definitions only. Assumes nothing.
@@ -15,10 +15,10 @@ use Rattle.wgsl.specs.Size.{hasLayout}
 use Rattle.wgsl.specs.Said.{good, refused}
 use Rattle.wgsl.specs.Place.{Shape, column, shapeOf, spanOf}
 use Rattle.wgsl.specs.Path.{Step, enter}
-use Rattle.layout_values.specs.Value.{layoutAt}
-use Rattle.walk_shapes.specs.Site.{Site}
-use Rattle.walk_path.specs.declared.enter.Place.{Place}
-use Rattle.walk_path.specs.declared.enter.Place.the-variants.{Entry, Column}
+use Rattle.layout_values.specs.Value.{valueAt}
+use Rattle.walk_shapes.specs.Basis.{Basis}
+use Rattle.walk_path.specs.declared.enter.Stand.{Stand}
+use Rattle.walk_path.specs.declared.enter.Stand.the-variants.{Entry, Column}
 use Rattle.walk_path.specs.declared.enter.Entered.{Entered}
 use Rattle.walk_path.specs.declared.enter.Entered.the-variants.{Into, NoMember, PastEnd, NoIndex}
 
@@ -26,27 +26,27 @@ use Rattle.walk_path.specs.declared.enter.Entered.the-variants.{Into, No
 
 -- the bytes of entry e, which is no open struct
 unfoldable pub sizeAt : List (List ℕ) → ℕ → ℕ → ℕ
-sizeAt table n e = cond (eqb (layoutAt table e .kind) 10) (n * layoutAt table e .stride) (layoutAt table e .size)
+sizeAt table n e = cond (eqb (valueAt table e .kind) 10) (n * valueAt table e .stride) (valueAt table e .size)
 
 -- the parts of entry e: a vector's scalars, a matrix's columns, an array's elements
 unfoldable pub partsAt : List (List ℕ) → ℕ → ℕ → ℕ
-partsAt table n e = cond (eqb (layoutAt table e .kind) 10) n (layoutAt table e .count)
+partsAt table n e = cond (eqb (valueAt table e .kind) 10) n (valueAt table e .count)
 
 -- entry e has parts, number i among them
 pub record Parted (table : List (List ℕ)) (n e i : ℕ) : Type 0 where
-  pub low : 7 ≤ layoutAt table e .kind
-  pub high : layoutAt table e .kind ≤ 10
+  pub low : 7 ≤ valueAt table e .kind
+  pub high : valueAt table e .kind ≤ 10
   pub inside : i < partsAt table n e
 
 -- ---- a place and its shape
 
 -- "A matrix column has no entry, so a place is either an entry or a column of rows and scalar."
-pub data Stands (ts : List Ty) (n : ℕ) : Place → Shape → Type 0 where
+pub data Stands (ts : List Ty) (n : ℕ) : Stand → Shape → Type 0 where
   at-entry : {e : ℕ} {t : Ty} → getElem? ts e ≡ some t → hasLayout t ≡ true → Stands ts n (Entry e) (shapeOf n t)
   at-column : {r e : ℕ} {s : Scalar} → getElem? ts e ≡ some (scalar s) → hasLayout (scalar s) ≡ true → Stands ts n (Column r e) (column r s)
 
-pub record Standing (f : List ℕ) (ts : List Ty) (ms : List ℕ) (table : List (List ℕ)) (n : ℕ) (p : Place) (x : Shape) : Type 0 where
-  pub site : Site f ts ms table
+pub record Standing (f : List ℕ) (ts : List Ty) (ms : List ℕ) (table : List (List ℕ)) (n : ℕ) (p : Stand) (x : Shape) : Type 0 where
+  pub basis : Basis f ts ms table
   pub stands : Stands ts n p x
   pub within : spanOf x ≤ limit
 
@@ -55,7 +55,7 @@ pub record Standing (f : List ℕ) (ts : List Ty) (ms : List ℕ) (table : List 
 -- entering the shape x by the step s, wherever it stands in the path: a place, or 11, 12 or 13
 unfoldable pub Enters : List Ty → ℕ → Entered → Shape → Step → Type 0
 Enters ts n (Into i) x s =
-    (y : Shape) × Stands ts n (i .place) y × (i .size ≡ spanOf y) × ((j : ℕ) → enter j x s ≡ good (record { offset = i .offset; shape = y }))
+    (y : Shape) × Stands ts n (i .stand) y × (i .size ≡ spanOf y) × ((j : ℕ) → enter j x s ≡ good (record { offset = i .offset; shape = y }))
 Enters ts n NoMember x s = (j : ℕ) → enter j x s ≡ refused 11 j
 Enters ts n PastEnd x s = (j : ℕ) → enter j x s ≡ refused 12 j
 Enters ts n NoIndex x s = (j : ℕ) → enter j x s ≡ refused 13 j

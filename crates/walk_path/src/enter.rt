@@ -1,7 +1,7 @@
 // Entering a place by a step.
 use crate::step::Step;
-use layout_values::value::Value;
-use layout_values::value::layout_at;
+use layout_values::value::Row;
+use layout_values::value::value_at;
 use numbers::wide::wide;
 use walk_trees::member_in;
 ghost use mathlib.Core.Path.{_≡_};
@@ -12,15 +12,15 @@ ghost use Rattle.wgsl.specs.Round.{limit};
 ghost use Rattle.wgsl.specs.Types.{Ty};
 ghost use Rattle.wgsl.specs.Place.{Shape};
 ghost use Rattle.wgsl.specs.Path.{index, member};
-ghost use Rattle.layout_values.specs.Value.{layoutAt};
-ghost use Rattle.walk_path.specs.declared.enter.Place.the-variants.{Entry, Column};
+ghost use Rattle.layout_values.specs.Value.{valueAt};
+ghost use Rattle.walk_path.specs.declared.enter.Stand.the-variants.{Entry, Column};
 ghost use Rattle.walk_path.specs.declared.enter.Entered.the-variants.{Into};
 ghost use Rattle.walk_path.specs.Step.{stepIs};
 ghost use Rattle.walk_path.specs.Way.{sizeAt, partsAt, Standing, Parted, Enters};
-ghost use Rattle.said.specs.Target.{scalarIn};
+ghost use Rattle.said.specs.Target.{kindIn};
 
 // Where a walk stands: at an entry, or at a matrix's column of so many rows over the entry of its scalar, since a column has no entry.
-pub enum Place {
+pub enum Stand {
     Entry(usize),
     Column(u32, usize),
 }
@@ -29,7 +29,7 @@ pub enum Place {
 pub struct Inner {
     pub offset: usize,
     pub size: usize,
-    pub place: Place,
+    pub stand: Stand,
 }
 
 pub enum Entered {
@@ -41,11 +41,11 @@ pub enum Entered {
 }
 
 // The bytes of entry `e`, which is no open struct. A runtime array has `n` elements.
-fn size_at(table: &[Value], n: usize, e: usize) -> usize
-    requires { ⌜ (e < length (now table)) × (layoutAt (now table) e .kind ≡ 10 → n * layoutAt (now table) e .stride ≤ limit) ⌝ }
+fn size_at(table: &[Row], n: usize, e: usize) -> usize
+    requires { ⌜ (e < length (now table)) × (valueAt (now table) e .kind ≡ 10 → n * valueAt (now table) e .stride ≤ limit) ⌝ }
     ensures { λ r. ⌜ r ≡ sizeAt (now (table .entry)) n e ⌝ }
 {
-    let r = layout_at(table, e);
+    let r = value_at(table, e);
     if r.kind == 10 {
         return n * wide(r.stride);
     }
@@ -53,23 +53,23 @@ fn size_at(table: &[Value], n: usize, e: usize) -> usize
 }
 
 // Entry `e` as what a step leads to.
-fn into_entry(table: &[Value], n: usize, e: usize, offset: usize) -> Entered
-    requires { ⌜ (e < length (now table)) × (layoutAt (now table) e .kind ≡ 10 → n * layoutAt (now table) e .stride ≤ limit) ⌝ }
-    ensures { λ r. ⌜ r ≡ Into (record { offset = offset; size = sizeAt (now (table .entry)) n e; place = Entry e }) ⌝ }
+fn into_entry(table: &[Row], n: usize, e: usize, offset: usize) -> Entered
+    requires { ⌜ (e < length (now table)) × (valueAt (now table) e .kind ≡ 10 → n * valueAt (now table) e .stride ≤ limit) ⌝ }
+    ensures { λ r. ⌜ r ≡ Into (record { offset = offset; size = sizeAt (now (table .entry)) n e; stand = Entry e }) ⌝ }
 {
     Entered::Into(Inner {
         offset,
         size: size_at(table, n, e),
-        place: Place::Entry(e),
+        stand: Stand::Entry(e),
     })
 }
 
 // A member step at entry `e`.
-fn enter_member(members: &[u8], table: &[Value], n: usize, e: usize, number: u32) -> Entered
+fn enter_member(members: &[u8], table: &[Row], n: usize, e: usize, number: u32) -> Entered
     requires { ⌜ ((f : List ℕ) × (ts : List Ty) × (x : Shape) × Standing f ts (now members) (now table) n (Entry e) x) ⌝ }
     ensures { λ r. ⌜ ((f : List ℕ) (ts : List Ty) (x : Shape) → Standing f ts (now (members .entry)) (now (table .entry)) n (Entry e) x → Enters ts n r x (member number)) ⌝ }
 {
-    let r = layout_at(table, e);
+    let r = value_at(table, e);
     if r.kind != 12 {
         return Entered::NoMember;
     }
@@ -81,11 +81,11 @@ fn enter_member(members: &[u8], table: &[Value], n: usize, e: usize, number: u32
 }
 
 // How many parts entry `e` has. A runtime array has `n` elements.
-fn parts_at(table: &[Value], n: usize, e: usize) -> usize
+fn parts_at(table: &[Row], n: usize, e: usize) -> usize
     requires { ⌜ e < length (now table) ⌝ }
     ensures { λ r. ⌜ r ≡ partsAt (now (table .entry)) n e ⌝ }
 {
-    let r = layout_at(table, e);
+    let r = value_at(table, e);
     if r.kind == 10 {
         return n;
     }
@@ -93,29 +93,29 @@ fn parts_at(table: &[Value], n: usize, e: usize) -> usize
 }
 
 // A part that is there: a vector's scalar, a matrix's column, an array's element.
-fn enter_part(table: &[Value], n: usize, e: usize, number: u32) -> Entered
+fn enter_part(table: &[Row], n: usize, e: usize, number: u32) -> Entered
     requires { ⌜ ((f : List ℕ) × (ts : List Ty) × (ms : List ℕ) × (x : Shape) × Standing f ts ms (now table) n (Entry e) x × Parted (now table) n e number) ⌝ }
     ensures { λ r. ⌜ ((f : List ℕ) (ts : List Ty) (ms : List ℕ) (x : Shape) → Standing f ts ms (now (table .entry)) n (Entry e) x → Parted (now (table .entry)) n e number → Enters ts n r x (index number)) ⌝ }
 {
-    let r = layout_at(table, e);
+    let r = value_at(table, e);
     let offset = wide(number) * wide(r.stride);
     let below = wide(r.reference);
     if r.kind == 8 {
         return Entered::Into(Inner {
             offset,
-            size: wide(r.unit) * wide(layout_at(table, below).size),
-            place: Place::Column(r.unit, below),
+            size: wide(r.unit) * wide(value_at(table, below).size),
+            stand: Stand::Column(r.unit, below),
         });
     }
     into_entry(table, n, below, offset)
 }
 
 // An index step at entry `e`: vectors, matrices and arrays have parts.
-fn enter_index(table: &[Value], n: usize, e: usize, number: u32) -> Entered
+fn enter_index(table: &[Row], n: usize, e: usize, number: u32) -> Entered
     requires { ⌜ ((f : List ℕ) × (ts : List Ty) × (ms : List ℕ) × (x : Shape) × Standing f ts ms (now table) n (Entry e) x) ⌝ }
     ensures { λ r. ⌜ ((f : List ℕ) (ts : List Ty) (ms : List ℕ) (x : Shape) → Standing f ts ms (now (table .entry)) n (Entry e) x → Enters ts n r x (index number)) ⌝ }
 {
-    let kind = layout_at(table, e).kind;
+    let kind = value_at(table, e).kind;
     if kind < 7 {
         return Entered::NoIndex;
     }
@@ -129,35 +129,35 @@ fn enter_index(table: &[Value], n: usize, e: usize, number: u32) -> Entered
 }
 
 // An index step at a column of `count` rows over the scalar's entry `e`.
-fn enter_column(table: &[Value], count: u32, e: usize, number: u32) -> Entered
+fn enter_column(table: &[Row], count: u32, e: usize, number: u32) -> Entered
     requires { ⌜ ((f : List ℕ) × (ts : List Ty) × (ms : List ℕ) × (n : ℕ) × (x : Shape) × Standing f ts ms (now table) n (Column count e) x) ⌝ }
     ensures { λ r. ⌜ ((f : List ℕ) (ts : List Ty) (ms : List ℕ) (n : ℕ) (x : Shape) → Standing f ts ms (now (table .entry)) n (Column count e) x → Enters ts n r x (index number)) ⌝ }
 {
     if count <= number {
         return Entered::PastEnd;
     }
-    let width = wide(layout_at(table, e).size);
+    let width = wide(value_at(table, e).size);
     Entered::Into(Inner {
         offset: wide(number) * width,
         size: width,
-        place: Place::Entry(e),
+        stand: Stand::Entry(e),
     })
 }
 
 // What a step leads to from a place.
-pub fn enter(members: &[u8], table: &[Value], n: usize, p: Place, s: Step) -> Entered
+pub fn enter(members: &[u8], table: &[Row], n: usize, p: Stand, s: Step) -> Entered
     requires { ⌜ ((f : List ℕ) × (ts : List Ty) × (x : Shape) × Standing f ts (now members) (now table) n p x) ⌝ }
     ensures { λ r. ⌜ ((f : List ℕ) (ts : List Ty) (x : Shape) → Standing f ts (now (members .entry)) (now (table .entry)) n p x → Enters ts n r x (stepIs s)) ⌝ }
 {
     let number = s.number;
     match p {
-        Place::Entry(e) => {
+        Stand::Entry(e) => {
             if s.member {
                 return enter_member(members, table, n, e, number);
             }
             enter_index(table, n, e, number)
         }
-        Place::Column(count, e) => {
+        Stand::Column(count, e) => {
             if s.member {
                 return Entered::NoMember;
             }
@@ -167,21 +167,21 @@ pub fn enter(members: &[u8], table: &[Value], n: usize, p: Place, s: Step) -> En
 }
 
 // The kind of the one scalar that a place is; 7 where it is none.
-pub fn scalar_in(table: &[Value], p: Place) -> u32
+pub fn kind_in(table: &[Row], p: Stand) -> u32
     requires { ⌜ ((f : List ℕ) × (ts : List Ty) × (ms : List ℕ) × (n : ℕ) × (x : Shape) × Standing f ts ms (now table) n p x) ⌝ }
-    ensures { λ r. ⌜ ((f : List ℕ) (ts : List Ty) (ms : List ℕ) (n : ℕ) (x : Shape) → Standing f ts ms (now (table .entry)) n p x → r ≡ scalarIn x) ⌝ }
+    ensures { λ r. ⌜ ((f : List ℕ) (ts : List Ty) (ms : List ℕ) (n : ℕ) (x : Shape) → Standing f ts ms (now (table .entry)) n p x → r ≡ kindIn x) ⌝ }
 {
     match p {
-        Place::Entry(e) => {
-            let r = layout_at(table, e);
+        Stand::Entry(e) => {
+            let r = value_at(table, e);
             if r.kind <= 6 {
                 return r.kind;
             }
             if r.kind == 11 {
-                return layout_at(table, wide(r.reference)).kind;
+                return value_at(table, wide(r.reference)).kind;
             }
             7
         }
-        Place::Column(_, _) => 7,
+        Stand::Column(_, _) => 7,
     }
 }

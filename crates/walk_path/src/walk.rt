@@ -1,10 +1,10 @@
 // Walking a path.
 use crate::enter::Entered;
-use crate::enter::Place;
+use crate::enter::Stand;
 use crate::enter::enter;
-use crate::enter::scalar_in;
+use crate::enter::kind_in;
 use crate::step::step_of;
-use layout_values::value::Value;
+use layout_values::value::Row;
 use said::refusal::Refusal;
 use said::target::Target;
 use said::target::Walked;
@@ -23,9 +23,9 @@ ghost use Rattle.said.specs.Target.{saidWalked, reached};
 // The steps from number `k` on, from a place that lies at `offset` and has `size` bytes. An open type has `n` elements.
 pub fn walk(
     members: &[u8],
-    table: &[Value],
+    table: &[Row],
     n: usize,
-    p: Place,
+    p: Stand,
     size: usize,
     path: &[u32],
     k: usize,
@@ -38,12 +38,12 @@ pub fn walk(
         return Walked::To(Target {
             offset,
             size,
-            scalar: scalar_in(table, p),
+            scalar: kind_in(table, p),
         });
     }
     match enter(members, table, n, p, step_of(path[k])) {
         Entered::Into(i) => {
-            let next = i.place;
+            let next = i.stand;
             walk(
                 members,
                 table,

@@ -25,7 +25,7 @@ use Rattle.layout_values.specs.Value.{fixedWords}
 -- ---- where a struct's runtime array begins
 
 first-within : (o : Option ℕ) (os : List (Option ℕ)) → withinLimits (o ∷ os) ≡ true → present o ≤ limit
-unfolding withinLimits withinLimit present limit
+unfolding withinLimits withinLimit present
 first-within (some n) os e = leb-true n limit (both-hold (leb n limit) (withinLimits os) e .0)
 first-within none os e = omega arith
 
@@ -57,7 +57,7 @@ tail-within (member t size align ms) end before tail h w e =
 -- ---- bytes
 
 offset-within : (t : Ty) (tail : Tail) → everywhere isWellFormed t ≡ true → tailOf t ≡ some tail → tail .offset ≤ limit
-unfolding tailOf fitsLimit numbersOf innerNumbersOf present limit
+unfolding tailOf fitsLimit numbersOf innerNumbersOf present
 offset-within (scalar s) tail w e = some-not-none e refl
 offset-within (vector n s) tail w e = some-not-none e refl
 offset-within (matrix c r s) tail w e = some-not-none e refl
@@ -70,7 +70,7 @@ offset-within (struct k ms) tail w e =
     (rest-within (minSizeOf t) _ (rest-within (alignOf t) _ (rest-within (sizeOf t) _ (passed t w .fits)))) e
 
 pub extent-within : (t : Ty) → everywhere isWellFormed t ≡ true → extentOf 0 t ≤ limit
-unfolding extentOf extentBy present numbersOf limit
+unfolding extentOf extentBy present numbersOf
 extent-within t w = go (tailOf t) refl (sizeOf t) refl
   where
     go : (o : Option Tail) → tailOf t ≡ o → (z : Option ℕ) → sizeOf t ≡ z → extentBy 0 z o ≤ limit
@@ -82,7 +82,7 @@ extent-within t w = go (tailOf t) refl (sizeOf t) refl
 
 -- Each takes at least 2 bytes.
 pub fixed-counted : (t : Ty) → everywhere isWellFormed t ≡ true → fixedWords t ≤ 4294967295
-unfolding fixedWords hasLayout limit
+unfolding fixedWords hasLayout
 fixed-counted t w = go (hasLayout t) refl
   where
     go : (b : Bool) → hasLayout t ≡ b → cond b (wordCount 0 t) 0 ≤ 4294967295

@@ -12,16 +12,16 @@ use Rattle.wgsl.specs.Types.{Ty, array, runtime, struct, Members, isOpen, every
 use Rattle.wgsl.specs.Size.{both, isPresent, present, sizeOf, alignOf, strideOf, hasLayout, isPlain, isStorable}
 use Rattle.wgsl.specs.Rule.{isWellFormed}
 use Rattle.wgsl.specs.Place.{extentOf, shapeOf, fieldsOf, spanOf}
+use Rattle.wgsl.specs.Shapes.{Sound, shapeWords}
 use Rattle.wgsl.proofs.Absent.{both-hold, hold-both, present-some, some-present, both-some}
 use Rattle.wgsl.proofs.Round.{up-not-below}
 use Rattle.wgsl.proofs.Power.{power-positive}
 use Rattle.wgsl.proofs.Passed.{array-passed, runtime-passed}
 use Rattle.wgsl.proofs.Align.{align-power}
-use Rattle.wgsl.proofs.Shape.{Sound}
 use Rattle.wgsl.proofs.Tail.{sized-closed, sized-has, sized-takes}
 use Rattle.wgsl.proofs.Closed.{closed-shape}
 use Rattle.wgsl.proofs.Laid.{Laid, laid}
-use Rattle.wgsl.proofs.Count.{words, count-words}
+use Rattle.wgsl.proofs.Count.{count-words}
 use Rattle.layout_values.specs.Value.{fixedWords}
 use Rattle.walk_shapes.proofs.MemberRead.{Ruled, struct-ruled}
 
@@ -46,7 +46,7 @@ unfolding hasLayout
 kept-layout {t} k = hold-both (isPresent (alignOf t)) (isOpen t || isPresent (sizeOf t)) (some-present (k .aligned-is)) (k .has)
 
 -- Its words are those of its shape.
-pub kept-words : {t : Ty} → Kept t → fixedWords t ≡ words (shapeOf 0 t)
+pub kept-words : {t : Ty} → Kept t → fixedWords t ≡ shapeWords (shapeOf 0 t)
 unfolding fixedWords
 kept-words {t} k = rw (kept-layout k) (count-words 0 t)
 

@@ -19,8 +19,8 @@ use Rattle.wgsl.proofs.Absent.{both-hold}
 use Rattle.wgsl.proofs.Said.{when-some, andThen-some}
 use Rattle.wgsl.proofs.Opened.{lastOf}
 use Rattle.file.specs.Members.{memberBytes}
-use Rattle.walk_trees.specs.Placed.{placedAt, Placeable, placedIn, Placeables}
-use Rattle.walk_shapes.specs.Site.{Site}
+use Rattle.walk_trees.specs.Slot.{slotAt, SlotAsks, slotIn, SlotsAsk}
+use Rattle.walk_shapes.specs.Basis.{Basis}
 use Rattle.walk_shapes.proofs.MemberRead.{Ruled, first-ruled, rest-ruled, last-none, Read, read, first-placeable, first-start, first-end}
 
 -- A test that holds of every type within the members holds of every type within the last one.
@@ -35,34 +35,34 @@ last-everywhere p before (member t size align ms) b h =
 
 -- member c of those from number m on, the last of ns, is a runtime array of elements of the type u
 pub record Last (f : List ℕ) (ts : List Ty) (table : List (List ℕ)) (c m lo : ℕ) (ns : Members) (u : Ty) : Type 0 where
-  pub placeables : Placeables (memberBytes f) table 12 (m * 12) lo c
-  pub there : getElem? ts (placedIn (memberBytes f) table 12 (m * 12) lo c .ty) ≡ some (runtime u)
-  pub tail-is : (before : Option Tail) → membersTail before (some lo) ns ≡ some (record { offset = placedIn (memberBytes f) table 12 (m * 12) lo c .start; stride = present (strideOf u) })
+  pub slots-ask : SlotsAsk (memberBytes f) table 12 (m * 12) lo c
+  pub there : getElem? ts (slotIn (memberBytes f) table 12 (m * 12) lo c .ty) ≡ some (runtime u)
+  pub tail-is : (before : Option Tail) → membersTail before (some lo) ns ≡ some (record { offset = slotIn (memberBytes f) table 12 (m * 12) lo c .start; stride = present (strideOf u) })
 
-module _ {f : List ℕ} {ts : List Ty} {ms : List ℕ} {table : List (List ℕ)} (site : Site f ts ms table) (e : ℕ) where
+module _ {f : List ℕ} {ts : List Ty} {ms : List ℕ} {table : List (List ℕ)} (basis : Basis f ts ms table) (e : ℕ) where
   tail-at : (start : Option ℕ) (t u : Ty) (a : ℕ) → t ≡ runtime u → a ≡ present start → tailAt start t ≡ some (record { offset = a; stride = present (strideOf u) })
   unfolding tailAt
   tail-at start t u a is e = rw (is, e)
 
   last-here : (m lo : ℕ) (t u : Ty) → Read f ts table e m t → t ≡ runtime u → Ruled (some lo) (member t (givenSize (memberEntryAt f m)) (givenAlign (memberEntryAt f m)) no-more) → Last f ts table 0 m lo (member t (givenSize (memberEntryAt f m)) (givenAlign (memberEntryAt f m)) no-more) u
-  unfolding Placeables placedIn placedAt membersTail
+  unfolding SlotsAsk slotIn slotAt membersTail
   last-here m lo t u r is x =
       let start = first-start r x in
       record {
-        placeables = first-placeable r x;
+        slots-ask = first-placeable r x;
         there = r .there ∙ ap some is;
         tail-is = λ before. tail-at (memberStart (some lo) (givenAlign (memberEntryAt f m)) (alignOf t)) t u _ is start;
       }
 
   last-more : (c m lo : ℕ) (t u : Ty) (ns : Members) → Read f ts table e m t → isPresent (sizeOf t) ≡ true → Ruled (some lo) (member t (givenSize (memberEntryAt f m)) (givenAlign (memberEntryAt f m)) ns) → ((lo′ : ℕ) → Ruled (some lo′) ns → Last f ts table c (suc m) lo′ ns u) → Last f ts table (suc c) m lo (member t (givenSize (memberEntryAt f m)) (givenAlign (memberEntryAt f m)) ns) u
-  unfolding Placeables placedIn membersTail
+  unfolding SlotsAsk slotIn membersTail
   last-more c m lo t u ns r sized x more =
-      let end : ℕ = placedAt (memberBytes f) table (m * 12) lo .end in
+      let end : ℕ = slotAt (memberBytes f) table (m * 12) lo .end in
       let next = first-end r x sized in
       let y = more end (rw next at (rest-ruled x)) in
       let byte : suc m * 12 ≡ m * 12 + 12 = omega arith in
       record {
-        placeables = (first-placeable r x, rw byte at (y .placeables));
+        slots-ask = (first-placeable r x, rw byte at (y .slots-ask));
         there = rw byte at (y .there);
         tail-is = λ before. rw next (rw byte at (y .tail-is (tailAt (memberStart (some lo) (givenAlign (memberEntryAt f m)) (alignOf t)) t)));
       }
@@ -77,14 +77,14 @@ module _ {f : List ℕ} {ts : List Ty} {ms : List ℕ} {table : List (List ℕ)}
       let none : rest .value ≡ no-more = cc (rest .first) in
       let same = ap (member (t .value) (givenSize (memberEntryAt f m)) (givenAlign (memberEntryAt f m))) none in
       rw (← q, none)
-      (last-here m lo (t .value) u (read site m (t .value) (omega arith) (t .first)) (rw (← q, none) at last) (rw (← q, none) at x))
+      (last-here m lo (t .value) u (read basis m (t .value) (omega arith) (t .first)) (rw (← q, none) at last) (rw (← q, none) at x))
   last-placed (suc c) m lo before u ns are within x last =
       let t = andThen-some _ _ (when-some _ _ are .1) in
       let rest = andThen-some _ _ (t .after) in
       let q = Option·some-injective _ _ (rest .after) in
       let y = rw (← q) at x in
       rw (← q)
-      (last-more c m lo (t .value) u (rest .value) (read site m (t .value) (omega arith) (t .first))
+      (last-more c m lo (t .value) u (rest .value) (read basis m (t .value) (omega arith) (t .first))
       (⊎-elim
       (λ (p : isPresent (sizeOf (t .value)) ≡ true). p)
       (λ (p : (isLast (rest .value) ≡ true) × (isRuntime (t .value) ≡ true)).

@@ -1,4 +1,4 @@
-pub mod Sites
+pub mod Basis
 pub mod Narrow
 pub mod Counted
 pub mod MemberBytes

@@ -15,7 +15,7 @@ use Rattle.wgsl.specs.File.{trailerOf, trailerLength, typeEntryLength, memberEn
 use Rattle.wgsl.specs.Rule.{typesOf}
 use Rattle.wgsl.proofs.Accepted.{accepted}
 use Rattle.file.specs.Members.{membersStart, memberBytes}
-use Rattle.walk_trees.specs.Placed.{memberAt}
+use Rattle.walk_trees.specs.Slot.{memberAt}
 
 -- What is read from the bytes after s is read s bytes later.
 load-part : (k n s : ℕ) (f : List ℕ) (at : ℕ) → at + k ≤ n → load k (take n (drop s f)) at ≡ load k f (s + at)
@@ -27,7 +27,7 @@ load-part (suc k) n s f at h =
     rw (getD-take n (drop s f) at 0 low, getD-drop s f at 0, load-part k n s f (at + 1) (omega arith), e)
 
 pub length-memberBytes : (f : List ℕ) (ts : List Ty) → typesOf f ≡ good ts → length (memberBytes f) ≡ 12 * trailerOf f .members
-unfolding memberBytes membersStart lengthBy trailerLength typeEntryLength memberEntryLength
+unfolding memberBytes membersStart lengthBy
 length-memberBytes f ts e =
     let a = accepted f ts e in
     length-take-le (12 * trailerOf f .members) (drop (trailerOf f .start + 12 * trailerOf f .types) f)
@@ -38,7 +38,7 @@ entry-same-parts a b p q r s = rw (p, q, r, s)
 
 -- The entry of member m begins at byte m x 12.
 pub memberBytes-at : (f : List ℕ) (m : ℕ) → m < trailerOf f .members → memberAt (memberBytes f) (m * 12) ≡ memberEntryAt f m
-unfolding memberBytes membersStart memberEntryAt memberEntryFrom typeEntryLength memberEntryLength
+unfolding memberBytes membersStart memberEntryAt memberEntryFrom
 memberBytes-at f m h =
     let s : ℕ = trailerOf f .start + 12 * trailerOf f .types in
     let n : ℕ = 12 * trailerOf f .members in

@@ -25,12 +25,12 @@ use Rattle.wgsl.proofs.Align.{align-power, member-aligned}
 use Rattle.wgsl.proofs.Members.{Member, first-member, start-is}
 use Rattle.wgsl.proofs.AtEntry.{getElem-first}
 use Rattle.file.specs.Members.{memberBytes}
-use Rattle.layout_values.specs.declared.value.Layout.{Layout}
+use Rattle.layout_values.specs.declared.value.Value.{Value}
 use Rattle.layout_values.specs.Value.{valueOf}
 use Rattle.layout_values.proofs.Presence.{value-words}
-use Rattle.walk_trees.specs.Placed.{Counted, memberAt, memberLayout, orOwn, memberAlign, memberSize, placedAt, Placeable}
-use Rattle.walk_shapes.specs.Site.{Site}
-use Rattle.walk_shapes.proofs.Sites.{site-inside, site-layout}
+use Rattle.walk_trees.specs.Slot.{Counted, memberAt, memberValue, orOwn, memberAlign, memberSize, slotAt, SlotAsks}
+use Rattle.walk_shapes.specs.Basis.{Basis}
+use Rattle.walk_shapes.proofs.Basis.{basis-inside, basis-layout}
 use Rattle.walk_shapes.proofs.Counted.{fixed-counted}
 use Rattle.walk_shapes.proofs.MemberBytes.{length-memberBytes, memberBytes-at}
 
@@ -117,11 +117,11 @@ pub record Read (f : List ℕ) (ts : List Ty) (table : List (List ℕ)) (e m : �
   pub lower-is : memberAt (memberBytes f) (m * 12) .type < e
   pub there : getElem? ts (memberAt (memberBytes f) (m * 12) .type) ≡ some t
   pub type-inside : memberAt (memberBytes f) (m * 12) .type < length table
-  pub layout-is : memberLayout (memberBytes f) table (m * 12) ≡ valueOf (typeEntryAt f (memberAt (memberBytes f) (m * 12) .type) .reference) t
+  pub layout-is : memberValue (memberBytes f) table (m * 12) ≡ valueOf (typeEntryAt f (memberAt (memberBytes f) (m * 12) .type) .reference) t
 
-pub read : {f : List ℕ} {ts : List Ty} {ms : List ℕ} {table : List (List ℕ)} → Site f ts ms table → {e : ℕ} (m : ℕ) (t : Ty) → m < trailerOf f .members → lower (take e ts) (memberEntryAt f m .type) ≡ some t → Read f ts table e m t
+pub read : {f : List ℕ} {ts : List Ty} {ms : List ℕ} {table : List (List ℕ)} → Basis f ts ms table → {e : ℕ} (m : ℕ) (t : Ty) → m < trailerOf f .members → lower (take e ts) (memberEntryAt f m .type) ≡ some t → Read f ts table e m t
 unfolding lower
-read {f} {ts} site {e} m t h is =
+read {f} {ts} basis {e} m t h is =
     let same = memberBytes-at f m h in
     let found = getElem-first e ts (memberEntryAt f m .type) is in
     let type : memberAt (memberBytes f) (m * 12) .type ≡ memberEntryAt f m .type = ap (λ (x : MemberEntry). x .type) same in
@@ -129,11 +129,11 @@ read {f} {ts} site {e} m t h is =
     let there : getElem? ts (memberAt (memberBytes f) (m * 12) .type) ≡ some t = rw type (found .1) in
     record {
       entry-is = same;
-      inside = omega (arith, length-memberBytes f ts (site .good-file));
+      inside = omega (arith, length-memberBytes f ts (basis .good-file));
       lower-is = down;
       there = there;
-      type-inside = site-inside site _ t there;
-      layout-is = site-layout site _ t there;
+      type-inside = basis-inside basis _ t there;
+      layout-is = basis-layout basis _ t there;
     }
 
 -- ---- its alignment, size and place
@@ -142,14 +142,14 @@ module _ {f : List ℕ} {ts : List Ty} {table : List (List ℕ)} {e m : ℕ} {t 
   align-is : (own a : ℕ) → alignOf t ≡ some own → givenOr (givenAlign (memberEntryAt f m)) (alignOf t) ≡ some a → memberAlign (memberBytes f) table (m * 12) ≡ a
   unfolding valueOf
   align-is own a h is =
-      ap (λ (q : Layout). orOwn (givenAlign (memberAt (memberBytes f) (m * 12))) (q .align)) (r .layout-is)
+      ap (λ (q : Value). orOwn (givenAlign (memberAt (memberBytes f) (m * 12))) (q .align)) (r .layout-is)
       ∙ ap (λ (x : MemberEntry). orOwn (givenAlign x) (present (alignOf t))) (r .entry-is)
       ∙ or-own (givenAlign (memberEntryAt f m)) (alignOf t) own h ∙ ap present is ∙ present-is a
 
   size-is : (own a : ℕ) → sizeOf t ≡ some own → givenOr (givenSize (memberEntryAt f m)) (sizeOf t) ≡ some a → memberSize (memberBytes f) table (m * 12) ≡ a
   unfolding valueOf
   size-is own a h is =
-      ap (λ (q : Layout). orOwn (givenSize (memberAt (memberBytes f) (m * 12))) (q .size)) (r .layout-is)
+      ap (λ (q : Value). orOwn (givenSize (memberAt (memberBytes f) (m * 12))) (q .size)) (r .layout-is)
       ∙ ap (λ (x : MemberEntry). orOwn (givenSize x) (present (sizeOf t))) (r .entry-is)
       ∙ or-own (givenSize (memberEntryAt f m)) (sizeOf t) own h ∙ ap present is ∙ present-is a
 
@@ -161,10 +161,10 @@ module _ {f : List ℕ} {ts : List Ty} {table : List (List ℕ)} {e m : ℕ} {t 
         (a .0, a .1, align-is (v .own) (a .0) (v .own-is) (a .1))
 
     -- The words of a member's type are within the limit.
-    member-counted : Counted (memberLayout (memberBytes f) table (m * 12))
+    member-counted : Counted (memberValue (memberBytes f) table (m * 12))
     member-counted = rw (r .layout-is, value-words _ t) (fixed-counted t (first-ruled x .well))
 
-    pub first-placeable : Placeable (memberBytes f) table (m * 12) lo
+    pub first-placeable : SlotAsks (memberBytes f) table (m * 12) lo
     first-placeable =
         let v = first-ruled x in
         let (a, is, al) = aligned in
@@ -172,16 +172,16 @@ module _ {f : List ℕ} {ts : List Ty} {table : List (List ℕ)} {e m : ℕ} {t 
         record { inside = r .inside; type-inside = r .type-inside; counted = member-counted; power = rw al (p .is-power); low = rw al (start-within x is) }
 
     -- It starts where the rules say,
-    pub first-start : placedAt (memberBytes f) table (m * 12) lo .start ≡ present (memberStart (some lo) (givenAlign (memberEntryAt f m)) (alignOf t))
-    unfolding placedAt memberStart
+    pub first-start : slotAt (memberBytes f) table (m * 12) lo .start ≡ present (memberStart (some lo) (givenAlign (memberEntryAt f m)) (alignOf t))
+    unfolding slotAt memberStart
     first-start =
         let (a, is, al) = aligned in
         let start = start-is lo a (givenOr (givenAlign (memberEntryAt f m)) (alignOf t)) is in
         ap (λ (n : ℕ). up n lo) al ∙ sym (ap present start ∙ present-is (up a lo))
 
     -- and ends there, if it has a size.
-    pub first-end : isPresent (sizeOf t) ≡ true → memberEnd (some lo) (givenAlign (memberEntryAt f m)) (alignOf t) (givenSize (memberEntryAt f m)) (sizeOf t) ≡ some (placedAt (memberBytes f) table (m * 12) lo .end)
-    unfolding placedAt memberEnd endAfter startAfter both
+    pub first-end : isPresent (sizeOf t) ≡ true → memberEnd (some lo) (givenAlign (memberEntryAt f m)) (alignOf t) (givenSize (memberEntryAt f m)) (sizeOf t) ≡ some (slotAt (memberBytes f) table (m * 12) lo .end)
+    unfolding slotAt memberEnd endAfter startAfter both
     first-end q =
         let (a, is, al) = aligned in
         let own = present-some (sizeOf t) q in

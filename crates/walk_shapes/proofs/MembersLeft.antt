@@ -15,16 +15,17 @@ use Rattle.wgsl.specs.Size.{isPresent, present, sizeOf, alignOf, isPlain, membe
 use Rattle.wgsl.specs.File.{trailerOf, memberEntryAt, givenSize, givenAlign}
 use Rattle.wgsl.specs.Rule.{isLast, membersFrom}
 use Rattle.wgsl.specs.Place.{Shape, shapeOf, fieldsOf, spanOf, placesOf}
+use Rattle.wgsl.specs.Shapes.{Sound}
 use Rattle.wgsl.proofs.Absent.{both-hold}
 use Rattle.wgsl.proofs.Said.{when-some, andThen-some}
-use Rattle.wgsl.proofs.Shape.{Sound, rest-ordered, ordered-span}
+use Rattle.wgsl.proofs.Shape.{rest-ordered, ordered-span}
 use Rattle.wgsl.proofs.Members.{member-has}
-use Rattle.layout_values.specs.Value.{layoutAt}
-use Rattle.walk_trees.specs.Placed.{placedAt}
+use Rattle.layout_values.specs.Value.{valueAt}
+use Rattle.walk_trees.specs.Slot.{slotAt}
 use Rattle.walk_trees.specs.Tree as tree
 use Rattle.walk_trees.specs.Tree.{Member, Left, more, Tree}
 use Rattle.file.specs.Members.{memberBytes}
-use Rattle.walk_shapes.specs.Site.{Site}
+use Rattle.walk_shapes.specs.Basis.{Basis}
 use Rattle.walk_shapes.proofs.MemberRead.{first-ruled, rest-ruled, last-none, Read, read, first-placeable, first-start, first-end}
 use Rattle.walk_shapes.proofs.Kept.{Kept, Fine}
 
@@ -61,7 +62,7 @@ module _ {end : Option ℕ} {z : ℕ} {t : Ty} {size align : Option ℕ} {ms : M
       let o = rest-ordered rest 0 lo (x .sound .1) (x .sound .2) in
       omega (arith, ordered-span (placesOf rest 0) (0 + lo) (0 + spanOf rest) o)
 
-module _ (f : List ℕ) (ts : List Ty) (ms : List ℕ) (table : List (List ℕ)) (site : Site f ts ms table) (e : ℕ) (long : layoutAt table e .stride ≡ 12) (below : (i : ℕ) (u : Ty) → i < e → getElem? ts i ≡ some u → Kept u → Tree (memberBytes f) table i (shapeOf 0 u)) where
+module _ (f : List ℕ) (ts : List Ty) (ms : List ℕ) (table : List (List ℕ)) (basis : Basis f ts ms table) (e : ℕ) (long : valueAt table e .stride ≡ 12) (below : (i : ℕ) (u : Ty) → i < e → getElem? ts i ≡ some u → Kept u → Tree (memberBytes f) table i (shapeOf 0 u)) where
   -- one member, in front of those after it
   left-more : (c m lo z : ℕ) (t : Ty) (ns : Members) → Read f ts table e m t → membersFrom f (take e ts) c (suc m) ≡ some ns → Fine (some lo) z (member t (givenSize (memberEntryAt f m)) (givenAlign (memberEntryAt f m)) ns) → ((lo′ : ℕ) → Fine (some lo′) z ns → Left (memberBytes f) table e c (suc m * 12) lo′ (fieldsOf 0 z (some lo′) ns)) → Left (memberBytes f) table e (suc c) (m * 12) lo (fieldsOf 0 z (some lo) (member t (givenSize (memberEntryAt f m)) (givenAlign (memberEntryAt f m)) ns))
   unfolding fieldsOf
@@ -69,19 +70,19 @@ module _ (f : List ℕ) (ts : List Ty) (ms : List ℕ) (table : List (List ℕ))
       let size = givenSize (memberEntryAt f m) in
       let align = givenAlign (memberEntryAt f m) in
       let start = first-start r (x .ruled) in
-      let next-byte : m * 12 + layoutAt table e .stride ≡ suc m * 12 = omega (arith, long) in
+      let next-byte : m * 12 + valueAt table e .stride ≡ suc m * 12 = omega (arith, long) in
       let rest : Shape = fieldsOf 0 z (memberEnd (some lo) align (alignOf t) size (sizeOf t)) ns in
       let here : Member (memberBytes f) table e (m * 12) lo (shapeOf 0 t) rest =
       record {
-        placeable = first-placeable r (x .ruled);
+        slot-asks = first-placeable r (x .ruled);
         lower = r .lower-is;
         within = rw start (rest-within x);
       } in
-      let after : Left (memberBytes f) table e c (m * 12 + layoutAt table e .stride) (placedAt (memberBytes f) table (m * 12) lo .end) rest =
+      let after : Left (memberBytes f) table e c (m * 12 + valueAt table e .stride) (slotAt (memberBytes f) table (m * 12) lo .end) rest =
       ⊎-elim
       (λ (q : isPresent (sizeOf t) ≡ true).
       let next = first-end r (x .ruled) q in
-      rw (next, next-byte) (more-left (placedAt (memberBytes f) table (m * 12) lo .end) (rw next at (rest-fine x))))
+      rw (next, next-byte) (more-left (slotAt (memberBytes f) table (m * 12) lo .end) (rw next at (rest-fine x))))
       (λ (q : (isLast ns ≡ true) × (isRuntime t ≡ true)).
       let no = last-none f (take e ts) c (suc m) ns are (q .0) in
       rw (no .0, no .1) tree.none)
@@ -98,5 +99,5 @@ module _ (f : List ℕ) (ts : List Ty) (ms : List ℕ) (table : List (List ℕ))
       let rest = andThen-some _ _ (t .after) in
       let q = Option·some-injective _ _ (rest .after) in
       rw (← q)
-      (left-more c m lo z (t .value) (rest .value) (read site m (t .value) (omega arith) (t .first)) (rest .first) (rw (← q) at x)
+      (left-more c m lo z (t .value) (rest .value) (read basis m (t .value) (omega arith) (t .first)) (rest .first) (rw (← q) at x)
       (λ lo′ y. left c (suc m) lo′ z (rest .value) (rest .first) (omega arith) y))

@@ -1,4 +1,4 @@
--- Where the words of a storable type and of its parts lie (crates/kinds, specs/Value; crates/trees, specs/Placed).
+-- Where the words of a storable type and of its parts lie (crates/kinds, specs/Value; crates/trees, specs/Slot).
 --
 -- In order: a type whose words fill its size; the parts of a type, how many there are, and the width of their words; their words, their
 -- bytes and their places; a type that is one run, whatever the number of its elements.
@@ -15,19 +15,20 @@ use lib.ListN.{length}
 use Rattle.wgsl.specs.Types.{Scalar, Ty, scalar, vector, matrix, array, runtime, atomic, struct, everywhere}
 use Rattle.wgsl.specs.Size.{present, widthOf, sizeOf, alignOf, strideOf, isPlain}
 use Rattle.wgsl.specs.Place.{extentOf, column, shapeOf, spanOf, wordPlaces, repeated, placesOf}
+use Rattle.wgsl.specs.Shapes.{shapeWords}
 use Rattle.wgsl.proofs.Absent.{present-is}
 use Rattle.wgsl.proofs.Passed.{matrix-passed}
 use Rattle.wgsl.proofs.Align.{vector-align}
 use Rattle.wgsl.proofs.Shape.{places-ordered}
 use Rattle.wgsl.proofs.Tail.{sized-closed, sized-takes}
 use Rattle.wgsl.proofs.Closed.{closed-shape}
-use Rattle.wgsl.proofs.Count.{words, places-words}
+use Rattle.wgsl.proofs.Count.{places-words}
 use Rattle.runs.specs.Run.{runPlaces, partPlaces}
 use Rattle.runs.proofs.Folds.{parts-touch}
-use Rattle.layout_values.specs.Value.{storedWidth, narrowOf, fixedWords, partWords, partStride, valueOf}
+use Rattle.layout_values.specs.Value.{storedWidth, narrowOf, fixedWords, partsOf, valueOf}
 use Rattle.layout_values.proofs.Presence.{value-words}
 use Rattle.walk_trees.proofs.Unique.{repeated-alike}
-use Rattle.walk_trees.specs.Placed.{touching, packedAs}
+use Rattle.walk_trees.specs.Slot.{touching, packedAs}
 use Rattle.walk_shapes.proofs.Narrow.{stored-width, shape-from, places-from, ordered-run}
 use Rattle.walk_shapes.proofs.Kept.{Kept, kept-words, kept-laid, array-element, runtime-element, element-shape, element-fits}
 
@@ -120,8 +121,8 @@ part-narrow (struct k ms) h = absurd (omega arith)
 
 -- ---- their words, bytes and places
 
-pub parts-words : (n : ℕ) (t : Ty) → Kept t → 0 < partRun t → words (shapeOf n t) ≡ partsIn n t * partWords t
-unfolding shapeOf column words partsIn partWords partRun
+pub parts-words : (n : ℕ) (t : Ty) → Kept t → 0 < partRun t → shapeWords (shapeOf n t) ≡ partsIn n t * partsOf t .words
+unfolding shapeOf column shapeWords partsIn partsOf partRun
 parts-words n (scalar s) k h = refl
 parts-words n (vector c s) k h = refl
 parts-words n (matrix c r s) k h = ap (λ (i : ℕ). c * i) (mul-one r)
@@ -134,8 +135,8 @@ parts-words n (runtime t) k h =
 parts-words n (atomic s) k h = refl
 parts-words n (struct c ms) k h = absurd (omega arith)
 
-pub parts-span : (n : ℕ) (t : Ty) → 0 < partRun t → spanOf (shapeOf n t) ≡ partsIn n t * present (partStride t)
-unfolding shapeOf column spanOf partsIn partStride partRun
+pub parts-span : (n : ℕ) (t : Ty) → 0 < partRun t → spanOf (shapeOf n t) ≡ partsIn n t * present (partsOf t .stride)
+unfolding shapeOf column spanOf partsIn partsOf partRun
 parts-span n (scalar s) h = sym (one-mul (present (widthOf s)))
 parts-span n (vector c s) h = refl
 parts-span n (matrix c r s) h = refl
@@ -148,8 +149,8 @@ one-fits : (s : Scalar) (w : ℕ) → w ≡ present (widthOf s) → 1 * w ≤ pr
 one-fits s w e = omega (arith, one-mul w)
 
 -- The words of a part fit its stride.
-pub parts-fit : (t : Ty) → Kept t → 0 < partRun t → partWords t * narrowOf t ≤ present (partStride t)
-unfolding partWords narrowOf partStride partRun alignOf everywhere isPlain
+pub parts-fit : (t : Ty) → Kept t → 0 < partRun t → partsOf t .words * narrowOf t ≤ present (partsOf t .stride)
+unfolding partsOf narrowOf partRun alignOf everywhere isPlain
 parts-fit (scalar s) k h = one-fits s _ (stored-width s (k .plain))
 parts-fit (vector c s) k h = one-fits s _ (stored-width s (k .plain))
 parts-fit (matrix c r s) k h =
@@ -164,8 +165,8 @@ parts-fit (runtime t) k h =
 parts-fit (atomic s) k h = one-fits s _ (stored-width s (k .plain))
 parts-fit (struct c ms) k h = absurd (omega arith)
 
-pub parts-places : (n : ℕ) (t : Ty) → Kept t → 0 < partRun t → (at : ℕ) → placesOf (shapeOf n t) at ≡ partPlaces (partsIn n t) (partWords t) (narrowOf t) (present (partStride t)) at
-unfolding shapeOf column placesOf wordPlaces repeated partPlaces runPlaces partsIn partWords narrowOf partStride partRun everywhere isPlain
+pub parts-places : (n : ℕ) (t : Ty) → Kept t → 0 < partRun t → (at : ℕ) → placesOf (shapeOf n t) at ≡ partPlaces (partsIn n t) (partsOf t .words) (narrowOf t) (present (partsOf t .stride)) at
+unfolding shapeOf column placesOf wordPlaces repeated partPlaces runPlaces partsIn partsOf narrowOf partRun everywhere isPlain
 parts-places n (scalar s) k h at = rw (stored-width s (k .plain))
 parts-places n (vector c s) k h at = rw (stored-width s (k .plain))
 parts-places n (matrix c r s) k h at = rw (stored-width s (k .plain))
@@ -190,7 +191,7 @@ touch-told stride unit width h = go (eqb stride (unit * width)) refl h
 
 -- Where its elements touch each other, its words lie one after the other, and take its bytes.
 pub runtime-all : (t : Ty) → Kept (runtime t) → (w : ℕ) → w ≡ touching (present (strideOf t)) (fixedWords t) (packedOf t) → 0 < w → (n : ℕ) → ((at : ℕ) → placesOf (shapeOf n (runtime t)) at ≡ runPlaces (n * fixedWords t) w at) × (extentOf n (runtime t) ≡ n * fixedWords t * w)
-unfolding partsIn partWords narrowOf partStride partRun
+unfolding partsIn partsOf narrowOf partRun
 runtime-all t k w e pos n =
     let x = touch-told (present (strideOf t)) (fixedWords t) (packedOf t) (rw (← e) pos) in
     let width : w ≡ packedOf t = e ∙ sym (x .1) in

@@ -1,1 +1,1 @@
-pub mod Site
+pub mod Basis

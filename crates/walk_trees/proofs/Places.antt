@@ -1,4 +1,4 @@
--- A member's place, from what its entry and its type's layout say (specs/Placed).
+-- A member's place, from what its entry and its type's layout say (specs/Slot).
 --
 -- In order: a member's entry and layout, as they are found; its alignment and size, given or its type's own; its place.
 -- Assumes nothing.
@@ -8,23 +8,23 @@ use mathlib.Core.Path.{_≡_, refl, ap, _∙_}
 use Rattle.wgsl.specs.Round.{IsPower, up, limit}
 use Rattle.wgsl.specs.Size.{givenOr, present}
 use Rattle.wgsl.specs.File.{MemberEntry, sizeIsGiven, alignIsGiven, givenSize, givenAlign}
-use Rattle.layout_values.specs.declared.value.Layout.{Layout}
-use Rattle.walk_trees.specs.declared.Placed.{Placed}
-use Rattle.layout_values.specs.Value.{layoutAt, wordsIn}
-use Rattle.walk_trees.specs.Placed.{memberAt, memberLayout, orOwn, memberAlign, memberSize, placedAt, Counted, Placeable}
+use Rattle.layout_values.specs.declared.value.Value.{Value}
+use Rattle.walk_trees.specs.declared.Slot.{Slot}
+use Rattle.layout_values.specs.Value.{valueAt, wordsIn}
+use Rattle.walk_trees.specs.Slot.{memberAt, memberValue, orOwn, memberAlign, memberSize, slotAt, Counted, SlotAsks}
 
 -- the member at m has the entry x, its type is ty and that type's layout r
-pub record Found (ms : List ℕ) (table : List (List ℕ)) (m : ℕ) (x : MemberEntry) (ty : ℕ) (r : Layout) : Type 0 where
+pub record MemberFound (ms : List ℕ) (table : List (List ℕ)) (m : ℕ) (x : MemberEntry) (ty : ℕ) (r : Value) : Type 0 where
   pub entry-is : x ≡ memberAt ms m
   pub type-is : ty ≡ x .type
-  pub layout-is : r ≡ layoutAt table ty
+  pub layout-is : r ≡ valueAt table ty
 
-module _ {ms : List ℕ} {table : List (List ℕ)} {m ty : ℕ} {x : MemberEntry} {r : Layout} (f : Found ms table m x ty r) where
+module _ {ms : List ℕ} {table : List (List ℕ)} {m ty : ℕ} {x : MemberEntry} {r : Value} (f : MemberFound ms table m x ty r) where
   pub type-found : ty ≡ memberAt ms m .type
   type-found = f .type-is ∙ ap (λ (y : MemberEntry). y .type) (f .entry-is)
 
-  pub layout-found : r ≡ memberLayout ms table m
-  layout-found = f .layout-is ∙ ap (layoutAt table) type-found
+  pub layout-found : r ≡ memberValue ms table m
+  layout-found = f .layout-is ∙ ap (valueAt table) type-found
 
   pub given-align : {a : ℕ} → a ≡ orOwn (givenAlign x) (r .align) → a ≡ memberAlign ms table m
   given-align e = rw (← layout-found, ← f .entry-is) e
@@ -42,13 +42,13 @@ module _ {ms : List ℕ} {table : List (List ℕ)} {m ty : ℕ} {x : MemberEntry
   own-size e = given-size (rw e refl)
 
   -- What has the alignment and the size of member m is placed as member m.
-  pub placed-is : (p : Placed) (end align size words : ℕ) → p ≡ record { ty = ty; start = up align end; end = up align end + size; words = words } → words ≡ wordsIn r → align ≡ memberAlign ms table m → size ≡ memberSize ms table m → p ≡ placedAt ms table m end
-  unfolding placedAt
+  pub placed-is : (p : Slot) (end align size words : ℕ) → p ≡ record { ty = ty; start = up align end; end = up align end + size; words = words } → words ≡ wordsIn r → align ≡ memberAlign ms table m → size ≡ memberSize ms table m → p ≡ slotAt ms table m end
+  unfolding slotAt
   placed-is p end align size words e n a s = e ∙ rw (n, type-found, layout-found, a, s) refl
 
-  pub counted : {end : ℕ} → Placeable ms table m end → Counted r
+  pub counted : {end : ℕ} → SlotAsks ms table m end → Counted r
   counted p = rw layout-found (p .counted)
 
   -- It may be placed.
-  pub may-place : (end align : ℕ) → Placeable ms table m end → align ≡ memberAlign ms table m → IsPower align × (up align end ≤ limit)
+  pub may-place : (end align : ℕ) → SlotAsks ms table m end → align ≡ memberAlign ms table m → IsPower align × (up align end ≤ limit)
   may-place end align p a = rw a (p .power, p .low)

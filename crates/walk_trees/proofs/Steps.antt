@@ -14,14 +14,15 @@ use borrow.Author.Tests.{eqb-true}
 use lib.Dec.{eqb}
 use lib.ListN.{length}
 use Rattle.wgsl.specs.Place.{Shape, parts, field, spanOf, Place, repeated, placesOf}
-use Rattle.wgsl.proofs.Count.{words, places-words}
+use Rattle.wgsl.specs.Shapes.{shapeWords}
+use Rattle.wgsl.proofs.Count.{places-words}
 use Rattle.runs.specs.Fold.{overPlaces}
 use Rattle.runs.specs.Run.{runPlaces}
 use Rattle.runs.proofs.Folds.{over-append, over-all, over-next, over-none}
-use Rattle.layout_values.specs.declared.value.Layout.{Layout}
-use Rattle.walk_trees.specs.declared.Placed.{Placed}
-use Rattle.layout_values.specs.Value.{layoutAt, wordsIn}
-use Rattle.walk_trees.specs.Placed.{packedAs, partWidth, Referring, memberAt, placedAt}
+use Rattle.layout_values.specs.declared.value.Value.{Value}
+use Rattle.walk_trees.specs.declared.Slot.{Slot}
+use Rattle.layout_values.specs.Value.{valueAt, wordsIn}
+use Rattle.walk_trees.specs.Slot.{packedAs, partWidth, Referring, memberAt, slotAt}
 use Rattle.walk_trees.specs.Tree.{Runs, Elements, Member, Valued, Many, runs, each, Left, none, more, Tree, many, members, Room, EachRoom, MemberRoom}
 use Rattle.walk_trees.proofs.Unique.{run-width, tree-one}
 
@@ -31,56 +32,56 @@ pub tree-valued : {ms : List ℕ} {table : List (List ℕ)} {e : ℕ} {x : Shape
 tree-valued (many R k l m) = R
 tree-valued (members R k l) = R
 
-pub tree-many : {ms : List ℕ} {table : List (List ℕ)} {e : ℕ} {x : Shape} → Tree ms table e x → (layoutAt table e .kind ≡ 12 → ⊥) → Many ms table (layoutAt table e) x
+pub tree-many : {ms : List ℕ} {table : List (List ℕ)} {e : ℕ} {x : Shape} → Tree ms table e x → (valueAt table e .kind ≡ 12 → ⊥) → Many ms table (valueAt table e) x
 tree-many (many R k l m) h = m
 tree-many (members R k l) h = absurd (h k)
 
-pub tree-left : {ms : List ℕ} {table : List (List ℕ)} {e : ℕ} {x : Shape} → Tree ms table e x → layoutAt table e .kind ≡ 12 → Left ms table e (layoutAt table e .count) (layoutAt table e .reference * layoutAt table e .stride) 0 x
+pub tree-left : {ms : List ℕ} {table : List (List ℕ)} {e : ℕ} {x : Shape} → Tree ms table e x → valueAt table e .kind ≡ 12 → Left ms table e (valueAt table e .count) (valueAt table e .reference * valueAt table e .stride) 0 x
 tree-left (many R k l m) h = absurd (k h)
 tree-left (members R k l) h = l
 
-pub many-referring : {ms : List ℕ} {table : List (List ℕ)} {r : Layout} {x : Shape} → Many ms table r x → Referring table r
+pub many-referring : {ms : List ℕ} {table : List (List ℕ)} {r : Value} {x : Shape} → Many ms table r x → Referring table r
 many-referring (runs R) = R .referring
 many-referring (each E t) = E .referring
 
-pub many-runs : {ms : List ℕ} {table : List (List ℕ)} {r : Layout} {x : Shape} → Many ms table r x → (partWidth table r ≡ 0 → ⊥) → Runs table r x
+pub many-runs : {ms : List ℕ} {table : List (List ℕ)} {r : Value} {x : Shape} → Many ms table r x → (partWidth table r ≡ 0 → ⊥) → Runs table r x
 many-runs (runs R) h = R
 many-runs (each E t) h = absurd (h (E .no-run))
 
 -- the parts of the shape x are entries, each of the shape `part`
-pub record Entries (ms : List ℕ) (table : List (List ℕ)) (r : Layout) (x : Shape) : Type 0 where
+pub record Entries (ms : List ℕ) (table : List (List ℕ)) (r : Value) (x : Shape) : Type 0 where
   pub part : Shape
   pub is : x ≡ parts (r .count) (r .stride) part
   pub elements : Elements table r part
   pub tree : Tree ms table (r .reference) part
 
-pub many-each : {ms : List ℕ} {table : List (List ℕ)} {r : Layout} {x : Shape} → Many ms table r x → partWidth table r ≡ 0 → Entries ms table r x
+pub many-each : {ms : List ℕ} {table : List (List ℕ)} {r : Value} {x : Shape} → Many ms table r x → partWidth table r ≡ 0 → Entries ms table r x
 many-each (runs R) h = absurd (run-width R h)
 many-each (each {y = y} E t) h = record { part = y; is = refl; elements = E; tree = t }
 
 -- ---- how deep a walk goes
 
 -- parts that are entries go down to their entry, and runs nowhere
-abbrev pub depth : List (List ℕ) → Layout → ℕ
+abbrev pub depth : List (List ℕ) → Value → ℕ
 depth table r = cond (eqb (partWidth table r) 0) (5 * r .reference + 5) 0
 
-pub depth-each : (table : List (List ℕ)) (r : Layout) → partWidth table r ≡ 0 → depth table r ≡ 5 * r .reference + 5
+pub depth-each : (table : List (List ℕ)) (r : Value) → partWidth table r ≡ 0 → depth table r ≡ 5 * r .reference + 5
 depth-each table r h = rw h refl
 
 cond-below : (b : Bool) (a n : ℕ) → (b ≡ true → a < n) → 0 < n → cond b a 0 < n
 cond-below true a n h p = h refl
 cond-below false a n h p = p
 
-pub depth-below : {ms : List ℕ} {table : List (List ℕ)} {e : ℕ} {x : Shape} → Tree ms table e x → (layoutAt table e .kind ≡ 12 → ⊥) → depth table (layoutAt table e) < 5 * e + 4
+pub depth-below : {ms : List ℕ} {table : List (List ℕ)} {e : ℕ} {x : Shape} → Tree ms table e x → (valueAt table e .kind ≡ 12 → ⊥) → depth table (valueAt table e) < 5 * e + 4
 depth-below {table} {e} (many R k l m) h =
-    cond-below (eqb (partWidth table (layoutAt table e)) 0) (5 * layoutAt table e .reference + 5) (5 * e + 4)
-    (λ b. omega (arith, l (eqb-true (partWidth table (layoutAt table e)) 0 b))) (omega arith)
+    cond-below (eqb (partWidth table (valueAt table e)) 0) (5 * valueAt table e .reference + 5) (5 * e + 4)
+    (λ b. omega (arith, l (eqb-true (partWidth table (valueAt table e)) 0 b))) (omega arith)
 depth-below (members R k l) h = absurd (h k)
 
 -- ---- room
 
 -- One entry is one part.
-pub one-room : {ms : List ℕ} {table : List (List ℕ)} {e : ℕ} {x : Shape} {at bytes k ws : ℕ} → Tree ms table e x → Room x at bytes k ws → EachRoom x 1 (wordsIn (layoutAt table e)) 0 at bytes k ws
+pub one-room : {ms : List ℕ} {table : List (List ℕ)} {e : ℕ} {x : Shape} {at bytes k ws : ℕ} → Tree ms table e x → Room x at bytes k ws → EachRoom x 1 (wordsIn (valueAt table e)) 0 at bytes k ws
 one-room t room =
     record {
       unit-is = tree-valued t .words-are;
@@ -93,8 +94,8 @@ unfolding placesOf repeated
 one-places y at = append-nil (placesOf y at)
 
 -- Room for parts is room for each.
-pub parts-room : {table : List (List ℕ)} {r : Layout} {y : Shape} {at bytes k ws : ℕ} → Elements table r y → Room (parts (r .count) (r .stride) y) at bytes k ws → EachRoom y (r .count) (r .unit) (r .stride) at bytes k ws
-unfolding spanOf words
+pub parts-room : {table : List (List ℕ)} {r : Value} {y : Shape} {at bytes k ws : ℕ} → Elements table r y → Room (parts (r .count) (r .stride) y) at bytes k ws → EachRoom y (r .count) (r .unit) (r .stride) at bytes k ws
+unfolding spanOf shapeWords
 parts-room {r} E room =
     record {
       unit-is = E .words-are;
@@ -110,14 +111,14 @@ each-room {count} {unit} {i} room h =
     }
 
 -- Parts that are entries, with the numbers of their layout: an entry for each, and room; and so of any shape that the layout has.
-pub record Each (ms : List ℕ) (table : List (List ℕ)) (r : Layout) (element count unit stride at bytes k ws : ℕ) : Type 0 where
+pub record Each (ms : List ℕ) (table : List (List ℕ)) (r : Value) (element count unit stride at bytes k ws : ℕ) : Type 0 where
   pub y : Shape
   pub tree : Tree ms table element y
   pub room : EachRoom y count unit stride at bytes k ws
   pub deep : depth table r ≡ 5 * element + 5
   pub any : (x : Shape) → Many ms table r x → (z : Shape) × Tree ms table element z × (x ≡ parts count stride z)
 
-pub each-entry : {ms : List ℕ} {table : List (List ℕ)} {r : Layout} {x : Shape} {element count unit stride at bytes k ws : ℕ} → Many ms table r x → partWidth table r ≡ 0 → Room x at bytes k ws → element ≡ r .reference → count ≡ r .count → unit ≡ r .unit → stride ≡ r .stride → Each ms table r element count unit stride at bytes k ws
+pub each-entry : {ms : List ℕ} {table : List (List ℕ)} {r : Value} {x : Shape} {element count unit stride at bytes k ws : ℕ} → Many ms table r x → partWidth table r ≡ 0 → Room x at bytes k ws → element ≡ r .reference → count ≡ r .count → unit ≡ r .unit → stride ≡ r .stride → Each ms table r element count unit stride at bytes k ws
 each-entry {table} {r} m w room e c u s =
     let m₀ = many-each m w in
     rw (e, c, u, s)
@@ -131,33 +132,33 @@ each-entry {table} {r} m w room e c u s =
 
 -- ---- a member at its place
 
-module _ {ms : List ℕ} {table : List (List ℕ)} {m end : ℕ} {y : Shape} {at bytes k ws : ℕ} (ready : MemberRoom ms table m end y at bytes k ws) {p : Placed} (is : p ≡ placedAt ms table m end) where
+module _ {ms : List ℕ} {table : List (List ℕ)} {m end : ℕ} {y : Shape} {at bytes k ws : ℕ} (ready : MemberRoom ms table m end y at bytes k ws) {p : Slot} (is : p ≡ slotAt ms table m end) where
   pub type-is : p .ty ≡ memberAt ms m .type
-  unfolding placedAt
-  type-is = ap (λ (q : Placed). q .ty) is
+  unfolding slotAt
+  type-is = ap (λ (q : Slot). q .ty) is
 
-  words-is : p .words ≡ wordsIn (layoutAt table (p .ty))
-  unfolding placedAt
+  words-is : p .words ≡ wordsIn (valueAt table (p .ty))
+  unfolding slotAt
   words-is = rw is refl
 
   pub type-inside : p .ty < length table
-  type-inside = rw type-is (ready .placeable .type-inside)
+  type-inside = rw type-is (ready .slot-asks .type-inside)
 
   pub type-tree : Tree ms table (p .ty) y
   type-tree = rw type-is (ready .tree)
 
-  pub member-words : words y ≡ p .words
+  pub member-words : shapeWords y ≡ p .words
   member-words = tree-valued type-tree .words-are ∙ sym words-is
 
   pub member-room : Room y (at + p .start) bytes k ws
   member-room = rw is (ready .room)
 
   -- Its words lie one after the other, if its type's layout r says so.
-  module _ {r : Layout} (layout-is : r ≡ layoutAt table (p .ty)) (run : packedAs r ≡ 4) where
-    runs-on : packedAs (layoutAt table (p .ty)) ≡ 4
+  module _ {r : Value} (layout-is : r ≡ valueAt table (p .ty)) (run : packedAs r ≡ 4) where
+    runs-on : packedAs (valueAt table (p .ty)) ≡ 4
     runs-on = rw layout-is at run
 
-    pub run-places : {z : Shape} → Tree ms table (placedAt ms table m end .ty) z → (q : ℕ) → placesOf z q ≡ runPlaces (placedAt ms table m end .words) 4 q
+    pub run-places : {z : Shape} → Tree ms table (slotAt ms table m end .ty) z → (q : ℕ) → placesOf z q ≡ runPlaces (slotAt ms table m end .words) 4 q
     run-places t q = rw (← is, words-is) (tree-valued (rw (← is) at t) .run-is runs-on q)
 
     pub run-room : (k + p .words ≤ ws) × (at + p .start + p .words * 4 ≤ bytes)
@@ -179,7 +180,7 @@ turn-start f ms table e count unit stride at k s₀ =
     record { within = omega arith; same = λ y t. over-all f (λ p. placesOf y p) count stride unit at k s₀ }
 
 module _ {S : Type 0} {f : Place → ℕ → S → S} {ms : List ℕ} {table : List (List ℕ)} {e count unit stride at k : ℕ} {s₀ : S} {i : ℕ} {s : S} (now : Turn f ms table e count unit stride at k s₀ i s) where
-  pub turn-next : {y : Shape} {s′ : S} → Tree ms table e y → words y ≡ unit → i < count → ((x : Shape) → Tree ms table e x → s′ ≡ overPlaces f (placesOf x (at + i * stride)) (k + i * unit) s) → Turn f ms table e count unit stride at k s₀ (i + 1) s′
+  pub turn-next : {y : Shape} {s′ : S} → Tree ms table e y → shapeWords y ≡ unit → i < count → ((x : Shape) → Tree ms table e x → s′ ≡ overPlaces f (placesOf x (at + i * stride)) (k + i * unit) s) → Turn f ms table e count unit stride at k s₀ (i + 1) s′
   turn-next t u h done =
       record {
         within = omega arith;
@@ -198,7 +199,7 @@ module _ {S : Type 0} {f : Place → ℕ → S → S} {ms : List ℕ} {table : L
 -- ---- members in turn
 
 -- A member, then the members after it.
-pub over-field : {S : Type 0} (f : Place → ℕ → S → S) (o : ℕ) (y rest : Shape) (at k : ℕ) (s : S) → overPlaces f (placesOf rest at) (k + words y) (overPlaces f (placesOf y (at + o)) k s) ≡ overPlaces f (placesOf (field o y rest) at) k s
+pub over-field : {S : Type 0} (f : Place → ℕ → S → S) (o : ℕ) (y rest : Shape) (at k : ℕ) (s : S) → overPlaces f (placesOf rest at) (k + shapeWords y) (overPlaces f (placesOf y (at + o)) k s) ≡ overPlaces f (placesOf (field o y rest) at) k s
 unfolding placesOf
 over-field f o y rest at k s = rw (← places-words y (at + o)) (sym (over-append f (placesOf y (at + o)) (placesOf rest at) k s))
 
@@ -209,7 +210,7 @@ pub record Walk {S : Type 0} (f : Place → ℕ → S → S) (ms : List ℕ) (ta
   pub room : Room rest at bytes next ws
   pub same : (x : Shape) → Tree ms table e x → overPlaces f (placesOf rest at) next s ≡ overPlaces f (placesOf x at) k s₀
 
-pub walk-start : {S : Type 0} (f : Place → ℕ → S → S) {ms : List ℕ} {table : List (List ℕ)} {e at bytes k ws : ℕ} {x : Shape} (s₀ : S) → Tree ms table e x → layoutAt table e .kind ≡ 12 → Room x at bytes k ws → Walk f ms table e at bytes k ws s₀ (layoutAt table e .count) (layoutAt table e .reference * layoutAt table e .stride) 0 k s₀
+pub walk-start : {S : Type 0} (f : Place → ℕ → S → S) {ms : List ℕ} {table : List (List ℕ)} {e at bytes k ws : ℕ} {x : Shape} (s₀ : S) → Tree ms table e x → valueAt table e .kind ≡ 12 → Room x at bytes k ws → Walk f ms table e at bytes k ws s₀ (valueAt table e .count) (valueAt table e .reference * valueAt table e .stride) 0 k s₀
 walk-start f {at} {k} {x} s₀ t kind room =
     record {
       rest = x;
@@ -222,10 +223,10 @@ walk-start f {at} {k} {x} s₀ t kind room =
 pub record First (ms : List ℕ) (table : List (List ℕ)) (e left m end : ℕ) (x : Shape) : Type 0 where
   pub y : Shape
   pub rest : Shape
-  pub is : x ≡ field (placedAt ms table m end .start) y rest
+  pub is : x ≡ field (slotAt ms table m end .start) y rest
   pub member : Member ms table e m end y rest
   pub tree : Tree ms table (memberAt ms m .type) y
-  pub rest-left : Left ms table e (left - 1) (m + layoutAt table e .stride) (placedAt ms table m end .end) rest
+  pub rest-left : Left ms table e (left - 1) (m + valueAt table e .stride) (slotAt ms table m end .end) rest
 
 pub left-first : {ms : List ℕ} {table : List (List ℕ)} {e left m end : ℕ} {x : Shape} → Left ms table e left m end x → 0 < left → First ms table e left m end x
 left-first none h = absurd (omega arith)
@@ -242,14 +243,14 @@ module _ {S : Type 0} {f : Place → ℕ → S → S} {ms : List ℕ} {table : L
   pub walk-first : 0 < left → First ms table e left m end (now .rest)
   walk-first h = left-first (now .rest-left) h
 
-  field-room : (h : 0 < left) → Room (field (placedAt ms table m end .start) (walk-first h .y) (walk-first h .rest)) at bytes next ws
+  field-room : (h : 0 < left) → Room (field (slotAt ms table m end .start) (walk-first h .y) (walk-first h .rest)) at bytes next ws
   field-room h = rw (walk-first h .is) at (now .room)
 
   pub walk-room : (h : 0 < left) → MemberRoom ms table m end (walk-first h .y) at bytes next ws
-  unfolding spanOf words
+  unfolding spanOf shapeWords
   walk-room h =
       record {
-        placeable = walk-first h .member .placeable;
+        slot-asks = walk-first h .member .slot-asks;
         tree = walk-first h .tree;
         room = record {
           bytes-there = omega (arith, field-room h .bytes-there, walk-first h .member .within);
@@ -257,21 +258,21 @@ module _ {S : Type 0} {f : Place → ℕ → S → S} {ms : List ℕ} {table : L
         };
       }
 
-  module _ (h : 0 < left) {p : Placed} (is : p ≡ placedAt ms table m end) where
+  module _ (h : 0 < left) {p : Slot} (is : p ≡ slotAt ms table m end) where
     pub walk-words : next + p .words ≤ ws
     walk-words = omega (arith, walk-room h .room .words-there, member-words (walk-room h) is)
 
-    pub walk-next : {s′ : S} {step : ℕ} → step ≡ layoutAt table e .stride → ((y : Shape) → Tree ms table (placedAt ms table m end .ty) y → s′ ≡ overPlaces f (placesOf y (at + placedAt ms table m end .start)) next s) → Walk f ms table e at bytes k ws s₀ (left - 1) (m + step) (p .end) (next + p .words) s′
-    unfolding spanOf words
+    pub walk-next : {s′ : S} {step : ℕ} → step ≡ valueAt table e .stride → ((y : Shape) → Tree ms table (slotAt ms table m end .ty) y → s′ ≡ overPlaces f (placesOf y (at + slotAt ms table m end .start)) next s) → Walk f ms table e at bytes k ws s₀ (left - 1) (m + step) (p .end) (next + p .words) s′
+    unfolding spanOf shapeWords
     walk-next q done =
-        let w : words (walk-first h .y) ≡ p .words = member-words (walk-room h) is in
+        let w : shapeWords (walk-first h .y) ≡ p .words = member-words (walk-room h) is in
         record {
           rest = walk-first h .rest;
           rest-left = rw (is, q) (walk-first h .rest-left);
           room = record { bytes-there = field-room h .bytes-there; words-there = omega (arith, field-room h .words-there, w) };
           same = λ x t.
               rw (done (walk-first h .y) (rw (← is) (type-tree (walk-room h) is)), ← w)
-              (over-field f (placedAt ms table m end .start) (walk-first h .y) (walk-first h .rest) at next s
+              (over-field f (slotAt ms table m end .start) (walk-first h .y) (walk-first h .rest) at next s
               ∙ (rw (walk-first h .is) at (now .same x t)));
         }
 

@@ -8,13 +8,13 @@ use mathlib.Core.Logic.{_⊎_, ⊎-elim}
 use mathlib.Core.Path.{_≡_, refl, sym, _∙_}
 use native.Mathlib.Omega.{arith}
 use Rattle.wgsl.specs.Place.{Shape, parts, repeated, placesOf}
-use Rattle.layout_values.specs.declared.value.Layout.{Layout}
-use Rattle.layout_values.specs.Value.{layoutAt}
-use Rattle.walk_trees.specs.Placed.{partWidth, memberAt, placedAt}
+use Rattle.layout_values.specs.declared.value.Value.{Value}
+use Rattle.layout_values.specs.Value.{valueAt}
+use Rattle.walk_trees.specs.Slot.{partWidth, memberAt, slotAt}
 use Rattle.walk_trees.specs.Tree.{Runs, Many, runs, each, Left, none, more, Tree, many, members}
 
 -- A run has a width, so no part is both a run and an entry.
-pub run-width : {table : List (List ℕ)} {r : Layout} {x : Shape} → Runs table r x → partWidth table r ≡ 0 → ⊥
+pub run-width : {table : List (List ℕ)} {r : Value} {x : Shape} → Runs table r x → partWidth table r ≡ 0 → ⊥
 run-width R h = ⊎-elim (λ w. omega (arith, R .narrow-is)) (λ w. omega (arith, R .narrow-is)) (R .width)
 
 -- Parts are alike where each of them is.
@@ -27,7 +27,7 @@ repeated-alike (suc n) stride f g at h = rw (h at, repeated-alike n stride f g (
 abbrev One : List ℕ → List (List ℕ) → ℕ → Type 0
 One ms table e = (x y : Shape) → Tree ms table e x → Tree ms table e y → (at : ℕ) → placesOf x at ≡ placesOf y at
 
-many-step : {ms : List ℕ} {table : List (List ℕ)} {r : Layout} {x y : Shape} → (partWidth table r ≡ 0 → One ms table (r .reference)) → Many ms table r x → Many ms table r y → (at : ℕ) → placesOf x at ≡ placesOf y at
+many-step : {ms : List ℕ} {table : List (List ℕ)} {r : Value} {x y : Shape} → (partWidth table r ≡ 0 → One ms table (r .reference)) → Many ms table r x → Many ms table r y → (at : ℕ) → placesOf x at ≡ placesOf y at
 unfolding placesOf
 many-step below (runs R) (runs R′) at = R .places-are at ∙ sym (R′ .places-are at)
 many-step below (runs R) (each E t) at = absurd (run-width R (E .no-run))
@@ -39,10 +39,10 @@ left-step : {ms : List ℕ} {table : List (List ℕ)} {e c m end : ℕ} {x y : S
 unfolding placesOf
 left-step below none none at = refl
 left-step {ms} {table} {m} {end} below (more {y = y} {rest = u} M t l) (more {y = z} {rest = v} M′ t′ l′) at =
-    rw (below (memberAt ms m .type) (M .lower) y z t t′ (at + placedAt ms table m end .start), left-step below l l′ at)
+    rw (below (memberAt ms m .type) (M .lower) y z t t′ (at + slotAt ms table m end .start), left-step below l l′ at)
 
 tree-step : {ms : List ℕ} {table : List (List ℕ)} {e : ℕ} → ((d : ℕ) → d < e → One ms table d) → One ms table e
-tree-step {table} {e} below x y (many R k l m) (many R′ k′ l′ m′) = many-step (λ w. below (layoutAt table e .reference) (l w)) m m′
+tree-step {table} {e} below x y (many R k l m) (many R′ k′ l′ m′) = many-step (λ w. below (valueAt table e .reference) (l w)) m m′
 tree-step below x y (many R k l m) (members R′ k′ l′) = absurd (k k′)
 tree-step below x y (members R k l) (many R′ k′ l′ m′) = absurd (k′ k)
 tree-step below x y (members R k l) (members R′ k′ l′) = left-step below l l′
@@ -54,7 +54,7 @@ trees-below ms table (suc n) d h = tree-step (λ i l. trees-below ms table n i (
 pub tree-one : {ms : List ℕ} {table : List (List ℕ)} {e : ℕ} {x y : Shape} → Tree ms table e x → Tree ms table e y → (at : ℕ) → placesOf x at ≡ placesOf y at
 tree-one {ms} {table} {e} {x} {y} = trees-below ms table (suc e) e (omega arith) x y
 
-pub many-one : {ms : List ℕ} {table : List (List ℕ)} {r : Layout} {x y : Shape} → Many ms table r x → Many ms table r y → (at : ℕ) → placesOf x at ≡ placesOf y at
+pub many-one : {ms : List ℕ} {table : List (List ℕ)} {r : Value} {x y : Shape} → Many ms table r x → Many ms table r y → (at : ℕ) → placesOf x at ≡ placesOf y at
 many-one = many-step (λ w x y. tree-one)
 
 pub left-one : {ms : List ℕ} {table : List (List ℕ)} {e c m end : ℕ} {x y : Shape} → Left ms table e c m end x → Left ms table e c m end y → (at : ℕ) → placesOf x at ≡ placesOf y at

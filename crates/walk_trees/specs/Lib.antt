@@ -1,2 +1,2 @@
-pub mod Placed
+pub mod Slot
 pub mod Tree

@@ -1,11 +1,11 @@
 // Walking a type's words by the table: where a struct's members lie, and which words lie one after the other.
-use file::fields::Member;
+use file::fields::MemberEntry;
 use file::fields::member_at;
 use layout_members::align_given;
 use layout_members::size_given;
-use layout_values::value::Layout;
+use layout_values::value::Row;
 use layout_values::value::Value;
-use layout_values::value::layout_at;
+use layout_values::value::value_at;
 use layout_values::value::words_of;
 use numbers::power::up_power;
 use numbers::wide::wide;
@@ -15,10 +15,10 @@ ghost use lib.ListN.{length};
 ghost use Rattle.wgsl.specs.Round.{IsPower, up, limit};
 ghost use Rattle.wgsl.specs.File.{givenSize, givenAlign};
 ghost use Rattle.file.specs.Fields.{memberIs};
-ghost use Rattle.walk_trees.specs.Placed.{packedAs, partWidth, touching, runAt, Counted, Referring, RunAsks, orOwn, placedAt, Placeable, placedIn, Placeables};
+ghost use Rattle.walk_trees.specs.Slot.{packedAs, partWidth, touching, runAt, Counted, Referring, RunAsks, orOwn, slotAt, SlotAsks, slotIn, SlotsAsk};
 
 // Where a member lies in its struct.
-pub struct Placed {
+pub struct Slot {
     pub ty: usize,
     pub start: usize,
     pub end: usize,
@@ -26,7 +26,7 @@ pub struct Placed {
 }
 
 // The width of a type's words, where they fill its size, one after the other; else 0.
-pub fn packed(l: Layout) -> u32
+pub fn packed(l: Value) -> u32
     requires { ⌜ Counted l ⌝ }
     ensures { λ r. ⌜ r ≡ packedAs l ⌝ }
 {
@@ -37,7 +37,7 @@ pub fn packed(l: Layout) -> u32
 }
 
 // The same of the words of each part of an entry that is no struct.
-pub fn part_width(table: &[Value], l: Layout) -> u32
+pub fn part_width(table: &[Row], l: Value) -> u32
     requires { ⌜ Referring (now table) l ⌝ }
     ensures { λ r. ⌜ r ≡ partWidth (now (table .entry)) l ⌝ }
 {
@@ -47,7 +47,7 @@ pub fn part_width(table: &[Value], l: Layout) -> u32
     if 10 < l.kind {
         return l.narrow;
     }
-    packed(layout_at(table, wide(l.reference)))
+    packed(value_at(table, wide(l.reference)))
 }
 
 // The width of words in parts that touch each other; else 0.
@@ -61,18 +61,18 @@ fn touch(stride: u32, words: u32, width: u32) -> u32
 }
 
 // The same of the words of entry `e`, whatever the number of its elements where it is a runtime array.
-pub fn run_at(table: &[Value], e: usize) -> u32
+pub fn run_at(table: &[Row], e: usize) -> u32
     requires { ⌜ RunAsks (now table) e ⌝ }
     ensures { λ r. ⌜ r ≡ runAt (now (table .entry)) e ⌝ }
 {
-    let l = layout_at(table, e);
+    let l = value_at(table, e);
     if l.kind == 10 {
         return touch(l.stride, l.unit, part_width(table, l));
     }
     packed(l)
 }
 
-fn given_align(m: Member, own: u32) -> u32
+fn given_align(m: MemberEntry, own: u32) -> u32
     ensures { λ r. ⌜ r ≡ orOwn (givenAlign (memberIs m)) own ⌝ }
 {
     if align_given(m) {
@@ -81,7 +81,7 @@ fn given_align(m: Member, own: u32) -> u32
     own
 }
 
-fn given_size(m: Member, own: u32) -> u32
+fn given_size(m: MemberEntry, own: u32) -> u32
     ensures { λ r. ⌜ r ≡ orOwn (givenSize (memberIs m)) own ⌝ }
 {
     if size_given(m) {
@@ -91,12 +91,12 @@ fn given_size(m: Member, own: u32) -> u32
 }
 
 // A member of this alignment and size, where the one before it ended at `end`.
-fn put_after(ty: usize, align: u32, size: u32, words: u32, end: usize) -> Placed
+fn put_after(ty: usize, align: u32, size: u32, words: u32, end: usize) -> Slot
     requires { ⌜ IsPower align × (up align end ≤ limit) ⌝ }
     ensures { λ r. ⌜ r ≡ record { ty = ty; start = up align end; end = up align end + size; words = words } ⌝ }
 {
     let start = up_power(wide(align), end);
-    Placed {
+    Slot {
         ty,
         start,
         end: start + wide(size),
@@ -105,13 +105,13 @@ fn put_after(ty: usize, align: u32, size: u32, words: u32, end: usize) -> Placed
 }
 
 // Member `m`, where the one before it ended at `end`. Most members are given neither size nor align: those go first.
-pub fn place(members: &[u8], table: &[Value], m: usize, end: usize) -> Placed
-    requires { ⌜ Placeable (now members) (now table) m end ⌝ }
-    ensures { λ r. ⌜ r ≡ placedAt (now (members .entry)) (now (table .entry)) m end ⌝ }
+pub fn slot_after(members: &[u8], table: &[Row], m: usize, end: usize) -> Slot
+    requires { ⌜ SlotAsks (now members) (now table) m end ⌝ }
+    ensures { λ r. ⌜ r ≡ slotAt (now (members .entry)) (now (table .entry)) m end ⌝ }
 {
     let e = member_at(members, m);
     let ty = wide(e.ty);
-    let r = layout_at(table, ty);
+    let r = value_at(table, ty);
     let words = words_of(r);
     if e.flags == 0 {
         return put_after(ty, r.align, r.size, words, end);
@@ -127,19 +127,19 @@ pub fn place(members: &[u8], table: &[Value], m: usize, end: usize) -> Placed
 
 // Member `number` of a struct with the layout `l`. Structs may share member entries, so a member's place is worked out in its own struct,
 // from the first member on.
-pub fn member_in(members: &[u8], table: &[Value], l: Layout, number: u32) -> Placed
-    requires { ⌜ Placeables (now members) (now table) (l .stride) (l .reference * l .stride) 0 number ⌝ }
-    ensures { λ r. ⌜ r ≡ placedIn (now (members .entry)) (now (table .entry)) (l .stride) (l .reference * l .stride) 0 number ⌝ }
+pub fn member_in(members: &[u8], table: &[Row], l: Value, number: u32) -> Slot
+    requires { ⌜ SlotsAsk (now members) (now table) (l .stride) (l .reference * l .stride) 0 number ⌝ }
+    ensures { λ r. ⌜ r ≡ slotIn (now (members .entry)) (now (table .entry)) (l .stride) (l .reference * l .stride) 0 number ⌝ }
 {
     let length = wide(l.stride);
     let mut m = wide(l.reference) * length;
     let mut end: usize = 0;
     let mut left = wide(number);
     while 0 < left {
-        let p = place(members, table, m, end);
+        let p = slot_after(members, table, m, end);
         end = p.end;
         m += length;
         left -= 1;
     }
-    place(members, table, m, end)
+    slot_after(members, table, m, end)
 }

@@ -12,11 +12,10 @@ use native.Mathlib.Omega.{arith}
 use borrow.Author.Tests.{leb-true, leb-false}
 use lib.Dec.{leb}
 use lib.ListN.{length, take, getD, getElem?}
-use Rattle.wgsl.specs.Types.{Scalar, Ty, scalar, vector, matrix, array, runtime, atomic, struct, Members}
+use Rattle.wgsl.specs.Types.{Scalar, Ty, scalar, vector, matrix, array, runtime, atomic, struct, Members, scalarKind}
 use Rattle.wgsl.specs.Said.{good}
 use Rattle.wgsl.specs.File.{trailerOf, trailerLength, typeEntryLength, memberEntryLength, lengthBy, TypeEntry, typeEntryAt}
 use Rattle.wgsl.specs.Rule.{membersFrom, typeOfEntry, typesOf}
-use Rattle.wgsl.specs.Rank.{kindOf}
 use Rattle.wgsl.proofs.Absent.{some-not-none}
 use Rattle.wgsl.proofs.Accepted.{accepted, below-entry, judged-good}
 use Rattle.wgsl.proofs.Fields.{OverScalar, OverType, OverMembers, scalar-entry, vector-entry, matrix-entry, array-entry, runtime-entry, runtime-count, atomic-entry, struct-entry, kind-bounded}
@@ -50,7 +49,7 @@ module _ {A : Type 0} where
 module _ (f : List ℕ) (ts : List Ty) (good-file : typesOf f ≡ good ts) where
   -- The bytes of an entry lie inside the file.
   pub entry-inside : (start k : ℕ) → start ≡ trailerOf f .start → k < length ts → start + 12 * k + 12 ≤ length f
-  unfolding lengthBy trailerLength typeEntryLength memberEntryLength
+  unfolding lengthBy
   entry-inside start k s h =
       let a = accepted f ts good-file in
       omega (arith, a .trailer-good .long, a .count)
@@ -81,7 +80,7 @@ module _ {f : List ℕ} {ts : List Ty} {k : ℕ} {t : Ty} {x : TypeEntry} (at : 
   made : typeOfEntry f (take k ts) k ≡ some t
   made = entry-made f ts (at .good-file) k t (at .type-is)
 
-  pub scalar-at : x .kind ≤ 6 → (s : Scalar) × (t ≡ scalar s) × (kindOf s ≡ x .kind)
+  pub scalar-at : x .kind ≤ 6 → (s : Scalar) × (t ≡ scalar s) × (scalarKind s ≡ x .kind)
   scalar-at h = rw (at .fields-are) (scalar-entry f (take k ts) k t made (rw (at .fields-are) at h))
 
   pub vector-at : x .kind ≡ 7 → OverScalar ts (x .reference) t (vector (x .rows))

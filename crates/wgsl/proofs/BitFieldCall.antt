@@ -16,18 +16,18 @@ use Rattle.wgsl.specs.Size.{present, widthOf, isStorable}
 use Rattle.wgsl.specs.Said.{good, refused, orRefuse}
 use Rattle.wgsl.specs.Place.{elementsIn, one, shapeOf, spanOf, wordPlaces, storeWords, wordCount}
 use Rattle.wgsl.specs.Path.{Target, stepOf}
-use Rattle.wgsl.specs.Call.{Done, laidEntry, storedEntry, isShort, targetIn, viewCall, scalarAt, setCall}
+use Rattle.wgsl.specs.Call.{Done, entryFor, isShort, targetIn, targetCall, viewCall, scalarAt, setScalar, setTarget, setCall}
 use Rattle.wgsl.specs.BitField.{bitsOf, repeatedTop, inserted}
-use Rattle.wgsl.specs.Claim.{Fit, GoodIf, CanField}
+use Rattle.wgsl.specs.Claim.{LaidOut, Fit, GoodIf, CanField}
 use Rattle.wgsl.specs.Demand.{Given, Leading, SetThenRead}
-use Rattle.wgsl.specs.BitFieldCall.{isInteger, isSigned, Found, integerAt, wordOf, extractedAs, extractCall, insertCall}
+use Rattle.wgsl.specs.BitFieldCall.{isInteger, isSigned, FoundInteger, integerOf, integerAt, wordOf, extractedAs, extractCall, insertCall}
 use Rattle.wgsl.proofs.Absent.{true-not-false}
 use Rattle.wgsl.proofs.Said.{then-good, then-is, then-refused, next-is, refuse-good, refuse-no, refuse-yes, orRefuse-good}
 use Rattle.wgsl.proofs.Number.{length-store, load-bounded, load-store}
 use Rattle.wgsl.proofs.Path.{target, walk-leads, leads-walk, target-inside}
 use Rattle.wgsl.proofs.Word.{fit-checkWords}
-use Rattle.wgsl.proofs.Call.{stored-good, stored-is, entry-well-formed, entry-sound, short-no, done}
-use Rattle.wgsl.proofs.Good.{short-room, room-short, one-scalar}
+use Rattle.wgsl.proofs.Call.{laid-good, stored-good, stored-is, unstored-is, entry-well-formed, entry-sound, short-no, done}
+use Rattle.wgsl.proofs.Good.{short-room, room-short, one-scalar, leads-to}
 use Rattle.wgsl.proofs.Demand.{demand-three}
 use Rattle.wgsl.proofs.BitField.{inserted-word, extract-inserted, extract-inserted-signed}
 
@@ -45,14 +45,14 @@ integer-width abstractInt e = true-not-false e refl
 integer-width abstractFloat e = true-not-false e refl
 
 -- where it lies
-abbrev found : ℕ → Scalar → Found
+abbrev found : ℕ → Scalar → FoundInteger
 found a s = record { offset = a; scalar = s }
 
 -- ---- when the calls are good
 
 module _ (f : List ℕ) (e : ℕ) (steps b : List ℕ) where
   integer-good-if : GoodIf (integerAt f e steps b) (CanField f e steps b)
-  unfolding integerAt targetIn scalarAt orRefuse
+  unfolding integerAt integerOf targetCall targetIn scalarAt orRefuse
   integer-good-if =
       record {
         if-so = λ c.
@@ -60,18 +60,18 @@ module _ (f : List ℕ) (e : ℕ) (steps b : List ℕ) where
             let well = entry-well-formed f e t (c .stored .entry) in
             let x : Target = target (c .offset) (one (c .scalar-there)) in (
               _,
-              then-is _ (stored-is (c .stored))
-                  ∙ then-is {a = x} _ (refuse-no 15 0 (room-short t b well (c .room)) ∙ leads-walk (c .valid) 0)
+              then-is {a = x} _
+                  (then-is _ (stored-is (c .stored)) ∙ refuse-no 15 0 (room-short t b well (c .room)) ∙ leads-walk (c .valid) 0)
                   ∙ then-is _ refl
                   ∙ refuse-no 14 0 (ap not (c .integer)),
             );
         only-if = λ x h.
-            let s = then-good _ _ h in
+            let path = then-good _ _ h in
+            let u = path .value in
+            let s = then-good _ _ (path .first) in
             let t = s .value in
             let stored = stored-good (s .first) in
-            let path = then-good _ _ (s .after) in
-            let u = path .value in
-            let short = refuse-good _ _ _ _ (path .first) in
+            let short = refuse-good _ _ _ _ (s .after) in
             let single = then-good _ _ (path .after) in
             let kept = refuse-good _ _ _ _ (single .after) in
             let is = one-scalar (u .shape) (single .value) (orRefuse-good _ _ _ (single .first)) in
@@ -82,7 +82,7 @@ module _ (f : List ℕ) (e : ℕ) (steps b : List ℕ) where
               room = short-room t b (entry-well-formed f e t (stored .entry)) (short .0);
               offset = u .offset;
               scalar-there = single .value;
-              valid = rw is at valid;
+              valid = leads-to is valid;
               integer = not-false (isInteger (single .value)) (kept .0);
             };
       }
@@ -109,29 +109,30 @@ module _ (f : List ℕ) (e : ℕ) (steps b : List ℕ) where
 -- a view of a scalar, at an entry that is stored or not
 record Viewed (f : List ℕ) (e : ℕ) (path b : List ℕ) (a : ℕ) (s : Scalar) : Type 0 where
   type : Ty
-  laid : laidEntry f e b ≡ good type
+  laid : LaidOut f e b type
   leads : targetIn type path b ≡ good (target a (one s))
 
 viewed : {f : List ℕ} {e : ℕ} {b path : List ℕ} {a : ℕ} {s : Scalar} → Leading f e b path a s → Viewed f e path b a s
-unfolding viewCall
-viewed l = let s = then-good _ _ (l .leads) in record { type = s .value; laid = s .first; leads = s .after }
+unfolding viewCall targetCall
+viewed l = let s = then-good _ _ (l .leads) in record { type = s .value; laid = laid-good false (s .first); leads = s .after }
 
 module _ {f : List ℕ} {e : ℕ} {b path : List ℕ} {a : ℕ} {s : Scalar} (l : Leading f e b path a s) (integer : isInteger s ≡ true) where
   v : Viewed f e path b a s
   v = viewed l
 
-  stored-yes : isStorable (v .type) ≡ true → storedEntry f e b ≡ good (v .type)
-  unfolding storedEntry
-  stored-yes q = then-is _ (v .laid) ∙ refuse-no 10 0 (ap not q)
+  stored-yes : isStorable (v .type) ≡ true → targetCall true f e path b ≡ good (target a (one s))
+  unfolding targetCall
+  stored-yes q =
+      let x = v .laid in
+      then-is _ (stored-is (record { entry = x .entry; within = x .within; layout = x .layout; storable = q })) ∙ v .leads
 
-  stored-no : isStorable (v .type) ≡ false → storedEntry f e b ≡ refused 10 0
-  unfolding storedEntry
-  stored-no q = then-is _ (v .laid) ∙ refuse-yes _ (ap not q)
+  stored-no : isStorable (v .type) ≡ false → targetCall true f e path b ≡ refused 10 0
+  unfolding targetCall
+  stored-no q = then-refused _ (unstored-is (v .laid) q)
 
   integer-is : isStorable (v .type) ≡ true → integerAt f e path b ≡ good (found a s)
-  unfolding integerAt scalarAt orRefuse
-  integer-is q =
-      then-is _ (stored-yes q) ∙ then-is _ (v .leads) ∙ then-is _ refl ∙ refuse-no 14 0 (ap not integer)
+  unfolding integerAt integerOf scalarAt orRefuse
+  integer-is q = then-is _ (stored-yes q) ∙ then-is _ refl ∙ refuse-no 14 0 (ap not integer)
 
   word-is : wordOf (found a s) b ≡ load 4 b a
   unfolding wordOf
@@ -139,7 +140,7 @@ module _ {f : List ℕ} {e : ℕ} {b path : List ℕ} {a : ℕ} {s : Scalar} (l 
 
   -- An insertion is a set with the word that has the field in it.
   pub insertion-is-set : ((i : ℕ) → getD b i 0 < 256) → (new offset count : ℕ) → insertCall f e path new offset count b ≡ setCall f e path (inserted (load 4 b a) new offset count) b
-  unfolding insertCall setCall integerAt scalarAt orRefuse wordPlaces Fit
+  unfolding insertCall setCall setTarget setScalar integerAt scalarAt orRefuse wordPlaces Fit
   insertion-is-set bytes new offset count = go (isStorable (v .type)) refl
     where
       w : ℕ
@@ -155,7 +156,6 @@ module _ {f : List ℕ} {e : ℕ} {b path : List ℕ} {a : ℕ} {s : Scalar} (l 
           then-is _ (integer-is q)
           ∙ ap (λ (x : ℕ). good (done a (storeWords (wordPlaces s a) (inserted x new offset count ∷ []) b))) word-is
           ∙ sym (then-is _ (stored-yes q)
-          ∙ then-is _ (v .leads)
           ∙ then-is _ refl
           ∙ next-is _ (fit-checkWords 0 (wordPlaces s a) (w ∷ []) (fits, tt)))
       go false q = then-refused _ (then-refused _ (stored-no q)) ∙ sym (then-refused _ (stored-no q))
@@ -176,19 +176,19 @@ insertion-alone {b = b} {path = path} {a = a} {s = s} g l integer bytes new offs
 
 -- which scalar a path leads to depends on the buffer's length alone
 integer-same : (f : List ℕ) (e : ℕ) (path b c : List ℕ) → length b ≡ length c → integerAt f e path b ≡ integerAt f e path c
-unfolding integerAt storedEntry laidEntry targetIn isShort
+unfolding integerAt targetCall entryFor targetIn isShort
 integer-same f e path b c same = rw same
 
 -- The scalar that is found is an i32 or u32 that lies inside the buffer, which is within the limit.
-pub integer-room : (f : List ℕ) (e : ℕ) (path b : List ℕ) (x : Found) → integerAt f e path b ≡ good x → (isInteger (x .scalar) ≡ true) × (x .offset + 4 ≤ length b) × (length b ≤ limit)
-unfolding integerAt targetIn scalarAt spanOf
+pub integer-room : (f : List ℕ) (e : ℕ) (path b : List ℕ) (x : FoundInteger) → integerAt f e path b ≡ good x → (isInteger (x .scalar) ≡ true) × (x .offset + 4 ≤ length b) × (length b ≤ limit)
+unfolding integerAt integerOf targetCall targetIn scalarAt spanOf
 integer-room f e path b x h =
-    let s = then-good _ _ h in
+    let way = then-good _ _ h in
+    let u = way .value in
+    let s = then-good _ _ (way .first) in
     let t = s .value in
     let stored = stored-good (s .first) in
-    let way = then-good _ _ (s .after) in
-    let u = way .value in
-    let short = refuse-good _ _ _ _ (way .first) in
+    let short = refuse-good _ _ _ _ (s .after) in
     let single = then-good _ _ (way .after) in
     let k = single .value in
     let kept = refuse-good _ _ _ _ (single .after) in
@@ -211,7 +211,7 @@ extracted-again s old new offset count =
     rw (extract-inserted-signed old new offset count, extract-inserted old new offset count)
 
 -- Extracting a freshly inserted field gives it back, cut to c bits, and for i32 with the top one of them repeated above.
-pub extraction-after-insertion : (f : List ℕ) (e : ℕ) (path b : List ℕ) → ((i : ℕ) → getD b i 0 < 256) → (new offset count : ℕ) (x : Found) → integerAt f e path b ≡ good x → (d : Done) → insertCall f e path new offset count b ≡ good d → extractCall f e path (d .contents) offset count ≡ good (cond (isSigned (x .scalar)) (repeatedTop (bitsOf offset count) (new % 2 ^ bitsOf offset count)) (new % 2 ^ bitsOf offset count))
+pub extraction-after-insertion : (f : List ℕ) (e : ℕ) (path b : List ℕ) → ((i : ℕ) → getD b i 0 < 256) → (new offset count : ℕ) (x : FoundInteger) → integerAt f e path b ≡ good x → (d : Done) → insertCall f e path new offset count b ≡ good d → extractCall f e path (d .contents) offset count ≡ good (cond (isSigned (x .scalar)) (repeatedTop (bitsOf offset count) (new % 2 ^ bitsOf offset count)) (new % 2 ^ bitsOf offset count))
 unfolding insertCall extractCall wordOf storeWords wordPlaces
 extraction-after-insertion f e path b bytes new offset count x h d is =
     let (integer, inside, within) = integer-room f e path b x h in

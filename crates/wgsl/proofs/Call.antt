@@ -17,15 +17,16 @@ use lib.Seq.{length-take-le, take-at, drop-at, getD-take}
 use Rattle.wgsl.specs.Round.{limit, withinLimit}
 use Rattle.wgsl.specs.Types.{Ty, isOpen, everywhere}
 use Rattle.wgsl.specs.Size.{isPresent, present, sizeOf, alignOf, hasLayout, isStorable}
-use Rattle.wgsl.specs.Said.{good, _>>_, refuse}
+use Rattle.wgsl.specs.Said.{good, refused, _>>_, refuse}
 use Rattle.wgsl.specs.Rule.{isWellFormed}
 use Rattle.wgsl.specs.Place.{Tail, tailOf, extentBy, extentOf, elementsBy, elementsIn, Shape, shapeOf, spanOf, Place, placesOf, places, wordCount, written, wordsRead}
-use Rattle.wgsl.specs.Call.{Done, entryOf, laidEntry, storedEntry, isShort, elementsFor, isWrongCount, readCall, writeCall}
+use Rattle.wgsl.specs.Call.{Done, entryOf, allowed, entryFor, isShort, elementsFor, isWrongCount, readElements, readType, readCall, writeWords, writeElements, writeType, writeCall}
 use Rattle.wgsl.specs.Claim.{Ordered, LaidOut, Stored, Wrote, Read}
+use Rattle.wgsl.specs.Shapes.{Divides, Sound}
 use Rattle.wgsl.proofs.Absent.{both-hold, true-not-false, present-some}
-use Rattle.wgsl.proofs.Said.{next-good, then-good, then-is, refuse-good, refuse-no, orRefuse-good}
+use Rattle.wgsl.proofs.Said.{next-good, next-is, then-good, then-is, refuse-good, refuse-no, refuse-not, orRefuse-good}
 use Rattle.wgsl.proofs.Accepted.{accepted-well-formed}
-use Rattle.wgsl.proofs.Shape.{Divides, divides-multiple, Sound, places-ordered}
+use Rattle.wgsl.proofs.Shape.{divides-multiple, places-ordered}
 use Rattle.wgsl.proofs.Word.{checkWords-fit, length-wordsRead, wordsRead-same, length-written, written-zero, written-later, read-written}
 use Rattle.wgsl.proofs.Tail.{closed-extent}
 use Rattle.wgsl.proofs.Laid.{laid}
@@ -34,14 +35,15 @@ use Rattle.wgsl.proofs.Elements.{elements-back}
 
 -- ---- the entry that a call is about
 
--- A view that gets past 9 is about an entry that is laid out.
-pub laid-good : {f : List ℕ} {e : ℕ} {b : List ℕ} {t : Ty} → laidEntry f e b ≡ good t → LaidOut f e b t
-unfolding laidEntry withinLimit
-laid-good {b = b} {t = t} h =
+-- A call that gets past 9 is about an entry that is laid out.
+pub laid-good : (stored : Bool) {f : List ℕ} {e : ℕ} {b : List ℕ} {t : Ty} → entryFor stored f e b ≡ good t → LaidOut f e b t
+unfolding entryFor allowed withinLimit
+laid-good stored {b = b} {t = t} h =
     let s = then-good _ _ h in
-    let past = refuse-good 17 0 _ _ (s .after) in
+    let pass = next-good _ _ (s .after) in
+    let past = refuse-good 17 0 _ _ (pass .0) in
     let layout = refuse-good 9 0 _ _ (past .1) in
-    let same : s .value ≡ t = cc (layout .1) in
+    let same : s .value ≡ t = cc (pass .1) in
     record {
       entry = cc (s .first);
       within = leb-true (length b) limit (not-false (withinLimit (length b)) (past .0));
@@ -49,34 +51,36 @@ laid-good {b = b} {t = t} h =
     }
 
 -- An entry that is laid out gets past 9.
-pub laid-is : {f : List ℕ} {e : ℕ} {b : List ℕ} {t : Ty} → LaidOut f e b t → laidEntry f e b ≡ good t
-unfolding laidEntry withinLimit
-laid-is {b = b} s =
-    then-is _ (s .entry)
-    ∙ refuse-no 17 0 (ap not (le-leb (length b) limit (s .within)))
-    ∙ refuse-no 9 0 (ap not (s .layout))
+pub laid-is : {f : List ℕ} {e : ℕ} {b : List ℕ} {t : Ty} → LaidOut f e b t → entryFor false f e b ≡ good t
+unfolding entryFor allowed withinLimit refuse _>>_
+laid-is {b = b} s = then-is _ (s .entry) ∙ rw (le-leb (length b) limit (s .within), s .layout) refl
 
 -- A read, write or set that gets past 10 is about an entry that is stored.
-pub stored-good : {f : List ℕ} {e : ℕ} {b : List ℕ} {t : Ty} → storedEntry f e b ≡ good t → Stored f e b t
-unfolding storedEntry
-stored-good {t = t} h =
+pub stored-good : {f : List ℕ} {e : ℕ} {b : List ℕ} {t : Ty} → entryFor true f e b ≡ good t → Stored f e b t
+unfolding entryFor allowed
+stored-good {b = b} {t = t} h =
+    let l = laid-good true {b = b} h in
     let s = then-good _ _ h in
-    let l = laid-good (s .first) in
-    let storable = refuse-good 10 0 _ _ (s .after) in
-    let same : s .value ≡ t = cc (storable .1) in
+    let pass = next-good _ _ (s .after) in
+    let past = refuse-good 17 0 _ _ (pass .0) in
+    let layout = refuse-good 9 0 _ _ (past .1) in
+    let same : s .value ≡ t = cc (pass .1) in
     record {
-      entry = cc (l .entry);
+      entry = l .entry;
       within = l .within;
-      layout = cc (l .layout);
-      storable = cc (not-false (isStorable (s .value)) (storable .0));
+      layout = l .layout;
+      storable = cc (refuse-not 10 0 (isStorable (s .value)) (layout .1));
     }
 
 -- An entry that is stored gets past 10.
-pub stored-is : {f : List ℕ} {e : ℕ} {b : List ℕ} {t : Ty} → Stored f e b t → storedEntry f e b ≡ good t
-unfolding storedEntry
-stored-is s =
-    then-is _ (laid-is (record { entry = s .entry; within = s .within; layout = s .layout }))
-    ∙ refuse-no 10 0 (ap not (s .storable))
+pub stored-is : {f : List ℕ} {e : ℕ} {b : List ℕ} {t : Ty} → Stored f e b t → entryFor true f e b ≡ good t
+unfolding entryFor allowed withinLimit refuse _>>_
+stored-is {b = b} s = then-is _ (s .entry) ∙ rw (le-leb (length b) limit (s .within), s .layout, s .storable) refl
+
+-- An entry that is laid out and cannot be stored is refused with 10 where it is to be.
+pub unstored-is : {f : List ℕ} {e : ℕ} {b : List ℕ} {t : Ty} → LaidOut f e b t → isStorable t ≡ false → entryFor true f e b ≡ refused 10 0
+unfolding entryFor allowed withinLimit refuse _>>_
+unstored-is {b = b} s q = then-is _ (s .entry) ∙ rw (le-leb (length b) limit (s .within), s .layout, q) refl
 
 -- ---- its shape
 
@@ -153,7 +157,7 @@ right-count t ws h =
 
 -- Writing writes the words over the type's extent, with zeros where no word lies, and nothing past it.
 pub write-wrote : (f : List ℕ) (e : ℕ) (ws b : List ℕ) (d : Done) → writeCall f e ws b ≡ good d → Wrote f e ws b d
-unfolding writeCall wordCount
+unfolding writeCall writeType writeElements writeWords wordCount
 write-wrote f e ws b d h =
     let s = then-good _ _ h in
     let t = s .value in
@@ -185,7 +189,7 @@ write-wrote f e ws b d h =
 
 -- Reading gives a word for each place, and the later words stay.
 pub read-read : (f : List ℕ) (e : ℕ) (b ws : List ℕ) (d : Done) → readCall f e b ws ≡ good d → Read f e b ws d
-unfolding readCall wordCount
+unfolding readCall readType readElements wordCount
 read-read f e b ws d h =
     let s = then-good _ _ h in
     let t = s .value in
@@ -211,7 +215,7 @@ read-read f e b ws d h =
 
 -- A read of a stored entry that finds room in the buffer and in the words gives the words of its places, and then the later words.
 pub read-is : (f : List ℕ) (e : ℕ) (b ws : List ℕ) (t : Ty) (n : ℕ) → Stored f e b t → isShort t b ≡ false → elementsIn (length b) t ≡ n → wordCount n t ≤ length ws → readCall f e b ws ≡ good (done (wordCount n t) (wordsRead (places n t) b ++ drop (wordCount n t) ws))
-unfolding readCall
+unfolding readCall readType readElements
 read-is f e b ws t n s h q room =
     then-is _ (stored-is s)
     ∙ refuse-no 15 0 h

@@ -14,22 +14,15 @@ use Rattle.wgsl.specs.Types.{Scalar, bool, i32, u32, f32, f16, abstractI
 use Rattle.wgsl.specs.Size.{present, widthOf, sizeOf, alignOf, memberEnd}
 use Rattle.wgsl.specs.Rule.{countOf, membersAllowed, isAllowed, isWellFormed, membersGivenFit}
 use Rattle.wgsl.specs.Place.{extentOf, Shape, one, parts, field, whole, column, shapeOf, fieldsOf, spanOf, wordPlaces, repeated, placesOf, places, wordCount}
+use Rattle.wgsl.specs.Shapes.{shapeWords, From, Sound}
 use Rattle.wgsl.proofs.Absent.{between-true, true-not-false}
 use Rattle.wgsl.proofs.Passed.{passed, matrix-passed, array-passed, runtime-passed, struct-passed}
-use Rattle.wgsl.proofs.Shape.{From, Sound}
 use Rattle.wgsl.proofs.Tail.{sized-has, sized-takes}
 use Rattle.wgsl.proofs.Members.{first-member}
 use Rattle.wgsl.proofs.Closed.{member-open}
 use Rattle.wgsl.proofs.Laid.{laid}
 
 -- ---- the words of a shape
-
--- how many scalars a shape holds
-unfoldable pub words : Shape → ℕ
-words (one s) = 1
-words (parts n stride x) = n * words x
-words (field offset x rest) = words x + words rest
-words (whole z) = 0
 
 pub repeated-length : {A : Type 0} (n stride : ℕ) (f : ℕ → List A) (at k : ℕ) → ((p : ℕ) → length (f p) ≡ k) → length (repeated n stride f at) ≡ n * k
 unfolding repeated
@@ -38,15 +31,15 @@ repeated-length (suc n) stride f at k h =
     rw (length-append, h at, repeated-length n stride f (at + stride) k h) (omega (arith, suc-mul n k))
 
 -- A shape has as many places as words, wherever it lies.
-pub places-words : (x : Shape) (at : ℕ) → length (placesOf x at) ≡ words x
-unfolding placesOf wordPlaces words
+pub places-words : (x : Shape) (at : ℕ) → length (placesOf x at) ≡ shapeWords x
+unfolding placesOf wordPlaces shapeWords
 places-words (one s) at = refl
-places-words (parts n stride x) at = repeated-length n stride (λ p. placesOf x p) at (words x) (λ p. places-words x p)
+places-words (parts n stride x) at = repeated-length n stride (λ p. placesOf x p) at (shapeWords x) (λ p. places-words x p)
 places-words (field offset x rest) at = rw (length-append, places-words x (at + offset), places-words rest at)
 places-words (whole z) at = refl
 
 -- A type has as many words as its shape.
-pub count-words : (n : ℕ) (t : Ty) → wordCount n t ≡ words (shapeOf n t)
+pub count-words : (n : ℕ) (t : Ty) → wordCount n t ≡ shapeWords (shapeOf n t)
 unfolding wordCount places
 count-words n t = places-words (shapeOf n t) 0
 
@@ -54,32 +47,32 @@ count-words n t = places-words (shapeOf n t) 0
 
 -- A scalar is one word.
 pub wordCount-scalar : (n : ℕ) (s : Scalar) → wordCount n (scalar s) ≡ 1
-unfolding shapeOf words
+unfolding shapeOf shapeWords
 wordCount-scalar n s = count-words n (scalar s)
 
 -- A vector of k scalars is k words.
 pub wordCount-vector : (n k : ℕ) (s : Scalar) → wordCount n (vector k s) ≡ k
-unfolding shapeOf column words
+unfolding shapeOf column shapeWords
 wordCount-vector n k s = count-words n (vector k s) ∙ mul-one k
 
 -- A matrix is columns times rows words.
 pub wordCount-matrix : (n c r : ℕ) (s : Scalar) → wordCount n (matrix c r s) ≡ c * r
-unfolding shapeOf column words
+unfolding shapeOf column shapeWords
 wordCount-matrix n c r s = count-words n (matrix c r s) ∙ ap (λ (i : ℕ). c * i) (mul-one r)
 
 -- An array of k elements has k times the words of one.
 pub wordCount-array : (n k : ℕ) (t : Ty) → wordCount n (array k t) ≡ k * wordCount n t
-unfolding shapeOf words
+unfolding shapeOf shapeWords
 wordCount-array n k t = rw (count-words n t) (count-words n (array k t))
 
 -- A runtime array has the words of its n elements.
 pub wordCount-runtime : (n : ℕ) (t : Ty) → wordCount n (runtime t) ≡ n * wordCount n t
-unfolding shapeOf words
+unfolding shapeOf shapeWords
 wordCount-runtime n t = rw (count-words n t) (count-words n (runtime t))
 
 -- An atomic is one word.
 pub wordCount-atomic : (n : ℕ) (s : Scalar) → wordCount n (atomic s) ≡ 1
-unfolding shapeOf words
+unfolding shapeOf shapeWords
 wordCount-atomic n s = count-words n (atomic s)
 
 -- the words of members together
@@ -87,8 +80,8 @@ unfoldable pub membersWords : ℕ → Members → ℕ
 membersWords n no-more = 0
 membersWords n (member t size align ms) = wordCount n t + membersWords n ms
 
-fields-words : (n z : ℕ) (end : Option ℕ) (ms : Members) → words (fieldsOf n z end ms) ≡ membersWords n ms
-unfolding fieldsOf words membersWords
+fields-words : (n z : ℕ) (end : Option ℕ) (ms : Members) → shapeWords (fieldsOf n z end ms) ≡ membersWords n ms
+unfolding fieldsOf shapeWords membersWords
 fields-words n z end no-more = refl
 fields-words n z end (member t size align ms) =
     rw (count-words n t, fields-words n z (memberEnd end align (alignOf t) size (sizeOf t)) ms)
@@ -112,18 +105,18 @@ scalar-room abstractFloat h = omega arith
 
 -- Each word of a sound shape takes at least 2 of its bytes.
 mutual
-  unfolding Sound From words spanOf
+  unfolding Sound From shapeWords spanOf
 
-  pub words-room : (x : Shape) → Sound x → 2 * words x ≤ spanOf x
+  pub words-room : (x : Shape) → Sound x → 2 * shapeWords x ≤ spanOf x
   words-room (one s) sound = scalar-room s sound
   words-room (parts n stride x) sound =
-      let l : 2 * words x ≤ stride = omega (arith, words-room x (sound .0), sound .1) in
-      rw (mul-left-comm 2 n (words x)) (mul-le-mul-left n l)
+      let l : 2 * shapeWords x ≤ stride = omega (arith, words-room x (sound .0), sound .1) in
+      rw (mul-left-comm 2 n (shapeWords x)) (mul-le-mul-left n l)
   words-room (field offset x rest) sound =
       omega (arith, words-room x (sound .0), rest-room rest (offset + spanOf x) (sound .1) (sound .2))
   words-room (whole z) sound = omega arith
 
-  rest-room : (x : Shape) (lo : ℕ) → Sound x → From x lo → lo + 2 * words x ≤ spanOf x
+  rest-room : (x : Shape) (lo : ℕ) → Sound x → From x lo → lo + 2 * shapeWords x ≤ spanOf x
   rest-room (one s) lo sound from = absurd from
   rest-room (parts n stride x) lo sound from = absurd from
   rest-room (field offset x rest) lo sound from =
@@ -137,9 +130,9 @@ words-bounded n t a z w e h =
     omega (arith, count-words n t, words-room (shapeOf n t) (l .sound), l .span, sized-takes n t z w h)
 
 mutual
-  unfolding isAllowed isOpen endsInRuntime column fieldsOf words countOf
+  unfolding isAllowed isOpen endsInRuntime column fieldsOf shapeWords countOf
 
-  shape-positive : (n : ℕ) (t : Ty) → everywhere isWellFormed t ≡ true → (isOpen t ≡ true → 1 ≤ n) → 1 ≤ words (shapeOf n t)
+  shape-positive : (n : ℕ) (t : Ty) → everywhere isWellFormed t ≡ true → (isOpen t ≡ true → 1 ≤ n) → 1 ≤ shapeWords (shapeOf n t)
   shape-positive n (scalar s) w h = omega arith
   shape-positive n (vector k s) w h =
       mul-pos (omega (arith, between-true 2 4 k (passed (vector k s) w .allowed) .0)) (omega arith)
@@ -157,7 +150,7 @@ mutual
       let p = struct-passed k ms w in
       fields-positive n (extentOf n (struct k ms)) (some 0) ms (p .below) (p .allowed) (p .given) (p .some-there) h
 
-  fields-positive : (n z : ℕ) (end : Option ℕ) (ms : Members) → everyMember isWellFormed ms ≡ true → membersAllowed ms ≡ true → membersGivenFit ms ≡ true → 1 ≤ countOf ms → (endsInRuntime false ms ≡ true → 1 ≤ n) → 1 ≤ words (fieldsOf n z end ms)
+  fields-positive : (n z : ℕ) (end : Option ℕ) (ms : Members) → everyMember isWellFormed ms ≡ true → membersAllowed ms ≡ true → membersGivenFit ms ≡ true → 1 ≤ countOf ms → (endsInRuntime false ms ≡ true → 1 ≤ n) → 1 ≤ shapeWords (fieldsOf n z end ms)
   fields-positive n z end no-more w ok g c h = absurd (omega arith)
   fields-positive n z end (member t size align ms) w ok g c h =
       let m = first-member t size align ms w ok g in

@@ -20,12 +20,12 @@ use Rattle.wgsl.specs.Size.{present, widthOf, sizeOf, hasLayout, isPlain
 use Rattle.wgsl.specs.Said.{good, orRefuse}
 use Rattle.wgsl.specs.Place.{elementsBy, elementsIn, one, shapeOf, spanOf, Place, wordPlaces, places, wordCount, storeWords, wordsRead}
 use Rattle.wgsl.specs.Path.{walk, stepOf}
-use Rattle.wgsl.specs.Call.{isShort, targetIn, viewCall, scalarAt, setCall}
+use Rattle.wgsl.specs.Call.{isShort, targetIn, targetCall, viewCall, scalarAt, setScalar, setTarget, setCall}
 use Rattle.wgsl.specs.Claim.{Apart, Ordered, Uncovered, Fit, Stored}
 use Rattle.wgsl.specs.Demand.{Given, Leading, Words, SetThenRead, DemandThree}
+use Rattle.wgsl.specs.Shapes.{Divides, Sound}
 use Rattle.wgsl.proofs.Absent.{both-hold, present-is}
 use Rattle.wgsl.proofs.Said.{next-is, then-good, then-is, refuse-good, refuse-no}
-use Rattle.wgsl.proofs.Shape.{Divides, Sound}
 use Rattle.wgsl.proofs.Path.{target, target-inside, target-multiple, paths-apart}
 use Rattle.wgsl.proofs.PathPlace.{path-place}
 use Rattle.wgsl.proofs.Step.{stepOf-injective}
@@ -87,11 +87,11 @@ fixed {f} {e} {b} c g q =
 module _ {f : List ℕ} {e : ℕ} {b : List ℕ} (g : Given f e b) where
   -- A view that leads to a scalar walks there.
   pub walks : {path : List ℕ} {a : ℕ} {s : Scalar} → Leading f e b path a s → walk 0 0 (shapeOf 0 (g .type)) (map stepOf path) ≡ good (target a (one s))
-  unfolding viewCall targetIn
+  unfolding viewCall targetCall targetIn
   walks {path} {a} {s} l =
       let x = fixed b g refl in
       let h = then-good _ _ (l .leads) in
-      let same : h .value ≡ g .type = cc (laid-good (h .first) .entry, g .entry) in
+      let same : h .value ≡ g .type = cc (laid-good false (h .first) .entry, g .entry) in
       let w = refuse-good 15 0 _ _ (h .after) .1 in
       ap (λ (n : ℕ). walk 0 0 (shapeOf n (g .type)) (map stepOf path)) (sym (x .no-elements))
       ∙ ap (λ (t : Ty). walk 0 0 (shapeOf (elementsIn (length b) t) t) (map stepOf path)) (sym same)
@@ -147,12 +147,11 @@ one-changed before after s a w b rest hi o room small =
 
 -- a set at a path to a scalar that can hold the word is not refused
 set-done : {f : List ℕ} {e : ℕ} {b path : List ℕ} {a : ℕ} {s : Scalar} (g : Given f e b) → Leading f e b path a s → (w : ℕ) → w < 256 ^ present (widthOf s) → setCall f e path w b ≡ good (done a (storeWords (wordPlaces s a) (w ∷ []) b))
-unfolding setCall targetIn scalarAt orRefuse wordPlaces Fit
+unfolding setCall setTarget setScalar targetCall targetIn scalarAt orRefuse wordPlaces Fit
 set-done {f} {e} {b} {path} {a} {s} g l w small =
     let x = fixed b g refl in
     let there = ap (λ (n : ℕ). walk 0 0 (shapeOf n (g .type)) (map stepOf path)) (x .no-elements) ∙ walks g l in
-    then-is _ (stored-is (x .stored))
-    ∙ then-is _ (refuse-no 15 0 (x .not-short) ∙ there)
+    then-is _ (then-is _ (stored-is (x .stored)) ∙ refuse-no 15 0 (x .not-short) ∙ there)
     ∙ then-is _ refl
     ∙ next-is _ (fit-checkWords 0 (wordPlaces s a) (w ∷ []) (small, tt))
 

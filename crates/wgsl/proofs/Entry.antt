@@ -67,7 +67,6 @@ align-positive t a w e = power-positive (align-power t a w e)
 
 -- Every alignment of an entry of an accepted file is a power of two, at most 2 ^ 31.
 pub entry-align : (f : List ℕ) (ts : List Ty) → typesOf f ≡ good ts → (k : ℕ) (t : Ty) → getElem? ts k ≡ some t → (a : ℕ) → alignOf t ≡ some a → IsPower a × (a ≤ 2 ^ 31)
-unfolding limit
 entry-align f ts e k t h a al =
     let w = accepted-well-formed f ts e k t h in
     let p = align-power t a w al in

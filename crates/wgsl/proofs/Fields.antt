@@ -12,15 +12,14 @@ use native.Mathlib.Omega.{arith}
 use borrow.Author.Tests.{le-leb, lt-leb, ne-eqb, leb-true, leb-false, eqb-true}
 use lib.Dec.{leb, eqb}
 use lib.ListN.{getElem?}
-use Rattle.wgsl.specs.Types.{Scalar, bool, i32, u32, f32, f16, abstractInt, abstractFloat, Ty, scalar, vector, matrix, array, runtime, atomic, struct, Members}
+use Rattle.wgsl.specs.Types.{Scalar, bool, i32, u32, f32, f16, abstractInt, abstractFloat, Ty, scalar, vector, matrix, array, runtime, atomic, struct, Members, scalarKind}
 use Rattle.wgsl.specs.File.{trailerOf, TypeEntry, typeEntryAt}
 use Rattle.wgsl.specs.Rule.{when, andThen, unused, scalarOfKind, scalarIn, lower, membersFrom, scalarMade, vectorMade, matrixMade, arrayMade, runtimeMade, atomicMade, structMade, overMade, typeMade, typeOfEntry}
-use Rattle.wgsl.specs.Rank.{kindOf}
 use Rattle.wgsl.proofs.Absent.{both-hold, some-not-none}
 use Rattle.wgsl.proofs.Said.{when-some, andThen-some}
 
-scalar-kind : (kind : ℕ) (s : Scalar) → scalarOfKind kind ≡ some s → kindOf s ≡ kind
-unfolding scalarOfKind kindOf
+scalar-kind : (kind : ℕ) (s : Scalar) → scalarOfKind kind ≡ some s → scalarKind s ≡ kind
+unfolding scalarOfKind scalarKind
 scalar-kind zero s e = rw (← Option·some-injective bool s e)
 scalar-kind (suc zero) s e = rw (← Option·some-injective i32 s e)
 scalar-kind (suc (suc zero)) s e = rw (← Option·some-injective u32 s e)
@@ -82,7 +81,7 @@ module _ (f : List ℕ) (ts : List Ty) (k : ℕ) (t : Ty) (made : typeOfEntry f 
   here = when-some _ _ made .1
 
   -- An entry of kind 0 to 6 makes the scalar of that kind.
-  pub scalar-entry : typeEntryAt f k .kind ≤ 6 → (s : Scalar) × (t ≡ scalar s) × (kindOf s ≡ typeEntryAt f k .kind)
+  pub scalar-entry : typeEntryAt f k .kind ≤ 6 → (s : Scalar) × (t ≡ scalar s) × (scalarKind s ≡ typeEntryAt f k .kind)
   unfolding typeMade scalarMade
   scalar-entry h =
       let x : TypeEntry = typeEntryAt f k in

@@ -17,9 +17,10 @@ use Rattle.wgsl.specs.Size.{present, sizeOf}
 use Rattle.wgsl.specs.Said.{orRefuse}
 use Rattle.wgsl.specs.Rule.{isWellFormed}
 use Rattle.wgsl.specs.Place.{Tail, extentBy, extentOf, elementsBy, elementsIn, Shape, one, parts, field, whole, shapeOf, wordPlaces, placesOf, places, wordCount}
-use Rattle.wgsl.specs.Path.{Target, stepOf}
-use Rattle.wgsl.specs.Call.{isShort, elementsFor, isWrongCount, readCall, writeCall, targetIn, viewCall, scalarAt, setCall}
-use Rattle.wgsl.specs.Claim.{Fit, HasRoom, GoodIf, CanWrite, CanRead, CanView, CanSet}
+use Rattle.wgsl.specs.Path.{Target, Step, stepOf}
+use Rattle.wgsl.specs.Call.{isShort, elementsFor, isWrongCount, readElements, readType, readCall, writeWords, writeElements, writeType, writeCall, targetIn, targetCall, viewCall, scalarAt, setScalar, setTarget, setCall}
+use Rattle.wgsl.specs.Claim.{Fit, Leads, HasRoom, GoodIf, CanWrite, CanRead, CanView, CanSet}
+use Rattle.wgsl.specs.Shapes.{shapeWords, Opened}
 use Rattle.wgsl.proofs.Absent.{both-hold, true-not-false, some-not-none}
 use Rattle.wgsl.proofs.Said.{next-good, next-is, then-good, then-is, refuse-good, refuse-no, orRefuse-good}
 use Rattle.wgsl.proofs.Passed.{runtime-passed, struct-passed}
@@ -27,8 +28,8 @@ use Rattle.wgsl.proofs.Path.{target, walk-leads, leads-walk}
 use Rattle.wgsl.proofs.Word.{checkWords-fit, fit-checkWords}
 use Rattle.wgsl.proofs.Tail.{closed-extent, sized-closed}
 use Rattle.wgsl.proofs.Closed.{closed-shape}
-use Rattle.wgsl.proofs.Count.{words, count-words, words-positive}
-use Rattle.wgsl.proofs.Opened.{lastOf, Opened, runtime-opened, struct-opened, opened-words}
+use Rattle.wgsl.proofs.Count.{count-words, words-positive}
+use Rattle.wgsl.proofs.Opened.{lastOf, runtime-opened, struct-opened, opened-words}
 use Rattle.wgsl.proofs.Elements.{open-tail}
 use Rattle.wgsl.proofs.Call.{laid-good, laid-is, stored-good, stored-is, entry-well-formed, open-element, right-count, read-is}
 
@@ -95,7 +96,7 @@ elements-counted n t w o =
     let p = runtime-passed u well in
     let closed = sized-closed u (p .own) (p .below) (p .own-is) in
     let same : (m : ℕ) → wordCount m u ≡ wordCount 0 u =
-    λ m. count-words m u ∙ ap words (closed-shape u (p .below) closed m 0) ∙ sym (count-words 0 u) in
+    λ m. count-words m u ∙ ap shapeWords (closed-shape u (p .below) closed m 0) ∙ sym (count-words 0 u) in
     let k = wordCount 0 u in
     let pos : 1 ≤ k = words-positive 0 u (p .below) (λ q. true-not-false q closed) in
     let all : (m : ℕ) → wordCount m t - wordCount 0 t ≡ m * k =
@@ -106,7 +107,7 @@ elements-counted n t w o =
 
 -- A read is good exactly if the entry is stored, the buffer has room and the words are enough.
 pub read-good-if : (f : List ℕ) (e : ℕ) (b ws : List ℕ) → GoodIf (readCall f e b ws) (CanRead f e b ws)
-unfolding readCall
+unfolding readCall readType readElements
 read-good-if f e b ws =
     record {
       if-so = λ c.
@@ -154,7 +155,7 @@ counted t n ws w some-elements count = go (isOpen t) refl
         }
     go false o =
         let shape = closed-shape t w o m n in
-        let words-same : wordCount m t ≡ wordCount n t = count-words m t ∙ ap words shape ∙ sym (count-words n t) in
+        let words-same : wordCount m t ≡ wordCount n t = count-words m t ∙ ap shapeWords shape ∙ sym (count-words n t) in
         record {
           right = rw (eq-eqb (length ws) (wordCount m t) (count ∙ sym words-same), o);
           places-same = ap (λ (x : Shape). placesOf x 0) shape;
@@ -163,7 +164,7 @@ counted t n ws w some-elements count = go (isOpen t) refl
 
 -- A write is good exactly if the entry is stored, the words are as many as it has, there is room, and each can be held.
 pub write-good-if : (f : List ℕ) (e : ℕ) (ws b : List ℕ) → GoodIf (writeCall f e ws b) (CanWrite f e ws b)
-unfolding writeCall
+unfolding writeCall writeType writeElements writeWords
 write-good-if f e ws b =
     record {
       if-so = λ c.
@@ -201,7 +202,7 @@ write-good-if f e ws b =
 
 -- A view is good exactly if the entry has a layout, the buffer has room and the steps lead somewhere.
 pub view-good-if : (f : List ℕ) (e : ℕ) (steps b : List ℕ) → GoodIf (viewCall f e steps b) (CanView f e steps b)
-unfolding viewCall targetIn
+unfolding viewCall targetCall targetIn
 view-good-if f e steps b =
     record {
       if-so = λ c.
@@ -215,7 +216,7 @@ view-good-if f e steps b =
       only-if = λ u h.
           let s = then-good _ _ h in
           let t = s .value in
-          let laid = laid-good (s .first) in
+          let laid = laid-good false (s .first) in
           let short = refuse-good _ _ _ _ (s .after) in
           record {
             type = t;
@@ -237,9 +238,13 @@ one-scalar (parts n stride x) s e = some-not-none e refl
 one-scalar (field offset x rest) s e = some-not-none e refl
 one-scalar (whole z) s e = some-not-none e refl
 
+-- Steps that lead to a shape lead to what is the same.
+pub leads-to : {off a : ℕ} {x y z : Shape} {steps : List Step} → y ≡ z → Leads off x steps a y → Leads off x steps a z
+leads-to e l = rw e at l
+
 -- A set is good exactly if the entry is stored, the buffer has room, and the steps lead to one scalar that can hold the word.
 pub set-good-if : (f : List ℕ) (e : ℕ) (steps : List ℕ) (w : ℕ) (b : List ℕ) → GoodIf (setCall f e steps w b) (CanSet f e steps w b)
-unfolding setCall targetIn scalarAt orRefuse wordPlaces Fit
+unfolding setCall setTarget setScalar targetCall targetIn scalarAt orRefuse wordPlaces Fit
 set-good-if f e steps w b =
     record {
       if-so = λ c.
@@ -247,18 +252,18 @@ set-good-if f e steps w b =
           let well = entry-well-formed f e t (c .stored .entry) in
           let x : Target = target (c .offset) (one (c .scalar-there)) in (
             _,
-            then-is _ (stored-is (c .stored))
-                ∙ then-is {a = x} _ (refuse-no 15 0 (room-short t b well (c .room)) ∙ leads-walk (c .valid) 0)
+            then-is {a = x} _
+                (then-is _ (stored-is (c .stored)) ∙ refuse-no 15 0 (room-short t b well (c .room)) ∙ leads-walk (c .valid) 0)
                 ∙ then-is _ refl
                 ∙ next-is _ (fit-checkWords 0 (wordPlaces (c .scalar-there) (c .offset)) (w ∷ []) (c .word-fits, tt)),
           );
       only-if = λ d h.
-          let s = then-good _ _ h in
+          let path = then-good _ _ h in
+          let u = path .value in
+          let s = then-good _ _ (path .first) in
           let t = s .value in
           let stored = stored-good (s .first) in
-          let path = then-good _ _ (s .after) in
-          let u = path .value in
-          let short = refuse-good _ _ _ _ (path .first) in
+          let short = refuse-good _ _ _ _ (s .after) in
           let single = then-good _ _ (path .after) in
           let is = one-scalar (u .shape) (single .value) (orRefuse-good _ _ _ (single .first)) in
           let fit = next-good _ _ (single .after) in
@@ -269,7 +274,7 @@ set-good-if f e steps w b =
             room = short-room t b (entry-well-formed f e t (stored .entry)) (short .0);
             offset = u .offset;
             scalar-there = single .value;
-            valid = rw is at valid;
+            valid = leads-to is valid;
             word-fits = checkWords-fit 0 (wordPlaces (single .value) (u .offset)) (w ∷ []) (fit .0) .0;
           };
     }

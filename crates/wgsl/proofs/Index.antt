@@ -35,7 +35,7 @@ record Counted (k : ℕ) (t : Ty) : Type 0 where
   small : k ≤ 2 ^ 31
 
 counted : (k : ℕ) (t : Ty) → everywhere isWellFormed (array k t) ≡ true → everywhere isWellFormed t ≡ true → isPresent (sizeOf (array k t)) ≡ true → Counted k t
-unfolding sizeOf strideOf limit
+unfolding sizeOf strideOf
 counted k t w below h =
     let z = present-some (sizeOf (array k t)) h in
     let outer = both-some _*_ (some k) (both up (alignOf t) (sizeOf t)) (z .0) (z .1) in

@@ -14,12 +14,13 @@ use Rattle.wgsl.specs.Types.{Scalar, Ty, scalar, vector, matrix, array, 
 use Rattle.wgsl.specs.Size.{both, givenOr, isPresent, present, widthOf, vectorSize, vectorAlign, startAfter, endAfter, sizeOf, alignOf, membersAlign, strideOf, memberEnd, memberStart}
 use Rattle.wgsl.specs.Rule.{isLast, membersAllowed, isAllowed, isWellFormed, membersGivenFit}
 use Rattle.wgsl.specs.Place.{tailAt, tailOf, extentBy, extentOf, parts, column, shapeOf, fieldsOf, spanOf}
+use Rattle.wgsl.specs.Shapes.{Divides, From, Sound}
 use Rattle.wgsl.proofs.Round.{up-multiple, up-not-below}
 use Rattle.wgsl.proofs.Absent.{true-not-false, present-some, present-is, both-some, given-present}
 use Rattle.wgsl.proofs.Power.{power-positive, power-divides}
 use Rattle.wgsl.proofs.Passed.{passed, matrix-passed, array-passed, runtime-passed, struct-passed}
 use Rattle.wgsl.proofs.Align.{width-power, atomic-width, VectorAligned, vector-align, member-aligned, align-power, members-power}
-use Rattle.wgsl.proofs.Shape.{Divides, From, Sound, divides-multiple, from-low}
+use Rattle.wgsl.proofs.Shape.{divides-multiple, from-low}
 use Rattle.wgsl.proofs.Tail.{sized-has, sized-takes}
 use Rattle.wgsl.proofs.Members.{Member, first-member, memberExtent, member-room, member-has, start-is, end-after, endOf, struct-end}
 

@@ -14,7 +14,7 @@ use Rattle.wgsl.specs.Rule.{countOf}
 use Rattle.wgsl.specs.Place.{extentOf, elementsIn, shapeOf, fieldsOf}
 use Rattle.wgsl.specs.Path as path
 use Rattle.wgsl.specs.Path.{enter, walk, stepOf}
-use Rattle.wgsl.specs.Call.{targetIn, viewCall}
+use Rattle.wgsl.specs.Call.{targetIn, targetCall, viewCall}
 use Rattle.wgsl.specs.Claim.{typesIn, memberStep, LaidOut, HasRoom}
 use Rattle.wgsl.proofs.Absent.{some-not-none}
 use Rattle.wgsl.proofs.Said.{then-is, refuse-no}
@@ -41,7 +41,7 @@ types-below (member v size align ms) (suc i) t e = omega (arith, types-below ms 
 
 -- The step to member i of a struct leads to the i-th of its offsets, and to the member's own type.
 pub member-path : {f : List ℕ} {e : ℕ} {b : List ℕ} {k : ℕ} {ms : Members} → LaidOut f e b (struct k ms) → HasRoom (struct k ms) b → (i o : ℕ) (t : Ty) → getElem? (offsetsOf (some 0) ms) i ≡ some (some o) → getElem? (typesIn ms) i ≡ some t → viewCall f e (memberStep i ∷ []) b ≡ good (target o (shapeOf (elementsIn (length b) (struct k ms)) t))
-unfolding viewCall targetIn walk _>>=_ shapeOf present memberStep number-of step-code
+unfolding viewCall targetCall targetIn walk _>>=_ shapeOf present memberStep number-of step-code
 member-path {f} {e} {b} {k} {ms} laid room i o t at is =
     let s : Ty = struct k ms in
     let n = elementsIn (length b) s in

@@ -12,11 +12,11 @@ use Rattle.wgsl.specs.Size.{present, widthOf}
 use Rattle.wgsl.specs.Said.{good}
 use Rattle.wgsl.specs.Place.{Shape, one, shapeOf, Place, wordPlaces, places}
 use Rattle.wgsl.specs.Path.{Step, index, member, stepOf, walk}
-use Rattle.wgsl.specs.Call.{targetIn, viewCall}
+use Rattle.wgsl.specs.Call.{targetIn, targetCall, viewCall}
 use Rattle.wgsl.specs.Claim.{Apart}
 use Rattle.wgsl.specs.Demand.{Given, Leading, Words, OnePath}
+use Rattle.wgsl.specs.Shapes.{Sound}
 use Rattle.wgsl.proofs.Said.{then-is, refuse-no}
-use Rattle.wgsl.proofs.Shape.{Sound}
 use Rattle.wgsl.proofs.Path.{target, target-inside, paths-apart}
 use Rattle.wgsl.proofs.PathPlace.{path-place, PlacePath, place-path}
 use Rattle.wgsl.proofs.Step.{number-of, step-code, stepOf-code, Below, steps-below}
@@ -67,7 +67,7 @@ codes-read (s ∷ steps) h = cc (stepOf-code s (h .0), codes-read steps (h .1))
 
 -- a view whose walk finds a scalar leads there
 walk-leading : {f : List ℕ} {e : ℕ} {b path : List ℕ} {a : ℕ} {s : Scalar} (g : Given f e b) → walk 0 0 (shapeOf 0 (g .type)) (map stepOf path) ≡ good (target a (one s)) → Leading f e b path a s
-unfolding viewCall targetIn
+unfolding viewCall targetCall targetIn
 walk-leading {b = b} {path = path} g h =
     let x = fixed b g refl in
     let stored = x .stored in

@@ -1,6 +1,6 @@
 -- Open types (specs/Place): the fixed part, and after it the elements of the runtime array.
 --
--- In order: what is shown of an open type (`Opened`); a runtime array; members; every open type; its words.
+-- In order: a runtime array; members; every open type; its words.
 -- Assumes nothing.
 use Prim.Native.Nat.{ℕ, _+_, _*_}
 use mathlib.Core.Bool.{true, false}
@@ -14,6 +14,7 @@ use Rattle.wgsl.specs.Types.{Ty, scalar, vector, matrix, array, runtime,
 use Rattle.wgsl.specs.Size.{isPresent, present, sizeOf, alignOf, strideOf, memberStart, memberEnd}
 use Rattle.wgsl.specs.Rule.{isLast, membersAllowed, isWellFormed, membersGivenFit}
 use Rattle.wgsl.specs.Place.{Tail, tailAt, membersTail, tailOf, extentBy, extentOf, repeated, shapeOf, fieldsOf, placesOf, places, wordCount}
+use Rattle.wgsl.specs.Shapes.{Opened}
 use Rattle.wgsl.proofs.Absent.{true-not-false, present-some}
 use Rattle.wgsl.proofs.Passed.{struct-passed}
 use Rattle.wgsl.proofs.Tail.{sized-closed}
@@ -25,12 +26,6 @@ use Rattle.wgsl.proofs.Count.{wordCount-runtime, places-words}
 unfoldable pub lastOf : Ty → Members → Ty
 lastOf before no-more = before
 lastOf before (member t size align ms) = lastOf t ms
-
--- an open type whose runtime array has elements of the type u
-pub record Opened (t u : Ty) (tail : Tail) : Type 0 where
-  pub tail-is : tailOf t ≡ some tail
-  pub stride-is : tail .stride ≡ present (strideOf u)
-  pub places-are : (n : ℕ) → places n t ≡ places 0 t ++ placesOf (shapeOf n (runtime u)) (tail .offset)
 
 -- ---- members
 

@@ -18,8 +18,8 @@ use Rattle.wgsl.specs.Said.{good, refused, _>>=_}
 use Rattle.wgsl.specs.Place.{Shape, one, parts, field, whole, spanOf}
 use Rattle.wgsl.specs.Path.{Step, index, member, Target, enter, walk}
 use Rattle.wgsl.specs.Claim.{Apart, Leads, here, part, first, later}
+use Rattle.wgsl.specs.Shapes.{Divides, From, Sound}
 use Rattle.wgsl.proofs.Said.{good-not-refused}
-use Rattle.wgsl.proofs.Shape.{Divides, From, Sound}
 
 -- this shape at this offset
 abbrev pub target : ℕ → Shape → Target

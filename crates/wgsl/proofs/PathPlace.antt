@@ -14,7 +14,7 @@ use Rattle.wgsl.specs.Said.{good}
 use Rattle.wgsl.specs.Place.{Shape, one, parts, field, whole, spanOf, Place, wordPlaces, repeated, placesOf}
 use Rattle.wgsl.specs.Path.{Step, index, member, walk}
 use Rattle.wgsl.specs.Claim.{Leads, here, part, first, later}
-use Rattle.wgsl.proofs.Shape.{From, Sound}
+use Rattle.wgsl.specs.Shapes.{From, Sound}
 use Rattle.wgsl.proofs.Path.{target, walk-leads, leads-walk}
 
 -- the place of a scalar s at a is in the list of a shape at off
@@ -67,8 +67,8 @@ repeated-member {p} (suc n) stride f at m =
     (suc (r .0), omega (arith, r .1), rw (next-part at (r .0) stride) at (r .2))) (List·Memᴰ·append-cases (f at) m)
 
 -- a path to a scalar that lies at p
-abbrev Found : ℕ → Shape → Place → Type 0
-Found off x p =
+abbrev HasPath : ℕ → Shape → Place → Type 0
+HasPath off x p =
     (s : Scalar) × (steps : List Step) × Leads off x steps (p .at) (one s) × (p .width ≡ present (widthOf s))
 
 -- a path to a scalar among the members that are left of a struct begins with a member step
@@ -79,7 +79,7 @@ one-later lo offset x from (part h l) = absurd from
 one-later lo offset x from (first {steps = steps} l) = (member 1 ∷ steps, later (first l))
 one-later lo offset x from (later {i = i} {steps = steps} l) = (member (suc (suc i)) ∷ steps, later (later l))
 
-found : (off : ℕ) (x : Shape) (p : Place) → Sound x → List·Memᴰ p (placesOf x off) → Found off x p
+found : (off : ℕ) (x : Shape) (p : Place) → Sound x → List·Memᴰ p (placesOf x off) → HasPath off x p
 unfolding Sound placesOf wordPlaces
 found off (one s) p sound m = rw (List·Memᴰ·eq-of-singleton m) (s, [], here, refl)
 found off (parts n stride x) p sound m =

@@ -21,9 +21,9 @@ use Rattle.wgsl.specs.Rule.{lower, membersFrom, typeOfEntry, typesBelow,
 use Rattle.wgsl.specs.Place.{extentOf, elementsIn, Shape, one, parts, field, whole, column, shapeOf, fieldsOf, Place, wordPlaces, places, checkWords}
 use Rattle.wgsl.specs.Path as path
 use Rattle.wgsl.specs.Path.{Step, index, Target, enter, walk, stepOf}
-use Rattle.wgsl.specs.Call.{checkOf, entryOf, sizeCall, alignCall, minSizeCall, layoutCall, laidEntry, storedEntry, elementsFor, readCall, writeCall, targetIn, viewCall, scalarAt, setCall, rankCall, entriesOf, commonCall}
+use Rattle.wgsl.specs.Call.{checkOf, entryOf, sizeCall, alignCall, minSizeCall, layoutCall, allowed, entryFor, elementsFor, readElements, readType, readCall, writeWords, writeElements, writeType, writeCall, targetCall, setScalar, setTarget, targetIn, viewCall, scalarAt, setCall, rankCall, entriesOf, commonCall}
 use Rattle.wgsl.specs.Rank.{commonOfAll}
-use Rattle.wgsl.specs.BitFieldCall.{integerAt, extractCall, insertCall}
+use Rattle.wgsl.specs.BitFieldCall.{integerOf, integerAt, extractCall, insertCall}
 use Rattle.wgsl.specs.Claim.{PlaceFits, PlacesFit}
 use Rattle.wgsl.proofs.Absent.{some-not-none}
 use Rattle.wgsl.proofs.Said.{good-not-refused, then-good, then-cases, refuse-cases, orRefuse-good, orRefuse-refused, when-some, andThen-some}
@@ -44,6 +44,16 @@ module _ {A B : Type 0} where
 fits-refuse : {B : Type 0} (number place : ℕ) (test : Bool) (rest : Said B) → place < 2 ^ 32 → (test ≡ false → PlaceFits rest) → PlaceFits (_>>_ (refuse number place test) rest)
 fits-refuse number place test rest small g n p e =
     refuse-cases number place test rest e (λ bad q. let same : p ≡ place = cc in rw same small) (λ ok q. g ok n p q)
+
+fits-alone : (number place : ℕ) (test : Bool) → place < 2 ^ 32 → PlaceFits (refuse number place test)
+unfolding refuse
+fits-alone number place true small n p e = let same : p ≡ place = cc in rw same small
+fits-alone number place false small n p e = good-not-refused refl e
+
+fits-next : {B : Type 0} (m : Said (Unit {0})) (rest : Said B) → PlaceFits m → PlaceFits rest → PlaceFits (_>>_ m rest)
+unfolding _>>_
+fits-next (good u) rest h g n p e = g n p e
+fits-next (refused number place) rest h g n p e = let same : p ≡ place = cc in rw same (h number place refl)
 
 fits-or : {A : Type 0} (number place : ℕ) (o : Option A) → place < 2 ^ 32 → PlaceFits (orRefuse number place o)
 fits-or number place o small n p e = rw (orRefuse-refused number place o e .2) small
@@ -173,16 +183,12 @@ fits-check ps ws b few number place e = go (checkWords 0 ps ws) refl e
 
 -- ---- every call
 
-fits-laid : (f : List ℕ) (e : ℕ) (b : List ℕ) → PlaceFits (laidEntry f e b)
-unfolding laidEntry
-fits-laid f e b =
+fits-for : (stored : Bool) (f : List ℕ) (e : ℕ) (b : List ℕ) → PlaceFits (entryFor stored f e b)
+unfolding entryFor allowed
+fits-for stored f e b =
     fits-then (entryOf f e) _ (fits-entry f e) (λ t q.
-    fits-refuse _ _ _ _ (omega arith) (λ ok. fits-refuse _ _ _ _ (omega arith) (λ ok. fits-good _)))
-
-fits-stored : (f : List ℕ) (e : ℕ) (b : List ℕ) → PlaceFits (storedEntry f e b)
-unfolding storedEntry
-fits-stored f e b =
-    fits-then (laidEntry f e b) _ (fits-laid f e b) (λ t q. fits-refuse _ _ _ _ (omega arith) (λ ok. fits-good _))
+    fits-next _ _ (fits-refuse _ _ _ _ (omega arith) (λ ok.
+    fits-refuse _ _ _ _ (omega arith) (λ ok. fits-alone _ _ _ (omega arith)))) (fits-good _))
 
 fits-target : (f : List ℕ) (e : ℕ) (t : Ty) (steps b : List ℕ) → entryOf f e ≡ good t → PlaceFits (targetIn t steps b)
 unfolding targetIn
@@ -191,16 +197,21 @@ fits-target f e t steps b h =
     fits-refuse _ _ _ _ (omega arith) (λ ok number place q.
     omega (arith, walk-place 0 0 (shapeOf n t) (map stepOf steps) number place q, entry-deep f e t h n))
 
+fits-path : (stored : Bool) (f : List ℕ) (e : ℕ) (steps b : List ℕ) → PlaceFits (targetCall stored f e steps b)
+unfolding targetCall
+fits-path stored f e steps b =
+    fits-then (entryFor stored f e b) _ (fits-for stored f e b) (λ t q. fits-target f e t steps b (laid-good stored q .entry))
+
 fits-read : (f : List ℕ) (e : ℕ) (b ws : List ℕ) → PlaceFits (readCall f e b ws)
-unfolding readCall
+unfolding readCall readType readElements
 fits-read f e b ws =
-    fits-then (storedEntry f e b) _ (fits-stored f e b) (λ t q.
+    fits-then (entryFor true f e b) _ (fits-for true f e b) (λ t q.
     fits-refuse _ _ _ _ (omega arith) (λ ok. fits-refuse _ _ _ _ (omega arith) (λ ok. fits-good _)))
 
 fits-write : (f : List ℕ) (e : ℕ) (ws b : List ℕ) → PlaceFits (writeCall f e ws b)
-unfolding writeCall places limit
+unfolding writeCall writeType writeElements writeWords places
 fits-write f e ws b =
-    fits-then (storedEntry f e b) _ (fits-stored f e b) (λ t q.
+    fits-then (entryFor true f e b) _ (fits-for true f e b) (λ t q.
     let s = stored-good q in
     let n = elementsFor (length ws) t in
     let sound = entry-sound f e t (s .entry) (s .layout) n in
@@ -210,20 +221,18 @@ fits-write f e ws b =
     (omega (arith, places-words (shapeOf n t) 0, words-room (shapeOf n t) (sound .0), sound .1, ltb-false (length b) (extentOf n t) room, s .within)))))
 
 fits-set : (f : List ℕ) (e : ℕ) (steps : List ℕ) (w : ℕ) (b : List ℕ) → PlaceFits (setCall f e steps w b)
-unfolding setCall wordPlaces
+unfolding setCall setTarget setScalar wordPlaces
 fits-set f e steps w b =
-    fits-then (storedEntry f e b) _ (fits-stored f e b) (λ t q.
-    fits-then (targetIn t steps b) _ (fits-target f e t steps b (stored-good q .entry)) (λ u h.
+    fits-then (targetCall true f e steps b) _ (fits-path true f e steps b) (λ u h.
     fits-then (orRefuse 14 0 (scalarAt (u .shape))) _ (fits-or _ _ _ (omega arith)) (λ s g.
-    fits-check (wordPlaces s (u .offset)) (w ∷ []) _ (omega arith))))
+    fits-check (wordPlaces s (u .offset)) (w ∷ []) _ (omega arith)))
 
 fits-integer : (f : List ℕ) (e : ℕ) (steps b : List ℕ) → PlaceFits (integerAt f e steps b)
-unfolding integerAt
+unfolding integerAt integerOf
 fits-integer f e steps b =
-    fits-then (storedEntry f e b) _ (fits-stored f e b) (λ t q.
-    fits-then (targetIn t steps b) _ (fits-target f e t steps b (stored-good q .entry)) (λ u h.
+    fits-then (targetCall true f e steps b) _ (fits-path true f e steps b) (λ u h.
     fits-then (orRefuse 14 0 (scalarAt (u .shape))) _ (fits-or _ _ _ (omega arith)) (λ s g.
-    fits-refuse _ _ _ _ (omega arith) (λ ok. fits-good _))))
+    fits-refuse _ _ _ _ (omega arith) (λ ok. fits-good _)))
 
 fits-entries : (ts : List Ty) (es : List ℕ) → PlaceFits (entriesOf ts es)
 unfolding entriesOf
@@ -249,8 +258,7 @@ places-fit f =
       layout = λ e. fits-asked f e _ (λ t. fits-good _);
       read = fits-read f;
       write = fits-write f;
-      view = λ e steps b.
-          fits-then (laidEntry f e b) _ (fits-laid f e b) (λ t q. fits-target f e t steps b (laid-good q .entry));
+      view = λ e steps b. fits-path false f e steps b;
       set = fits-set f;
       extract = λ e steps b offset count.
           fits-then (integerAt f e steps b) _ (fits-integer f e steps b) (λ x q. fits-good _);

@@ -14,8 +14,8 @@ use native.Mathlib.Nat.{zero-add}
 use borrow.Author.Tests.{eqb-true, eq-eqb}
 use lib.Dec.{eqb}
 use lib.ListN.{getD}
-use Rattle.wgsl.specs.Types.{Scalar, bool, i32, u32, f32, f16, abstractInt, abstractFloat, Ty, scalar, vector, matrix, array, runtime, atomic, struct, Members}
-use Rattle.wgsl.specs.Rank.{kindOf, fromAbstractInt, fromAbstractFloat, ifSame, scalarRank, outlineOf, leafOf, sameNumbers, leafRank, rankOf, Entry, firstOf, commonOf, commonWith}
+use Rattle.wgsl.specs.Types.{Scalar, bool, i32, u32, f32, f16, abstractInt, abstractFloat, Ty, scalar, vector, matrix, array, runtime, atomic, struct, Members, scalarKind}
+use Rattle.wgsl.specs.Rank.{fromAbstractInt, fromAbstractFloat, ifSame, scalarRank, outlineOf, leafOf, sameNumbers, leafRank, rankOf, Candidate, firstOf, commonOf, commonWith}
 
 -- Lists of numbers that the test calls the same are equal.
 pub same-numbers : (ms ns : List ℕ) → sameNumbers ms ns ≡ true → ms ≡ ns
@@ -39,8 +39,8 @@ numbers-same {ms} e = rw (← e) (numbers-refl ms)
 scalars : List Scalar
 scalars = bool ∷ i32 ∷ u32 ∷ f32 ∷ f16 ∷ abstractInt ∷ abstractFloat ∷ []
 
-scalar-found : (a : Scalar) → getD scalars (kindOf a) bool ≡ a
-unfolding scalars kindOf
+scalar-found : (a : Scalar) → getD scalars (scalarKind a) bool ≡ a
+unfolding scalars scalarKind
 scalar-found bool = refl
 scalar-found i32 = refl
 scalar-found u32 = refl
@@ -50,7 +50,7 @@ scalar-found abstractInt = refl
 scalar-found abstractFloat = refl
 
 -- Scalars of the same kind are equal.
-pub kind-same : {a b : Scalar} → kindOf a ≡ kindOf b → a ≡ b
+pub kind-same : {a b : Scalar} → scalarKind a ≡ scalarKind b → a ≡ b
 kind-same {a} {b} e = sym (scalar-found a) ∙ rw e (scalar-found b)
 
 all : (Scalar → Bool) → List Scalar → Bool
@@ -66,14 +66,14 @@ all-at p (s ∷ ss) (suc k) d h e = all-at p ss k d h (and-eq-true-iff (p s) (al
 -- a test of scalars that passes all of the list passes every scalar
 each : (p : Scalar → Bool) → all p scalars ≡ true → (a : Scalar) → p a ≡ true
 unfolding all scalars
-each p e a = rw (scalar-found a) at (all-at p scalars (kindOf a) bool (and-eq-true-iff (p bool) _ .0 e .0) e)
+each p e a = rw (scalar-found a) at (all-at p scalars (scalarKind a) bool (and-eq-true-iff (p bool) _ .0 e .0) e)
 
 each-two : (p : Scalar → Scalar → Bool) → all (λ a. all (p a) scalars) scalars ≡ true → (a b : Scalar) → p a b ≡ true
 each-two p e a b = each (p a) (each (λ a. all (p a) scalars) e a) b
 
 -- A scalar has the rank 0 to itself.
 pub scalar-refl : (a : Scalar) → scalarRank a a ≡ some 0
-unfolding scalarRank kindOf ifSame fromAbstractInt fromAbstractFloat
+unfolding scalarRank scalarKind ifSame fromAbstractInt fromAbstractFloat
 scalar-refl bool = refl
 scalar-refl i32 = refl
 scalar-refl u32 = refl
@@ -96,10 +96,10 @@ zeroed-true (some (suc r)) t e p = cc
 
 -- A scalar has the rank 0 to no other.
 pub scalar-zero : (a b : Scalar) → scalarRank a b ≡ some 0 → a ≡ b
-unfolding all scalars zeroed scalarRank kindOf ifSame fromAbstractInt fromAbstractFloat
+unfolding all scalars zeroed scalarRank scalarKind ifSame fromAbstractInt fromAbstractFloat
 scalar-zero a b e =
-    kind-same (eqb-true (kindOf a) (kindOf b) (zeroed-true (scalarRank a b) (eqb (kindOf a) (kindOf b))
-    (each-two (λ a b. zeroed (scalarRank a b) (eqb (kindOf a) (kindOf b))) refl a b) e))
+    kind-same (eqb-true (scalarKind a) (scalarKind b) (zeroed-true (scalarRank a b) (eqb (scalarKind a) (scalarKind b))
+    (each-two (λ a b. zeroed (scalarRank a b) (eqb (scalarKind a) (scalarKind b))) refl a b) e))
 
 -- the third rank is the sum of the first two, if these are there
 adds : Option ℕ → Option ℕ → Option ℕ → Bool
@@ -117,7 +117,7 @@ adds-true (some r) (some s) (some t) e p q = cc (eqb-true t (r + s) e)
 
 -- Where a scalar converts to a second one and that to a third, the first converts to the third, and the ranks add up.
 pub scalar-add : (a b c : Scalar) {r s : ℕ} → scalarRank a b ≡ some r → scalarRank b c ≡ some s → scalarRank a c ≡ some (r + s)
-unfolding all scalars adds scalarRank kindOf ifSame fromAbstractInt fromAbstractFloat
+unfolding all scalars adds scalarRank scalarKind ifSame fromAbstractInt fromAbstractFloat
 scalar-add a b c p q =
     adds-true (scalarRank a b) (scalarRank b c) (scalarRank a c)
     (each (sums a b) (each-two (λ a b. all (sums a b) scalars) refl a b) c) p q
@@ -258,7 +258,7 @@ unfolding firstOf
 first-some none a other e f g = g e
 first-some (some r) a other e f g = f (cc) r refl
 
-common-cases : {B : Type 0} (a b : Entry) {c : Entry} → commonOf a b ≡ some c → (c ≡ a → Converts (b .type) (a .type) → B) → (c ≡ b → Converts (a .type) (b .type) → B) → B
+common-cases : {B : Type 0} (a b : Candidate) {c : Candidate} → commonOf a b ≡ some c → (c ≡ a → Converts (b .type) (a .type) → B) → (c ≡ b → Converts (a .type) (b .type) → B) → B
 unfolding commonOf
 common-cases a b e f g =
     first-some (rankOf (a .type) (b .type)) b (firstOf (rankOf (b .type) (a .type)) a none) e
@@ -267,21 +267,21 @@ common-cases a b e f g =
     (λ e″. absurd (Option·none-ne-some _ e″)))
 
 -- The common type of two entries is one of them.
-pub common-one : (a b : Entry) {c : Entry} → commonOf a b ≡ some c → (c ≡ a) ⊎ (c ≡ b)
+pub common-one : (a b : Candidate) {c : Candidate} → commonOf a b ≡ some c → (c ≡ a) ⊎ (c ≡ b)
 common-one a b e = common-cases a b e (λ h k. inl h) (λ h k. inr h)
 
 -- Two entries convert to their common type.
-pub common-converts : (a b : Entry) {c : Entry} → commonOf a b ≡ some c → Converts (a .type) (c .type) × Converts (b .type) (c .type)
+pub common-converts : (a b : Candidate) {c : Candidate} → commonOf a b ≡ some c → Converts (a .type) (c .type) × Converts (b .type) (c .type)
 common-converts a b e = common-cases a b e (λ h k. rw h (converts-refl, k)) (λ h k. rw h (k, converts-refl))
 
-with-some : (x : Option Entry) (bs : List Entry) {c : Entry} → commonWith x bs ≡ some c → (d : Entry) × (x ≡ some d) × (commonWith (some d) bs ≡ some c)
+with-some : (x : Option Candidate) (bs : List Candidate) {c : Candidate} → commonWith x bs ≡ some c → (d : Candidate) × (x ≡ some d) × (commonWith (some d) bs ≡ some c)
 unfolding commonWith
 with-some (some d) bs e = (d, refl, e)
 with-some none [] e = absurd (Option·none-ne-some _ e)
 with-some none (b ∷ bs) e = absurd (Option·none-ne-some _ e)
 
 -- The common type of a list of entries is one of them.
-pub with-among : (a : Entry) (bs : List Entry) {c : Entry} → commonWith (some a) bs ≡ some c → List·Memᴰ c (a ∷ bs)
+pub with-among : (a : Candidate) (bs : List Candidate) {c : Candidate} → commonWith (some a) bs ≡ some c → List·Memᴰ c (a ∷ bs)
 unfolding commonWith
 with-among a [] e = List·Memᴰ·head {x = a} (cc)
 with-among a (b ∷ bs) {c} e =
@@ -292,7 +292,7 @@ with-among a (b ∷ bs) {c} e =
     (λ (h : List·Memᴰ c bs). List·Memᴰ·tail (List·Memᴰ·tail h)) (List·Memᴰ·cases-cons (with-among d bs f))
 
 -- Each entry of a list converts to their common type.
-pub with-converts : (a : Entry) (bs : List Entry) {b c : Entry} → commonWith (some a) bs ≡ some c → List·Memᴰ b (a ∷ bs) → Converts (b .type) (c .type)
+pub with-converts : (a : Candidate) (bs : List Candidate) {b c : Candidate} → commonWith (some a) bs ≡ some c → List·Memᴰ b (a ∷ bs) → Converts (b .type) (c .type)
 unfolding commonWith
 with-converts a [] {b} {c} e m = let h : b ≡ c = cc (List·Memᴰ·eq-of-singleton m) in rw h converts-refl
 with-converts a (next ∷ bs) {b} e m =

@@ -16,7 +16,7 @@ use Rattle.wgsl.specs.Place.{wordCount}
 use Rattle.wgsl.specs.Call.{Done, setCall}
 use Rattle.wgsl.specs.BitField.{startOf, bitsOf, bitAt, extractedU32, extractedI32, repeatedTop, inserted, signedOf, bitExtracted, bitInserted}
 use Rattle.wgsl.specs.BitFieldCase.{fieldCasesPass}
-use Rattle.wgsl.specs.BitFieldCall.{isInteger, isSigned, Found, integerAt, extractCall, insertCall}
+use Rattle.wgsl.specs.BitFieldCall.{isInteger, isSigned, FoundInteger, integerAt, extractCall, insertCall}
 use Rattle.wgsl.specs.Claim.{GoodIf, CanField}
 use Rattle.wgsl.specs.Demand.{Given, Leading, SetThenRead}
 use Rattle.wgsl.proofs.BitField as field
@@ -91,5 +91,5 @@ pub insertion-alone : {f : List ℕ} {e : ℕ} {b path : List ℕ} {a : ℕ} {s 
 insertion-alone = calls.insertion-alone
 
 -- What is extracted after an insertion is the field that was inserted.
-pub extraction-after-insertion : (f : List ℕ) (e : ℕ) (path b : List ℕ) → ((i : ℕ) → getD b i 0 < 256) → (new offset count : ℕ) (x : Found) → integerAt f e path b ≡ good x → (d : Done) → insertCall f e path new offset count b ≡ good d → extractCall f e path (d .contents) offset count ≡ good (cond (isSigned (x .scalar)) (repeatedTop (bitsOf offset count) (new % 2 ^ bitsOf offset count)) (new % 2 ^ bitsOf offset count))
+pub extraction-after-insertion : (f : List ℕ) (e : ℕ) (path b : List ℕ) → ((i : ℕ) → getD b i 0 < 256) → (new offset count : ℕ) (x : FoundInteger) → integerAt f e path b ≡ good x → (d : Done) → insertCall f e path new offset count b ≡ good d → extractCall f e path (d .contents) offset count ≡ good (cond (isSigned (x .scalar)) (repeatedTop (bitsOf offset count) (new % 2 ^ bitsOf offset count)) (new % 2 ^ bitsOf offset count))
 extraction-after-insertion = calls.extraction-after-insertion

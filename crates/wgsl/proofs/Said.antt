@@ -3,7 +3,7 @@
 -- In order: nothing is good and refused; a step and the rest; a test that refuses; a value or a refusal; the same of options.
 -- Assumes nothing.
 use Prim.Native.Nat.{ℕ}
-use mathlib.Core.Bool.{Bool, true, false}
+use mathlib.Core.Bool.{Bool, true, false, not}
 use mathlib.Core.Option.{Option, none, some}
 use mathlib.Core.Path.{_≡_, refl, sym}
 use native.Mathlib.Omega.{arith}
@@ -69,6 +69,12 @@ pub refuse-good : {B : Type 0} {b : B} (number place : ℕ) (test : Bool) (rest 
 unfolding _>>_ refuse
 refuse-good number place true rest e = good-not-refused e refl
 refuse-good number place false rest e = (refl, e)
+
+-- A test alone that is good does not hold.
+pub refuse-not : (number place : ℕ) (test : Bool) → refuse number place (not test) ≡ good tt → test ≡ true
+unfolding refuse
+refuse-not number place true e = refl
+refuse-not number place false e = good-not-refused e refl
 
 -- What a test and the rest say, the test says, with its number and place, where it holds, and else the rest.
 pub refuse-cases : {B C : Type 0} {s : Said B} (number place : ℕ) (test : Bool) (rest : Said B) → _>>_ (refuse number place test) rest ≡ s → (test ≡ true → s ≡ refused number place → C) → (test ≡ false → rest ≡ s → C) → C

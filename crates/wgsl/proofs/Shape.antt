@@ -1,6 +1,6 @@
 -- Shapes that are laid out as they should be (specs/Place), and where their places lie.
 --
--- In order: what is asked of a shape (`Sound`); multiples; lists of places in order (`Ordered`); the places of a sound shape are in order, inside.
+-- In order: multiples; lists of places in order (`Ordered`); the places of a sound shape are in order, inside.
 -- Assumes nothing.
 use Prim.Native.Nat.{ℕ, zero, suc, _+_, _*_, _/_, _%_, _<_, _≤_}
 use mathlib.Core.List.{List, [], _∷_, _++_}
@@ -10,27 +10,7 @@ use native.Mathlib.Nat.{suc-mul, mul-assoc, mul-mod-left, div-add-mod'}
 use Rattle.wgsl.specs.Size.{present, widthOf}
 use Rattle.wgsl.specs.Place.{Shape, one, parts, field, whole, spanOf, Place, wordPlaces, repeated, placesOf}
 use Rattle.wgsl.specs.Claim.{Ordered}
-
--- every scalar of the shape has a size that divides m
-unfoldable pub Divides : Shape → ℕ → Type 0
-Divides (one s) m = m % present (widthOf s) ≡ 0
-Divides (parts n stride x) m = Divides x m
-Divides (field offset x rest) m = Divides x m × Divides rest m
-Divides (whole z) m = Unit {0}
-
--- these are the members that are left of a struct, or its end, and the first of them begins at lo or later
-unfoldable pub From : Shape → ℕ → Type 0
-From (one s) lo = ⊥
-From (parts n stride x) lo = ⊥
-From (field offset x rest) lo = lo ≤ offset
-From (whole z) lo = lo ≤ z
-
--- scalars have a size; parts fit their stride; members follow each other inside the struct; strides and offsets suit the scalars
-unfoldable pub Sound : Shape → Type 0
-Sound (one s) = 0 < present (widthOf s)
-Sound (parts n stride x) = Sound x × (spanOf x ≤ stride) × Divides x stride
-Sound (field offset x rest) = Sound x × Sound rest × From rest (offset + spanOf x) × Divides x offset
-Sound (whole z) = Unit {0}
+use Rattle.wgsl.specs.Shapes.{Divides, From, Sound}
 
 -- a multiple of a multiple is a multiple
 multiple-trans : (w a m : ℕ) → a % w ≡ 0 → m % a ≡ 0 → m % w ≡ 0

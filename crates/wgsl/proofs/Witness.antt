@@ -21,10 +21,10 @@ use Rattle.wgsl.specs.File.{trailerLength, typeEntryLength, memberEntryL
 use Rattle.wgsl.specs.Rule.{when, andThen, unused, scalarOfKind, scalarIn, lower, membersFrom, scalarMade, vectorMade, matrixMade, arrayMade, runtimeMade, atomicMade, structMade, overMade, typeMade, typeOfEntry, isMatrixScalar, isAtomicScalar, isLast, countOf, memberAllowed, membersAllowed, isAllowed, atLeast, givenSizeFits, isMultiple, givenAlignFits, membersGivenFit, givenFits, isWellFormed, judged, typesBelow, typesOf}
 use Rattle.wgsl.specs.Place.{tailAt, membersTail, tailOf, extentBy, extentOf, elementsBy, elementsIn, one, column, shapeOf, fieldsOf, spanOf, wordPlaces, repeated, placesOf, places, wordCount, storeWords, written, wordsRead, canHold, checkWords}
 use Rattle.wgsl.specs.Path.{stepOf, enter, walk}
-use Rattle.wgsl.specs.Call.{Done, checkOf, entryOf, laidEntry, storedEntry, isShort, readCall, elementsFor, isWrongCount, writeCall, targetIn, viewCall, scalarAt, setCall}
+use Rattle.wgsl.specs.Call.{Done, checkOf, entryOf, allowed, entryFor, isShort, readElements, readType, readCall, elementsFor, isWrongCount, writeWords, writeElements, writeType, writeCall, targetIn, targetCall, viewCall, scalarAt, setScalar, setTarget, setCall}
 use Rattle.wgsl.specs.Claim.{Lowest, Ordered, typesIn, memberStep, CanRead, CanWrite, CanView, CanSet, CanField, Wrote, Read}
 use Rattle.wgsl.specs.BitField.{startOf, bitsOf, bitAt, fieldAt, repeatedTop, extractedU32, extractedI32, putAt, inserted, isInside, bitExtracted, bitInserted}
-use Rattle.wgsl.specs.BitFieldCall.{isInteger, isSigned, integerAt, wordOf, extractedAs, extractCall, insertCall}
+use Rattle.wgsl.specs.BitFieldCall.{isInteger, isSigned, integerOf, integerAt, wordOf, extractedAs, extractCall, insertCall}
 use Rattle.wgsl.specs.Demand.{Given, Leading, SetThenRead, OnePath}
 use Rattle.wgsl.specs.Case.{typeEntry, memberGiven, memberEntry, trailer, arrayOfU32, openStruct, matrixOfF32, structWithSize}
 use Rattle.wgsl.proofs.Absent.{true-not-false}
@@ -123,7 +123,7 @@ pub record Witnesses : Type 0 where
   pub extraction-after-insertion : extractCall structWithSize 1 inStruct (insertion .contents) 4 8 ≡ good 255
 
 pub witnesses : Witnesses
-unfolding load bytesOf up powerBelow isPower limit withinLimit isRuntime endsInRuntime isOpen everywhere everyMember both givenOr isPresent present widthOf vec3Align vectorSize vectorAlign startAfter endAfter sizeOf alignOf membersAlign membersEnd strideOf minSizeOf offsetsOf innerNumbersOf numbersOf withinLimits fitsLimit hasLayout isStored isPlain isStorable _>>=_ _>>_ refuse orRefuse trailerLength typeEntryLength memberEntryLength trailerOf lengthBy typeEntryFrom typeEntryAt memberEntryFrom memberEntryAt sizeIsGiven alignIsGiven givenSize givenAlign restIsZero between checkTrailer when andThen unused scalarOfKind scalarIn lower membersFrom scalarMade vectorMade matrixMade arrayMade runtimeMade atomicMade structMade overMade typeMade typeOfEntry isMatrixScalar isAtomicScalar isLast countOf memberAllowed membersAllowed isAllowed atLeast givenSizeFits isMultiple givenAlignFits membersGivenFit givenFits judged typesBelow typesOf tailAt membersTail tailOf extentBy extentOf elementsBy elementsIn column shapeOf fieldsOf spanOf wordPlaces repeated placesOf places wordCount wordsRead stepOf enter walk entryOf laidEntry storedEntry isShort readCall targetIn viewCall typeEntry memberGiven memberEntry trailer arrayOfU32 openStruct matrixOfF32 structWithSize memberStart memberEnd memberStep store storeWords written canHold checkWords elementsFor isWrongCount writeCall scalarAt setCall typesIn isWellFormed checkOf startOf bitsOf bitAt fieldAt repeatedTop extractedU32 extractedI32 putAt inserted isInside bitExtracted bitInserted isInteger isSigned integerAt wordOf extractedAs extractCall insertCall fiveAndSix sixAndSeven matrixTypes nine rubbish inMatrix inStruct
+unfolding load bytesOf up powerBelow isPower withinLimit isRuntime endsInRuntime isOpen everywhere everyMember both givenOr isPresent present widthOf vec3Align vectorSize vectorAlign startAfter endAfter sizeOf alignOf membersAlign membersEnd strideOf minSizeOf offsetsOf innerNumbersOf numbersOf withinLimits fitsLimit hasLayout isStored isPlain isStorable _>>=_ _>>_ refuse orRefuse trailerOf lengthBy typeEntryFrom typeEntryAt memberEntryFrom memberEntryAt sizeIsGiven alignIsGiven givenSize givenAlign restIsZero between checkTrailer when andThen unused scalarOfKind scalarIn lower membersFrom scalarMade vectorMade matrixMade arrayMade runtimeMade atomicMade structMade overMade typeMade typeOfEntry isMatrixScalar isAtomicScalar isLast countOf memberAllowed membersAllowed isAllowed atLeast givenSizeFits isMultiple givenAlignFits membersGivenFit givenFits judged typesBelow typesOf tailAt membersTail tailOf extentBy extentOf elementsBy elementsIn column shapeOf fieldsOf spanOf wordPlaces repeated placesOf places wordCount wordsRead stepOf enter walk entryOf allowed entryFor isShort readElements readType readCall targetIn targetCall viewCall typeEntry memberGiven memberEntry trailer arrayOfU32 openStruct matrixOfF32 structWithSize memberStart memberEnd memberStep store storeWords written canHold checkWords elementsFor isWrongCount writeWords writeElements writeType writeCall scalarAt setScalar setTarget setCall typesIn isWellFormed checkOf startOf bitsOf bitAt fieldAt repeatedTop extractedU32 extractedI32 putAt inserted isInside bitExtracted bitInserted isInteger isSigned integerOf integerAt wordOf extractedAs extractCall insertCall fiveAndSix sixAndSeven matrixTypes nine rubbish inMatrix inStruct
 witnesses =
     let types : typesBelow matrixOfF32 2 ≡ good matrixTypes = refl in
     let entry : entryOf matrixOfF32 1 ≡ good (matrix 3 3 f32) = refl in

@@ -11,7 +11,8 @@ use Rattle.wgsl.specs.Types.{Scalar, bool, i32, u32, f32, f16, abstractI
 use Rattle.wgsl.specs.Size.{present, widthOf}
 use Rattle.wgsl.specs.Said.{Said, good, _>>=_, _>>_, refuse, orRefuse}
 use Rattle.wgsl.specs.Place.{wordPlaces, storeWords}
-use Rattle.wgsl.specs.Call.{Done, storedEntry, targetIn, scalarAt}
+use Rattle.wgsl.specs.Path.{Target}
+use Rattle.wgsl.specs.Call.{Done, targetCall, scalarAt}
 use Rattle.wgsl.specs.BitField.{extractedU32, extractedI32, inserted}
 
 -- ---- which scalars have fields
@@ -36,21 +37,25 @@ isSigned abstractInt = false
 isSigned abstractFloat = false
 
 -- where the one i32 or u32 lies that a path leads to, and which of the two it is
-pub record Found : Type 0 where
+pub record FoundInteger : Type 0 where
   pub offset : ℕ
   pub scalar : Scalar
 
--- "as for set; 14 also for a scalar of another type"
-unfoldable pub integerAt : List ℕ → ℕ → List ℕ → List ℕ → Said Found
-integerAt f e path b = do
-  t ← storedEntry f e b
-  target ← targetIn t path b
+-- "14 also for a scalar of another type"
+unfoldable pub integerOf : Target → Said FoundInteger
+integerOf target = do
   s ← orRefuse 14 0 (scalarAt (target .shape))
   refuse 14 0 (not (isInteger s))
   good (record { offset = target .offset; scalar = s })
 
+-- "as for set"
+unfoldable pub integerAt : List ℕ → ℕ → List ℕ → List ℕ → Said FoundInteger
+integerAt f e path b = do
+  target ← targetCall true f e path b
+  integerOf target
+
 -- its word
-unfoldable pub wordOf : Found → List ℕ → ℕ
+unfoldable pub wordOf : FoundInteger → List ℕ → ℕ
 wordOf x b = load (present (widthOf (x .scalar))) b (x .offset)
 
 -- ---- extraction

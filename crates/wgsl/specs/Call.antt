@@ -7,7 +7,7 @@
 -- Definitions only. Assumes nothing.
 use Prim.Native.Nat.{ℕ, _+_, _-_, _/_}
 use mathlib.Core.List.{List, [], _∷_, _++_, map}
-use mathlib.Core.Bool.{Bool, cond, not, _&&_, _||_}
+use mathlib.Core.Bool.{Bool, true, false, cond, not, _&&_, _||_}
 use mathlib.Core.Option.{Option, none, some}
 use lib.ListN.{length, getElem?, take, drop}
 use lib.Dec.{eqb, ltb}
@@ -18,7 +18,7 @@ use Rattle.wgsl.specs.Said.{Said, good, refused, _>>=_, _>>_, refuse, or
 use Rattle.wgsl.specs.Rule.{typesOf}
 use Rattle.wgsl.specs.Place.{Shape, one, parts, field, whole, shapeOf, spanOf, wordPlaces, places, wordCount, extentOf, elementsIn, storeWords, written, wordsRead, checkWords}
 use Rattle.wgsl.specs.Path.{Target, walk, stepOf}
-use Rattle.wgsl.specs.Rank.{Entry, rankOf, commonOfAll}
+use Rattle.wgsl.specs.Rank.{Candidate, rankOf, commonOfAll}
 
 -- ---- check
 
@@ -82,19 +82,19 @@ unfoldable pub contentsOf : List ℕ → Said Done → List ℕ
 contentsOf before (good d) = d .contents
 contentsOf before (refused number place) = before
 
--- 8, then 17: "data buffer above 4,294,967,295 bytes", then 9: "read, write, view or set without a layout"
-unfoldable pub laidEntry : List ℕ → ℕ → List ℕ → Said Ty
-laidEntry f e b = do
-  t ← entryOf f e
-  refuse 17 0 (not (withinLimit (length b)))
+-- 17: "data buffer above 4,294,967,295 bytes", then 9: "read, write, view or set without a layout", then 10: "not storable", which is said
+-- "on read, write, set only": `stored` says whether the call is one of these
+unfoldable pub allowed : Bool → Ty → ℕ → Said (Unit {0})
+allowed stored t bytes = do
+  refuse 17 0 (not (withinLimit bytes))
   refuse 9 0 (not (hasLayout t))
-  good t
+  refuse 10 0 (stored && not (isStorable t))
 
--- then 10: "not storable"
-unfoldable pub storedEntry : List ℕ → ℕ → List ℕ → Said Ty
-storedEntry f e b = do
-  t ← laidEntry f e b
-  refuse 10 0 (not (isStorable t))
+-- the type of the entry that a call is about: 8, then these
+unfoldable pub entryFor : Bool → List ℕ → ℕ → List ℕ → Said Ty
+entryFor stored f e b = do
+  t ← entryOf f e
+  allowed stored t (length b)
   good t
 
 -- 15: "buffer below the size; an open type with no whole element"
@@ -103,14 +103,22 @@ isShort t b = cond (isOpen t) (eqb (elementsIn (length b) t) 0) (ltb (length b) 
 
 -- ---- read
 
--- "Reading takes the first size bytes. .. It fills as many words as there are scalars and answers that number; later words stay."
-unfoldable pub readCall : List ℕ → ℕ → List ℕ → List ℕ → Said Done
-readCall f e b ws = do
-  t ← storedEntry f e b
-  refuse 15 0 (isShort t b)
-  let n = elementsIn (length b) t
+-- "It fills as many words as there are scalars and answers that number; later words stay." 14: too few words. An open type has n elements.
+unfoldable pub readElements : ℕ → Ty → List ℕ → List ℕ → Said Done
+readElements n t b ws = do
   refuse 14 0 (ltb (length ws) (wordCount n t))
   good (record { value = wordCount n t; contents = wordsRead (places n t) b ++ drop (wordCount n t) ws })
+
+-- "Reading takes the first size bytes.": 15 comes first
+unfoldable pub readType : Ty → List ℕ → List ℕ → Said Done
+readType t b ws = do
+  refuse 15 0 (isShort t b)
+  readElements (elementsIn (length b) t) t b ws
+
+unfoldable pub readCall : List ℕ → ℕ → List ℕ → List ℕ → Said Done
+readCall f e b ws = do
+  t ← entryFor true f e b
+  readType t b ws
 
 -- ---- write
 
@@ -124,15 +132,28 @@ unfoldable pub isWrongCount : Ty → List ℕ → Bool
 isWrongCount t ws =
     not (eqb (length ws) (wordCount (elementsFor (length ws) t) t)) || (isOpen t && eqb (elementsFor (length ws) t) 0)
 
--- "It fills the size .. The answer gives the byte count."
-unfoldable pub writeCall : List ℕ → ℕ → List ℕ → List ℕ → Said Done
-writeCall f e ws b = do
-  t ← storedEntry f e b
-  refuse 14 0 (isWrongCount t ws)
-  let n = elementsFor (length ws) t
-  refuse 15 0 (ltb (length b) (extentOf n t))
+-- "It fills the size .. The answer gives the byte count." 16: a word that its place cannot hold. An open type has n elements.
+unfoldable pub writeWords : ℕ → Ty → List ℕ → List ℕ → Said Done
+writeWords n t ws b = do
   checkWords 0 (places n t) ws
   good (record { value = extentOf n t; contents = written n t ws b })
+
+-- 15 comes before it,
+unfoldable pub writeElements : ℕ → Ty → List ℕ → List ℕ → Said Done
+writeElements n t ws b = do
+  refuse 15 0 (ltb (length b) (extentOf n t))
+  writeWords n t ws b
+
+-- and 14 before that
+unfoldable pub writeType : Ty → List ℕ → List ℕ → Said Done
+writeType t ws b = do
+  refuse 14 0 (isWrongCount t ws)
+  writeElements (elementsFor (length ws) t) t ws b
+
+unfoldable pub writeCall : List ℕ → ℕ → List ℕ → List ℕ → Said Done
+writeCall f e ws b = do
+  t ← entryFor true f e b
+  writeType t ws b
 
 -- ---- view
 
@@ -142,10 +163,14 @@ targetIn t path b = do
   refuse 15 0 (isShort t b)
   walk 0 0 (shapeOf (elementsIn (length b) t) t) (map stepOf path)
 
-unfoldable pub viewCall : List ℕ → ℕ → List ℕ → List ℕ → Said Target
-viewCall f e path b = do
-  t ← laidEntry f e b
+-- the same of an entry: a view, and a set up to its target
+unfoldable pub targetCall : Bool → List ℕ → ℕ → List ℕ → List ℕ → Said Target
+targetCall stored f e path b = do
+  t ← entryFor stored f e b
   targetIn t path b
+
+unfoldable pub viewCall : List ℕ → ℕ → List ℕ → List ℕ → Said Target
+viewCall f e path b = targetCall false f e path b
 
 -- "Viewing answers the offset"
 unfoldable pub offsetOf : Said Target → Said ℕ
@@ -171,14 +196,22 @@ scalarAt (parts n stride x) = none
 scalarAt (field offset x rest) = none
 scalarAt (whole z) = none
 
--- "Setting changes one scalar at a path." It answers the scalar's offset.
+-- "Setting changes one scalar at a path." It answers the scalar's offset. 16: a word that the scalar cannot hold.
+unfoldable pub setScalar : Scalar → ℕ → ℕ → List ℕ → Said Done
+setScalar s at w b = do
+  checkWords 0 (wordPlaces s at) (w ∷ [])
+  good (record { value = at; contents = storeWords (wordPlaces s at) (w ∷ []) b })
+
+-- 14 comes before it
+unfoldable pub setTarget : Target → ℕ → List ℕ → Said Done
+setTarget target w b = do
+  s ← orRefuse 14 0 (scalarAt (target .shape))
+  setScalar s (target .offset) w b
+
 unfoldable pub setCall : List ℕ → ℕ → List ℕ → ℕ → List ℕ → Said Done
 setCall f e path w b = do
-  t ← storedEntry f e b
-  target ← targetIn t path b
-  s ← orRefuse 14 0 (scalarAt (target .shape))
-  checkWords 0 (wordPlaces s (target .offset)) (w ∷ [])
-  good (record { value = target .offset; contents = storeWords (wordPlaces s (target .offset)) (w ∷ []) b })
+  target ← targetCall true f e path b
+  setTarget target w b
 
 -- ---- rank and common
 
@@ -190,7 +223,7 @@ rankCall f a b = do
   orRefuse 18 0 (rankOf s t)
 
 -- every number listed is below T, else 8
-unfoldable pub entriesOf : List Ty → List ℕ → Said (List Entry)
+unfoldable pub entriesOf : List Ty → List ℕ → Said (List Candidate)
 entriesOf ts [] = good []
 entriesOf ts (e ∷ es) = do
   t ← orRefuse 8 0 (getElem? ts e)

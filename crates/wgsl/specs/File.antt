@@ -19,15 +19,22 @@ pub record Trailer : Type 0 where
   pub start : ℕ
   pub form : ℕ
 
-unfoldable pub trailerLength : ℕ
+abbrev pub trailerLength : ℕ
 trailerLength = 10
 
-unfoldable pub typeEntryLength : ℕ
+abbrev pub typeEntryLength : ℕ
 typeEntryLength = 12
 
 -- by the file's form
-unfoldable pub memberEntryLength : ℕ → ℕ
+abbrev pub memberEntryLength : ℕ → ℕ
 memberEntryLength form = 12
+
+-- "T is 1 to 256, M is 0 to 1,024."
+abbrev pub mostTypes : ℕ
+mostTypes = 256
+
+abbrev pub mostMembers : ℕ
+mostMembers = 1024
 
 -- "The file ends in a 10-byte trailer"
 unfoldable pub trailerOf : List ℕ → Trailer
@@ -72,6 +79,10 @@ pub record MemberEntry : Type 0 where
   pub size : ℕ
   pub align : ℕ
 
+-- the bytes of these four: what is read of a member entry, however long it is
+abbrev pub memberFieldsLength : ℕ
+memberFieldsLength = 12
+
 unfoldable pub memberEntryFrom : List ℕ → ℕ → MemberEntry
 memberEntryFrom f at =
     record { type = load 2 f at; flags = load 2 f (at + 2); size = load 4 f (at + 4); align = load 4 f (at + 8) }
@@ -103,12 +114,11 @@ unfoldable pub between : ℕ → ℕ → ℕ → Bool
 between low high n = leb low n && leb n high
 
 -- Refusals 1 to 4: "file below 10 bytes", "form not 1", "T or M outside its range", "length not as the trailer says".
--- "T is 1 to 256, M is 0 to 1,024."
 unfoldable pub checkTrailer : List ℕ → Said Trailer
 checkTrailer f = do
   let r = trailerOf f
   refuse 1 0 (ltb (length f) trailerLength)
   refuse 2 0 (not (eqb (r .form) 1))
-  refuse 3 0 (not (between 1 256 (r .types) && between 0 1024 (r .members)))
+  refuse 3 0 (not (between 1 mostTypes (r .types) && between 0 mostMembers (r .members)))
   refuse 4 0 (not (eqb (length f) (lengthBy r)))
   good r

@@ -17,3 +17,4 @@ pub mod BitFieldCall
 pub mod Claim
 pub mod Demand
 pub mod Case
+pub mod Shapes

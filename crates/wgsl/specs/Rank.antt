@@ -7,17 +7,7 @@ use mathlib.Core.List.{List, [], _∷_}
 use mathlib.Core.Bool.{Bool, true, false, cond, _&&_}
 use mathlib.Core.Option.{Option, none, some}
 use lib.Dec.{eqb}
-use Rattle.wgsl.specs.Types.{Scalar, bool, i32, u32, f32, f16, abstractInt, abstractFloat, Ty, scalar, vector, matrix, array, runtime, atomic, struct}
-
--- the kind that a scalar has in a file
-unfoldable pub kindOf : Scalar → ℕ
-kindOf bool = 0
-kindOf i32 = 1
-kindOf u32 = 2
-kindOf f32 = 3
-kindOf f16 = 4
-kindOf abstractInt = 5
-kindOf abstractFloat = 6
+use Rattle.wgsl.specs.Types.{Scalar, bool, i32, u32, f32, f16, abstractInt, abstractFloat, Ty, scalar, vector, matrix, array, runtime, atomic, struct, scalarKind, vectorKind, matrixKind, arrayKind, runtimeKind, atomicKind, structKind}
 
 -- "abstract int to i32 3, u32 4, abstract float 5, f32 6, f16 7"
 unfoldable pub fromAbstractInt : Scalar → Option ℕ
@@ -45,11 +35,11 @@ ifSame true = some 0
 ifSame false = none
 
 unfoldable pub scalarRank : Scalar → Scalar → Option ℕ
-scalarRank bool b = ifSame (eqb 0 (kindOf b))
-scalarRank i32 b = ifSame (eqb 1 (kindOf b))
-scalarRank u32 b = ifSame (eqb 2 (kindOf b))
-scalarRank f32 b = ifSame (eqb 3 (kindOf b))
-scalarRank f16 b = ifSame (eqb 4 (kindOf b))
+scalarRank bool b = ifSame (eqb (scalarKind bool) (scalarKind b))
+scalarRank i32 b = ifSame (eqb (scalarKind i32) (scalarKind b))
+scalarRank u32 b = ifSame (eqb (scalarKind u32) (scalarKind b))
+scalarRank f32 b = ifSame (eqb (scalarKind f32) (scalarKind b))
+scalarRank f16 b = ifSame (eqb (scalarKind f16) (scalarKind b))
 scalarRank abstractInt b = fromAbstractInt b
 scalarRank abstractFloat b = fromAbstractFloat b
 
@@ -57,12 +47,12 @@ scalarRank abstractFloat b = fromAbstractFloat b
 -- "Types are compared by structure, structs by entry number." Atomics convert to nothing else, so their scalar belongs to the outline.
 unfoldable pub outlineOf : Ty → List ℕ
 outlineOf (scalar s) = []
-outlineOf (vector n s) = 7 ∷ n ∷ []
-outlineOf (matrix c r s) = 8 ∷ c ∷ r ∷ []
-outlineOf (array n t) = 9 ∷ n ∷ outlineOf t
-outlineOf (runtime t) = 10 ∷ outlineOf t
-outlineOf (atomic s) = 11 ∷ kindOf s ∷ []
-outlineOf (struct k ms) = 12 ∷ k ∷ []
+outlineOf (vector n s) = vectorKind ∷ n ∷ []
+outlineOf (matrix c r s) = matrixKind ∷ c ∷ r ∷ []
+outlineOf (array n t) = arrayKind ∷ n ∷ outlineOf t
+outlineOf (runtime t) = runtimeKind ∷ outlineOf t
+outlineOf (atomic s) = atomicKind ∷ scalarKind s ∷ []
+outlineOf (struct k ms) = structKind ∷ k ∷ []
 
 unfoldable pub leafOf : Ty → Option Scalar
 leafOf (scalar s) = some s
@@ -90,7 +80,7 @@ unfoldable pub rankOf : Ty → Ty → Option ℕ
 rankOf a b = cond (sameNumbers (outlineOf a) (outlineOf b)) (leafRank (leafOf a) (leafOf b)) none
 
 -- an entry: its number and its type
-pub record Entry : Type 0 where
+pub record Candidate : Type 0 where
   pub number : ℕ
   pub type : Ty
 
@@ -99,15 +89,15 @@ firstOf (some r) a other = some a
 firstOf none a other = other
 
 -- "Common type of a, b: b if a has a rank to b, else a if b has one to a."
-unfoldable pub commonOf : Entry → Entry → Option Entry
+unfoldable pub commonOf : Candidate → Candidate → Option Candidate
 commonOf a b = firstOf (rankOf (a .type) (b .type)) b (firstOf (rankOf (b .type) (a .type)) a none)
 
 -- "A list is folded from the left": the common type of a and the entries after it
-unfoldable pub commonWith : Option Entry → List Entry → Option Entry
+unfoldable pub commonWith : Option Candidate → List Candidate → Option Candidate
 commonWith a [] = a
 commonWith none (b ∷ bs) = none
 commonWith (some a) (b ∷ bs) = commonWith (commonOf a b) bs
 
-unfoldable pub commonOfAll : List Entry → Option Entry
+unfoldable pub commonOfAll : List Candidate → Option Candidate
 commonOfAll [] = none
 commonOfAll (a ∷ rest) = commonWith (some a) rest

@@ -32,7 +32,7 @@ unfoldable pub isPower : ℕ → Bool
 isPower a = powerBelow 32 a
 
 -- "Every one of these numbers, offset and stride included, is at most 4,294,967,295"
-unfoldable pub limit : ℕ
+abbrev pub limit : ℕ
 limit = 4_294_967_295
 
 unfoldable pub withinLimit : ℕ → Bool

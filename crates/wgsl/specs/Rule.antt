@@ -11,10 +11,10 @@ use mathlib.Core.Option.{Option, none, some}
 use lib.ListN.{getElem?}
 use lib.Dec.{eqb, leb}
 use Rattle.wgsl.specs.Round.{isPower}
-use Rattle.wgsl.specs.Types.{Scalar, bool, i32, u32, f32, f16, abstractInt, abstractFloat, Ty, scalar, vector, matrix, array, runtime, atomic, struct, Members, no-more, member, isRuntime, isOpen}
+use Rattle.wgsl.specs.Types.{Scalar, bool, i32, u32, f32, f16, abstractInt, abstractFloat, Ty, scalar, vector, matrix, array, runtime, atomic, struct, Members, no-more, member, lastScalarKind, vectorKind, matrixKind, arrayKind, runtimeKind, atomicKind, structKind, isRuntime, isOpen}
 use Rattle.wgsl.specs.Size.{isPresent, sizeOf, alignOf, fitsLimit}
 use Rattle.wgsl.specs.Said.{Said, good, _>>=_, _>>_, refuse, orRefuse}
-use Rattle.wgsl.specs.File.{TypeEntry, MemberEntry, trailerOf, typeEntryAt, memberEntryAt, givenSize, givenAlign, restIsZero, between, checkTrailer}
+use Rattle.wgsl.specs.File.{TypeEntry, MemberEntry, trailerOf, typeEntryAt, memberEntryAt, givenSize, givenAlign, restIsZero, between, mostMembers, checkTrailer}
 
 -- nothing, unless the test holds
 unfoldable pub when : {A : Type 0} → Bool → Option A → Option A
@@ -97,15 +97,15 @@ structMade f ts k e =
 -- kinds 7 to 11
 unfoldable pub overMade : Option Ty → TypeEntry → Option Ty
 overMade below e =
-    cond (eqb (e .kind) 7) (vectorMade below e)
-    (cond (eqb (e .kind) 8) (matrixMade below e)
-    (cond (eqb (e .kind) 9) (arrayMade below e)
-    (cond (eqb (e .kind) 10) (runtimeMade below e) (cond (eqb (e .kind) 11) (atomicMade below e) none))))
+    cond (eqb (e .kind) vectorKind) (vectorMade below e)
+    (cond (eqb (e .kind) matrixKind) (matrixMade below e)
+    (cond (eqb (e .kind) arrayKind) (arrayMade below e)
+    (cond (eqb (e .kind) runtimeKind) (runtimeMade below e) (cond (eqb (e .kind) atomicKind) (atomicMade below e) none))))
 
 unfoldable pub typeMade : List ℕ → List Ty → ℕ → TypeEntry → Option Ty
 typeMade f ts k e =
-    cond (leb (e .kind) 6) (scalarMade e)
-    (cond (eqb (e .kind) 12) (structMade f ts k e) (overMade (lower ts (e .reference)) e))
+    cond (leb (e .kind) lastScalarKind) (scalarMade e)
+    (cond (eqb (e .kind) structKind) (structMade f ts k e) (overMade (lower ts (e .reference)) e))
 
 -- the type that entry k makes, over the types of the entries below it
 unfoldable pub typeOfEntry : List ℕ → List Ty → ℕ → Option Ty
@@ -162,7 +162,7 @@ isAllowed (array n t) = leb 1 n && not (isOpen t)
 isAllowed (runtime t) = not (isOpen t) && isPresent (sizeOf t) && isPresent (alignOf t)
 isAllowed (atomic s) = isAtomicScalar s
 -- "members, 1 to 1,024"
-isAllowed (struct k ms) = between 1 1024 (countOf ms) && membersAllowed ms
+isAllowed (struct k ms) = between 1 mostMembers (countOf ms) && membersAllowed ms
 
 -- "A given size is at least the type's size and never stands on a runtime array."
 unfoldable pub atLeast : Option ℕ → ℕ → Bool

@@ -1,6 +1,6 @@
 -- WGSL types as trees (01, "The layout file", the table of kinds and the sentences after it).
 --
--- In order: scalars; types and the members of a struct; open types; what holds of every type within a type.
+-- In order: scalars; types and the members of a struct; their kinds; open types; what holds of every type within a type.
 -- Not here: which trees a file may hold (`Rule`), sizes (`Size`).
 -- Definitions only. Assumes nothing.
 use Prim.Native.Nat.{ℕ}
@@ -35,6 +35,52 @@ mutual
     no-more : Members
     member : Ty → Option ℕ → Option ℕ → Members → Members
 
+-- ---- the kinds of the file, by name
+
+-- "0 to 6: bool, i32, u32, f32, f16, abstract int, abstract float"
+unfoldable pub scalarKind : Scalar → ℕ
+scalarKind bool = 0
+scalarKind i32 = 1
+scalarKind u32 = 2
+scalarKind f32 = 3
+scalarKind f16 = 4
+scalarKind abstractInt = 5
+scalarKind abstractFloat = 6
+
+abbrev pub lastScalarKind : ℕ
+lastScalarKind = 6
+
+-- "7 vector", "8 matrix", "9 array", "10 runtime array", "11 atomic", "12 struct"
+abbrev pub vectorKind : ℕ
+vectorKind = 7
+
+abbrev pub matrixKind : ℕ
+matrixKind = 8
+
+abbrev pub arrayKind : ℕ
+arrayKind = 9
+
+abbrev pub runtimeKind : ℕ
+runtimeKind = 10
+
+abbrev pub atomicKind : ℕ
+atomicKind = 11
+
+abbrev pub structKind : ℕ
+structKind = 12
+
+-- the kind of a type
+unfoldable pub kindOf : Ty → ℕ
+kindOf (scalar s) = scalarKind s
+kindOf (vector n s) = vectorKind
+kindOf (matrix c r s) = matrixKind
+kindOf (array n t) = arrayKind
+kindOf (runtime t) = runtimeKind
+kindOf (atomic s) = atomicKind
+kindOf (struct k ms) = structKind
+
+-- ---- open types
+
 unfoldable pub isRuntime : Ty → Bool
 isRuntime (scalar s) = false
 isRuntime (vector n s) = false
@@ -58,6 +104,8 @@ isOpen (array n t) = false
 isOpen (runtime t) = true
 isOpen (atomic s) = false
 isOpen (struct k ms) = endsInRuntime false ms
+
+-- ---- every type within a type
 
 -- the test p holds of a type and of every type within it
 unfoldable mutual

@@ -1,4 +1,4 @@
--- What reading and writing ask of the entry that a call speaks of (crates/decide, specs/Entry), and the refusal of one that is not there.
+-- What reading and writing ask of the entry that a call means (crates/walk_decide, specs/Meant).
 -- Assumes nothing.
 use Prim.Native.Nat.{ℕ}
 use mathlib.Core.Bool.{true}
@@ -6,22 +6,15 @@ use mathlib.Core.List.{List}
 use mathlib.Core.Path.{_≡_}
 use Rattle.wgsl.specs.Types.{Ty, isOpen}
 use Rattle.wgsl.specs.Size.{isStorable}
-use Rattle.wgsl.specs.Said.{refused}
-use Rattle.wgsl.specs.Call.{entryOf, laidEntry, storedEntry}
-use Rattle.wgsl.proofs.Said.{then-refused}
 use Rattle.layout_table.specs.declared.Ground.{Ground}
 use Rattle.walk_decide.specs.Whole.{Ready, Tailed}
-use Rattle.walk_decide.specs.Entry.{membersPart, Entry}
+use Rattle.walk_decide.specs.Meant.{membersPart, Meant}
 use Rattle.walk_decide.proofs.Tails.{ready-at, tailed-at}
 use Rattle.walk_decide.proofs.Entries.{entry-site, entry-layout}
 
-module _ {f : List ℕ} {e : ℕ} {g : Ground} {table : List (List ℕ)} {t : Ty} (x : Entry f e g table t) where
-  pub entry-ready : isStorable t ≡ true → Ready (membersPart f g) table e (g .layout) t
+module _ {f : List ℕ} {e : ℕ} {g : Ground} {table : List (List ℕ)} {t : Ty} (x : Meant f e g table t) where
+  pub entry-ready : isStorable t ≡ true → Ready (membersPart f g) table e (g .value) t
   entry-ready s = rw (entry-layout x) (ready-at (entry-site x) e t (x .there) s)
 
-  pub entry-tailed : isStorable t ≡ true → isOpen t ≡ true → Tailed (membersPart f g) table e (g .layout) t
+  pub entry-tailed : isStorable t ≡ true → isOpen t ≡ true → Tailed (membersPart f g) table e (g .value) t
   entry-tailed s o = rw (entry-layout x) (tailed-at (entry-site x) e t (x .there) s o)
-
-pub stored-missing : (f : List ℕ) (e : ℕ) (b : List ℕ) {number place : ℕ} → entryOf f e ≡ refused number place → storedEntry f e b ≡ refused number place
-unfolding storedEntry laidEntry
-stored-missing f e b h = then-refused _ (then-refused _ h)

@@ -4,7 +4,7 @@ use file::trailer::check_trailer;
 use layout_table::Ground;
 use layout_table::Grounded;
 use layout_table::find;
-use layout_values::value::Layout;
+use layout_values::value::Row;
 use layout_values::value::Value;
 use layout_values::value::blank;
 use layout_values::value::opens;
@@ -13,13 +13,13 @@ use numbers::wide::wide;
 use said::answer::Number;
 use said::refusal::Refusal;
 use walk_decide::Allowed;
-use walk_decide::Found;
-use walk_decide::Tail;
+use walk_decide::Fits;
+use walk_decide::Rest;
 use walk_decide::allow;
-use walk_decide::closed_tail;
+use walk_decide::closed_rest;
 use walk_decide::elements_in;
-use walk_decide::open_tail;
-use walk_decide::tail_of;
+use walk_decide::open_rest;
+use walk_decide::rest_of;
 use words_read::read_entry;
 use words_read::read_many;
 ghost use mathlib.Core.Path.{_≡_};
@@ -29,32 +29,32 @@ ghost use Prim.Native.Nat.{ℕ, _≤_};
 ghost use lib.ListN.{length, drop};
 ghost use Rattle.wgsl.specs.Types.{Ty, isOpen};
 ghost use Rattle.wgsl.specs.Place.{extentOf, places, wordCount, wordsRead};
-ghost use Rattle.wgsl.specs.Call.{answerOf, contentsOf, readCall};
+ghost use Rattle.wgsl.specs.Call.{answerOf, contentsOf, readCall, readType, readElements};
 ghost use Rattle.said.specs.Answer.{saidNumber};
-ghost use Rattle.walk_decide.specs.Whole.{readAs, Ready, Tailed, TailedBy, Whole, loadedAs};
-ghost use Rattle.walk_decide.specs.Entry.{Entry};
+ghost use Rattle.walk_decide.specs.Whole.{Ready, Tailed, TailedBy, Whole};
+ghost use Rattle.walk_decide.specs.Meant.{Meant};
 
 // Puts the words of an entry down: the fixed part, then the tail.
-fn load(members: &[u8], table: &[Value], e: usize, x: Tail, buf: &[u8], words: &mut [u32])
+fn load(members: &[u8], table: &[Row], e: usize, x: Rest, buf: &[u8], words: &mut [u32])
     requires { ⌜ ((t : Ty) × (n : ℕ) × Whole (now members) (now table) e x t n × (wordCount n t ≤ length (now words)) × (extentOf n t ≤ length (now buf))) ⌝ }
     ensures { λ _. ⌜ ((t : Ty) (n : ℕ) → Whole (now (members .entry)) (now (table .entry)) e x t n → wordCount n t ≤ length (now (words .entry)) → now (words .exit) ≡ wordsRead (places n t) (now (buf .entry)) ++ drop (wordCount n t) (now (words .entry))) ⌝ }
 {
     read_entry(members, table, e, 0, buf, 0, words);
-    read_many(members, table, x.layout, x.offset, buf, x.fixed, words);
+    read_many(members, table, x.value, x.offset, buf, x.fixed, words);
 }
 
 // 15 and 14 for a type of fixed size.
 fn read_closed(
     members: &[u8],
-    table: &[Value],
+    table: &[Row],
     e: usize,
-    l: Layout,
+    l: Value,
     buf: &[u8],
     words: &mut [u32],
 ) -> Number
     requires { ⌜ ((t : Ty) × Ready (now members) (now table) e l t × (isOpen t ≡ false)) ⌝ }
-    ensures answer { λ r. ⌜ ((t : Ty) → Ready (now (members .entry)) (now (table .entry)) e l t → isOpen t ≡ false → saidNumber r ≡ answerOf (readAs t (now (buf .entry)) (now (words .entry)))) ⌝ }
-    ensures words { λ _. ⌜ ((t : Ty) → Ready (now (members .entry)) (now (table .entry)) e l t → isOpen t ≡ false → now (words .exit) ≡ contentsOf (now (words .entry)) (readAs t (now (buf .entry)) (now (words .entry)))) ⌝ }
+    ensures answer { λ r. ⌜ ((t : Ty) → Ready (now (members .entry)) (now (table .entry)) e l t → isOpen t ≡ false → saidNumber r ≡ answerOf (readType t (now (buf .entry)) (now (words .entry)))) ⌝ }
+    ensures words { λ _. ⌜ ((t : Ty) → Ready (now (members .entry)) (now (table .entry)) e l t → isOpen t ≡ false → now (words .exit) ≡ contentsOf (now (words .entry)) (readType t (now (buf .entry)) (now (words .entry)))) ⌝ }
 {
     if buf.len() < wide(l.size) {
         return Number::Refused(Refusal::Buffer);
@@ -62,49 +62,49 @@ fn read_closed(
     if words.len() < wide(words_of(l)) {
         return Number::Refused(Refusal::Count);
     }
-    load(members, table, e, closed_tail(l), buf, words);
+    load(members, table, e, closed_rest(l), buf, words);
     Number::Is(words_of(l))
 }
 
 // 14 for an open type with `n` elements.
 fn read_elements(
     members: &[u8],
-    table: &[Value],
+    table: &[Row],
     e: usize,
-    x: Tail,
+    x: Rest,
     n: usize,
     buf: &[u8],
     words: &mut [u32],
 ) -> Number
     requires { ⌜ ((t : Ty) × TailedBy (now members) (now table) e x t × (extentOf n t ≤ length (now buf)) × (length (now buf) ≤ 4294967295)) ⌝ }
-    ensures answer { λ r. ⌜ ((t : Ty) → TailedBy (now (members .entry)) (now (table .entry)) e x t → saidNumber r ≡ answerOf (loadedAs n t (now (buf .entry)) (now (words .entry)))) ⌝ }
-    ensures words { λ _. ⌜ ((t : Ty) → TailedBy (now (members .entry)) (now (table .entry)) e x t → now (words .exit) ≡ contentsOf (now (words .entry)) (loadedAs n t (now (buf .entry)) (now (words .entry)))) ⌝ }
+    ensures answer { λ r. ⌜ ((t : Ty) → TailedBy (now (members .entry)) (now (table .entry)) e x t → saidNumber r ≡ answerOf (readElements n t (now (buf .entry)) (now (words .entry)))) ⌝ }
+    ensures words { λ _. ⌜ ((t : Ty) → TailedBy (now (members .entry)) (now (table .entry)) e x t → now (words .exit) ≡ contentsOf (now (words .entry)) (readElements n t (now (buf .entry)) (now (words .entry)))) ⌝ }
 {
-    let count = x.fixed + n * wide(x.layout.unit);
+    let count = x.fixed + n * wide(x.value.unit);
     if words.len() < count {
         return Number::Refused(Refusal::Count);
     }
-    load(members, table, e, open_tail(x, n as u32), buf, words);
+    load(members, table, e, open_rest(x, n as u32), buf, words);
     Number::Is(count as u32)
 }
 
 // 15 and 14 for an open type.
 fn read_open(
     members: &[u8],
-    table: &[Value],
+    table: &[Row],
     e: usize,
-    l: Layout,
+    l: Value,
     buf: &[u8],
     words: &mut [u32],
 ) -> Number
     requires { ⌜ ((t : Ty) × Tailed (now members) (now table) e l t × (length (now buf) ≤ 4294967295)) ⌝ }
-    ensures answer { λ r. ⌜ ((t : Ty) → Tailed (now (members .entry)) (now (table .entry)) e l t → saidNumber r ≡ answerOf (readAs t (now (buf .entry)) (now (words .entry)))) ⌝ }
-    ensures words { λ _. ⌜ ((t : Ty) → Tailed (now (members .entry)) (now (table .entry)) e l t → now (words .exit) ≡ contentsOf (now (words .entry)) (readAs t (now (buf .entry)) (now (words .entry)))) ⌝ }
+    ensures answer { λ r. ⌜ ((t : Ty) → Tailed (now (members .entry)) (now (table .entry)) e l t → saidNumber r ≡ answerOf (readType t (now (buf .entry)) (now (words .entry)))) ⌝ }
+    ensures words { λ _. ⌜ ((t : Ty) → Tailed (now (members .entry)) (now (table .entry)) e l t → now (words .exit) ≡ contentsOf (now (words .entry)) (readType t (now (buf .entry)) (now (words .entry)))) ⌝ }
 {
-    let x = tail_of(members, table, l);
-    match elements_in(buf.len(), x.offset, x.layout.stride) {
-        Found::No => Number::Refused(Refusal::Buffer),
-        Found::Is(n) => read_elements(members, table, e, x, n, buf, words),
+    let x = rest_of(members, table, l);
+    match elements_in(buf.len(), x.offset, x.value.stride) {
+        Fits::No => Number::Refused(Refusal::Buffer),
+        Fits::Is(n) => read_elements(members, table, e, x, n, buf, words),
     }
 }
 
@@ -113,16 +113,16 @@ fn read_entry_at(
     file: &[u8],
     e: usize,
     g: Ground,
-    table: &[Value],
+    table: &[Row],
     buf: &[u8],
     words: &mut [u32],
 ) -> Number
-    requires { ⌜ ((t : Ty) × Entry (now file) e g (now table) t) ⌝ }
-    ensures answer { λ r. ⌜ ((t : Ty) → Entry (now (file .entry)) e g (now (table .entry)) t → saidNumber r ≡ answerOf (readCall (now (file .entry)) e (now (buf .entry)) (now (words .entry)))) ⌝ }
-    ensures words { λ _. ⌜ ((t : Ty) → Entry (now (file .entry)) e g (now (table .entry)) t → now (words .exit) ≡ contentsOf (now (words .entry)) (readCall (now (file .entry)) e (now (buf .entry)) (now (words .entry)))) ⌝ }
+    requires { ⌜ ((t : Ty) × Meant (now file) e g (now table) t) ⌝ }
+    ensures answer { λ r. ⌜ ((t : Ty) → Meant (now (file .entry)) e g (now (table .entry)) t → saidNumber r ≡ answerOf (readCall (now (file .entry)) e (now (buf .entry)) (now (words .entry)))) ⌝ }
+    ensures words { λ _. ⌜ ((t : Ty) → Meant (now (file .entry)) e g (now (table .entry)) t → now (words .exit) ≡ contentsOf (now (words .entry)) (readCall (now (file .entry)) e (now (buf .entry)) (now (words .entry)))) ⌝ }
 {
-    let l = g.layout;
-    match allow(l, buf.len()) {
+    let l = g.value;
+    match allow(l, buf.len(), true) {
         Allowed::Refused(r) => Number::Refused(r),
         Allowed::Yes => {
             let start = g.start;

@@ -4,7 +4,7 @@ use file::trailer::check_trailer;
 use layout_table::Ground;
 use layout_table::Grounded;
 use layout_table::find;
-use layout_values::value::Layout;
+use layout_values::value::Row;
 use layout_values::value::Value;
 use layout_values::value::blank;
 use layout_values::value::opens;
@@ -14,15 +14,15 @@ use runs::Scan;
 use said::answer::Number;
 use said::refusal::Refusal;
 use walk_decide::Allowed;
-use walk_decide::Found;
-use walk_decide::Tail;
+use walk_decide::Fits;
+use walk_decide::Rest;
 use walk_decide::allow;
-use walk_decide::closed_tail;
+use walk_decide::closed_rest;
 use walk_decide::elements_for;
 use walk_decide::extent_for;
 use walk_decide::fit;
-use walk_decide::open_tail;
-use walk_decide::tail_of;
+use walk_decide::open_rest;
+use walk_decide::rest_of;
 use walk_trees::run_at;
 use words_test::scan_entry;
 use words_test::scan_many;
@@ -35,12 +35,12 @@ ghost use Prim.Native.Nat.{ℕ, _+_, _≤_};
 ghost use lib.ListN.{length, drop, replicate};
 ghost use Rattle.wgsl.specs.Types.{Ty, isOpen};
 ghost use Rattle.wgsl.specs.Place.{extentOf, places, wordCount, written, checkWords};
-ghost use Rattle.wgsl.specs.Call.{answerOf, contentsOf, writeCall};
+ghost use Rattle.wgsl.specs.Call.{answerOf, contentsOf, writeCall, writeType, writeElements, writeWords};
 ghost use Rattle.said.specs.Answer.{saidNumber};
 ghost use Rattle.runs.specs.Ask.{saidScan};
-ghost use Rattle.walk_trees.specs.Placed.{runAt, RunAsks};
-ghost use Rattle.walk_decide.specs.Whole.{writtenAs, Ready, Tailed, TailedBy, Whole, heldAs, storedAs};
-ghost use Rattle.walk_decide.specs.Entry.{Entry};
+ghost use Rattle.walk_trees.specs.Slot.{runAt, RunAsks};
+ghost use Rattle.walk_decide.specs.Whole.{Ready, Tailed, TailedBy, Whole};
+ghost use Rattle.walk_decide.specs.Meant.{Meant};
 
 // "zero where no scalar lies": the first `n` bytes.
 fn zero(buf: &mut [u8], n: usize)
@@ -55,7 +55,7 @@ fn zero(buf: &mut [u8], n: usize)
 }
 
 // The first `n` bytes become zero, unless the words of entry `e` will cover them all.
-fn clear(table: &[Value], e: usize, buf: &mut [u8], n: usize)
+fn clear(table: &[Row], e: usize, buf: &mut [u8], n: usize)
     requires { ⌜ RunAsks (now table) e × (n ≤ length (now buf)) ⌝ }
     ensures covered { λ _. ⌜ ((runAt (now (table .entry)) e ≡ 0 → ⊥) → now (buf .exit) ≡ now (buf .entry)) ⌝ }
     ensures cleared { λ _. ⌜ (runAt (now (table .entry)) e ≡ 0 → now (buf .exit) ≡ replicate n 0 ++ drop n (now (buf .entry))) ⌝ }
@@ -67,22 +67,22 @@ fn clear(table: &[Value], e: usize, buf: &mut [u8], n: usize)
 }
 
 // Tests the words of an entry: the fixed part, then the tail.
-fn scan(members: &[u8], table: &[Value], e: usize, x: Tail, words: &[u32]) -> Scan
+fn scan(members: &[u8], table: &[Row], e: usize, x: Rest, words: &[u32]) -> Scan
     requires { ⌜ ((t : Ty) × (n : ℕ) × Whole (now members) (now table) e x t n × (length (now words) ≡ wordCount n t)) ⌝ }
     ensures { λ r. ⌜ ((t : Ty) (n : ℕ) → Whole (now (members .entry)) (now (table .entry)) e x t n → length (now (words .entry)) ≡ wordCount n t → saidScan r ≡ checkWords 0 (places n t) (now (words .entry))) ⌝ }
 {
     match scan_entry(members, table, e, words, 0) {
         Scan::Bad(k) => Scan::Bad(k),
-        Scan::Fine => scan_many(members, table, x.layout, words, x.fixed),
+        Scan::Fine => scan_many(members, table, x.value, words, x.fixed),
     }
 }
 
 // Stores the words of an entry of so many bytes: the fixed part, then the tail.
 fn store(
     members: &[u8],
-    table: &[Value],
+    table: &[Row],
     e: usize,
-    x: Tail,
+    x: Rest,
     extent: usize,
     words: &[u32],
     buf: &mut [u8],
@@ -92,22 +92,22 @@ fn store(
 {
     clear(table, e, buf, extent);
     write_entry(members, table, e, 0, words, 0, buf);
-    write_many(members, table, x.layout, x.offset, words, x.fixed, buf);
+    write_many(members, table, x.value, x.offset, words, x.fixed, buf);
 }
 
 // The words are right in number, and the bytes are there.
 fn write_whole(
     members: &[u8],
-    table: &[Value],
+    table: &[Row],
     e: usize,
-    x: Tail,
+    x: Rest,
     extent: u32,
     words: &[u32],
     buf: &mut [u8],
 ) -> Number
     requires { ⌜ ((t : Ty) × (n : ℕ) × Whole (now members) (now table) e x t n × (length (now words) ≡ wordCount n t) × (extent ≡ extentOf n t) × (extent ≤ length (now buf))) ⌝ }
-    ensures answer { λ r. ⌜ ((t : Ty) (n : ℕ) → Whole (now (members .entry)) (now (table .entry)) e x t n → length (now (words .entry)) ≡ wordCount n t → extent ≡ extentOf n t → extent ≤ length (now (buf .entry)) → saidNumber r ≡ answerOf (storedAs n t (now (words .entry)) (now (buf .entry)))) ⌝ }
-    ensures buffer { λ _. ⌜ ((t : Ty) (n : ℕ) → Whole (now (members .entry)) (now (table .entry)) e x t n → length (now (words .entry)) ≡ wordCount n t → extent ≡ extentOf n t → extent ≤ length (now (buf .entry)) → now (buf .exit) ≡ contentsOf (now (buf .entry)) (storedAs n t (now (words .entry)) (now (buf .entry)))) ⌝ }
+    ensures answer { λ r. ⌜ ((t : Ty) (n : ℕ) → Whole (now (members .entry)) (now (table .entry)) e x t n → length (now (words .entry)) ≡ wordCount n t → extent ≡ extentOf n t → extent ≤ length (now (buf .entry)) → saidNumber r ≡ answerOf (writeWords n t (now (words .entry)) (now (buf .entry)))) ⌝ }
+    ensures buffer { λ _. ⌜ ((t : Ty) (n : ℕ) → Whole (now (members .entry)) (now (table .entry)) e x t n → length (now (words .entry)) ≡ wordCount n t → extent ≡ extentOf n t → extent ≤ length (now (buf .entry)) → now (buf .exit) ≡ contentsOf (now (buf .entry)) (writeWords n t (now (words .entry)) (now (buf .entry)))) ⌝ }
 {
     match fit(scan(members, table, e, x, words)) {
         Allowed::Refused(r) => Number::Refused(r),
@@ -121,15 +121,15 @@ fn write_whole(
 // 14, 15, 16 for a type of fixed size.
 fn write_closed(
     members: &[u8],
-    table: &[Value],
+    table: &[Row],
     e: usize,
-    l: Layout,
+    l: Value,
     words: &[u32],
     buf: &mut [u8],
 ) -> Number
     requires { ⌜ ((t : Ty) × Ready (now members) (now table) e l t × (isOpen t ≡ false)) ⌝ }
-    ensures answer { λ r. ⌜ ((t : Ty) → Ready (now (members .entry)) (now (table .entry)) e l t → isOpen t ≡ false → saidNumber r ≡ answerOf (writtenAs t (now (words .entry)) (now (buf .entry)))) ⌝ }
-    ensures buffer { λ _. ⌜ ((t : Ty) → Ready (now (members .entry)) (now (table .entry)) e l t → isOpen t ≡ false → now (buf .exit) ≡ contentsOf (now (buf .entry)) (writtenAs t (now (words .entry)) (now (buf .entry)))) ⌝ }
+    ensures answer { λ r. ⌜ ((t : Ty) → Ready (now (members .entry)) (now (table .entry)) e l t → isOpen t ≡ false → saidNumber r ≡ answerOf (writeType t (now (words .entry)) (now (buf .entry)))) ⌝ }
+    ensures buffer { λ _. ⌜ ((t : Ty) → Ready (now (members .entry)) (now (table .entry)) e l t → isOpen t ≡ false → now (buf .exit) ≡ contentsOf (now (buf .entry)) (writeType t (now (words .entry)) (now (buf .entry)))) ⌝ }
 {
     if words.len() != wide(words_of(l)) {
         return Number::Refused(Refusal::Count);
@@ -137,31 +137,31 @@ fn write_closed(
     if buf.len() < wide(l.size) {
         return Number::Refused(Refusal::Buffer);
     }
-    write_whole(members, table, e, closed_tail(l), l.size, words, buf)
+    write_whole(members, table, e, closed_rest(l), l.size, words, buf)
 }
 
 // 15 and 16 for an open type with `n` elements.
 fn write_elements(
     members: &[u8],
-    table: &[Value],
+    table: &[Row],
     e: usize,
-    x: Tail,
+    x: Rest,
     n: usize,
     words: &[u32],
     buf: &mut [u8],
 ) -> Number
     requires { ⌜ ((t : Ty) × TailedBy (now members) (now table) e x t × (length (now buf) ≤ 4294967295) × (length (now words) ≡ wordCount n t)) ⌝ }
-    ensures answer { λ r. ⌜ ((t : Ty) → TailedBy (now (members .entry)) (now (table .entry)) e x t → length (now (words .entry)) ≡ wordCount n t → saidNumber r ≡ answerOf (heldAs n t (now (words .entry)) (now (buf .entry)))) ⌝ }
-    ensures buffer { λ _. ⌜ ((t : Ty) → TailedBy (now (members .entry)) (now (table .entry)) e x t → length (now (words .entry)) ≡ wordCount n t → now (buf .exit) ≡ contentsOf (now (buf .entry)) (heldAs n t (now (words .entry)) (now (buf .entry)))) ⌝ }
+    ensures answer { λ r. ⌜ ((t : Ty) → TailedBy (now (members .entry)) (now (table .entry)) e x t → length (now (words .entry)) ≡ wordCount n t → saidNumber r ≡ answerOf (writeElements n t (now (words .entry)) (now (buf .entry)))) ⌝ }
+    ensures buffer { λ _. ⌜ ((t : Ty) → TailedBy (now (members .entry)) (now (table .entry)) e x t → length (now (words .entry)) ≡ wordCount n t → now (buf .exit) ≡ contentsOf (now (buf .entry)) (writeElements n t (now (words .entry)) (now (buf .entry)))) ⌝ }
 {
-    match extent_for(buf.len(), x.offset, x.layout.stride, n) {
-        Found::No => Number::Refused(Refusal::Buffer),
-        Found::Is(extent) => {
+    match extent_for(buf.len(), x.offset, x.value.stride, n) {
+        Fits::No => Number::Refused(Refusal::Buffer),
+        Fits::Is(extent) => {
             write_whole(
                 members,
                 table,
                 e,
-                open_tail(x, n as u32),
+                open_rest(x, n as u32),
                 extent as u32,
                 words,
                 buf,
@@ -173,20 +173,20 @@ fn write_elements(
 // 14, 15, 16 for an open type.
 fn write_open(
     members: &[u8],
-    table: &[Value],
+    table: &[Row],
     e: usize,
-    l: Layout,
+    l: Value,
     words: &[u32],
     buf: &mut [u8],
 ) -> Number
     requires { ⌜ ((t : Ty) × Tailed (now members) (now table) e l t × (length (now buf) ≤ 4294967295)) ⌝ }
-    ensures answer { λ r. ⌜ ((t : Ty) → Tailed (now (members .entry)) (now (table .entry)) e l t → saidNumber r ≡ answerOf (writtenAs t (now (words .entry)) (now (buf .entry)))) ⌝ }
-    ensures buffer { λ _. ⌜ ((t : Ty) → Tailed (now (members .entry)) (now (table .entry)) e l t → now (buf .exit) ≡ contentsOf (now (buf .entry)) (writtenAs t (now (words .entry)) (now (buf .entry)))) ⌝ }
+    ensures answer { λ r. ⌜ ((t : Ty) → Tailed (now (members .entry)) (now (table .entry)) e l t → saidNumber r ≡ answerOf (writeType t (now (words .entry)) (now (buf .entry)))) ⌝ }
+    ensures buffer { λ _. ⌜ ((t : Ty) → Tailed (now (members .entry)) (now (table .entry)) e l t → now (buf .exit) ≡ contentsOf (now (buf .entry)) (writeType t (now (words .entry)) (now (buf .entry)))) ⌝ }
 {
-    let x = tail_of(members, table, l);
-    match elements_for(words.len(), x.fixed, x.layout.unit) {
-        Found::No => Number::Refused(Refusal::Count),
-        Found::Is(n) => write_elements(members, table, e, x, n, words, buf),
+    let x = rest_of(members, table, l);
+    match elements_for(words.len(), x.fixed, x.value.unit) {
+        Fits::No => Number::Refused(Refusal::Count),
+        Fits::Is(n) => write_elements(members, table, e, x, n, words, buf),
     }
 }
 
@@ -195,16 +195,16 @@ fn write_entry_at(
     file: &[u8],
     e: usize,
     g: Ground,
-    table: &[Value],
+    table: &[Row],
     words: &[u32],
     buf: &mut [u8],
 ) -> Number
-    requires { ⌜ ((t : Ty) × Entry (now file) e g (now table) t) ⌝ }
-    ensures answer { λ r. ⌜ ((t : Ty) → Entry (now (file .entry)) e g (now (table .entry)) t → saidNumber r ≡ answerOf (writeCall (now (file .entry)) e (now (words .entry)) (now (buf .entry)))) ⌝ }
-    ensures buffer { λ _. ⌜ ((t : Ty) → Entry (now (file .entry)) e g (now (table .entry)) t → now (buf .exit) ≡ contentsOf (now (buf .entry)) (writeCall (now (file .entry)) e (now (words .entry)) (now (buf .entry)))) ⌝ }
+    requires { ⌜ ((t : Ty) × Meant (now file) e g (now table) t) ⌝ }
+    ensures answer { λ r. ⌜ ((t : Ty) → Meant (now (file .entry)) e g (now (table .entry)) t → saidNumber r ≡ answerOf (writeCall (now (file .entry)) e (now (words .entry)) (now (buf .entry)))) ⌝ }
+    ensures buffer { λ _. ⌜ ((t : Ty) → Meant (now (file .entry)) e g (now (table .entry)) t → now (buf .exit) ≡ contentsOf (now (buf .entry)) (writeCall (now (file .entry)) e (now (words .entry)) (now (buf .entry)))) ⌝ }
 {
-    let l = g.layout;
-    match allow(l, buf.len()) {
+    let l = g.value;
+    match allow(l, buf.len(), true) {
         Allowed::Refused(r) => Number::Refused(r),
         Allowed::Yes => {
             let start = g.start;

@@ -1,28 +1,28 @@
 // Reading words by the table: an entry part by part, a struct member by member. Entry numbers fall.
-use layout_values::value::Layout;
+use layout_values::value::Row;
 use layout_values::value::Value;
-use layout_values::value::layout_at;
+use layout_values::value::value_at;
 use numbers::wide::wide;
 use runs::Parts;
 use runs::read_few;
 use runs::read_parts;
-use walk_trees::Placed;
+use walk_trees::Slot;
 use walk_trees::packed;
 use walk_trees::part_width;
-use walk_trees::place;
+use walk_trees::slot_after;
 ghost use mathlib.Core.Path.{_≡_};
 ghost use Prim.Native.Nat.{_+_};
 ghost use lib.ListN.{length};
 ghost use Rattle.wgsl.specs.Place.{Shape, parts, placesOf};
 ghost use Rattle.runs.specs.Fold.{overPlaces, loading};
-ghost use Rattle.layout_values.specs.Value.{layoutAt};
-ghost use Rattle.walk_trees.specs.Placed.{placedAt};
+ghost use Rattle.layout_values.specs.Value.{valueAt};
+ghost use Rattle.walk_trees.specs.Slot.{slotAt};
 ghost use Rattle.walk_trees.specs.Tree.{Many, Tree, Room, EachRoom, MemberRoom};
 
 // Reads entry `e`, which begins at byte `at`, into the words from `k` on.
 pub fn read_entry(
     members: &[u8],
-    table: &[Value],
+    table: &[Row],
     e: usize,
     at: usize,
     buf: &[u8],
@@ -32,7 +32,7 @@ pub fn read_entry(
     requires { ⌜ ((x : Shape) × Tree (now members) (now table) e x × Room x at (length (now buf)) k (length (now words))) ⌝ }
     ensures { λ _. ⌜ ((x : Shape) → Tree (now (members .entry)) (now (table .entry)) e x → now (words .exit) ≡ overPlaces (loading (now (buf .entry))) (placesOf x at) k (now (words .entry))) ⌝ }
 {
-    let r = layout_at(table, e);
+    let r = value_at(table, e);
     if r.kind == 12 {
         read_struct(members, table, e, at, buf, k, words);
         return;
@@ -43,8 +43,8 @@ pub fn read_entry(
 // Reads parts as the layout `r` says: runs at once, others each by its entry.
 pub fn read_many(
     members: &[u8],
-    table: &[Value],
-    r: Layout,
+    table: &[Row],
+    r: Value,
     at: usize,
     buf: &[u8],
     k: usize,
@@ -68,7 +68,7 @@ pub fn read_many(
         return;
     }
     let element = wide(r.reference);
-    let below = layout_at(table, element);
+    let below = value_at(table, element);
     if below.kind == 12 {
         read_structs(
             members,
@@ -102,7 +102,7 @@ pub fn read_many(
 // Reads structs of `unit` words, `count` of them, each a `stride` after the one before.
 fn read_structs(
     members: &[u8],
-    table: &[Value],
+    table: &[Row],
     e: usize,
     count: usize,
     unit: usize,
@@ -112,7 +112,7 @@ fn read_structs(
     k: usize,
     words: &mut [u32],
 )
-    requires { ⌜ ((y : Shape) × Tree (now members) (now table) e y × (layoutAt (now table) e .kind ≡ 12) × EachRoom y count unit stride at (length (now buf)) k (length (now words))) ⌝ }
+    requires { ⌜ ((y : Shape) × Tree (now members) (now table) e y × (valueAt (now table) e .kind ≡ 12) × EachRoom y count unit stride at (length (now buf)) k (length (now words))) ⌝ }
     ensures { λ _. ⌜ ((y : Shape) → Tree (now (members .entry)) (now (table .entry)) e y → now (words .exit) ≡ overPlaces (loading (now (buf .entry))) (placesOf (parts count stride y) at) k (now (words .entry))) ⌝ }
 {
     let mut i: usize = 0;
@@ -125,17 +125,17 @@ fn read_structs(
 // Reads a struct member by member.
 fn read_struct(
     members: &[u8],
-    table: &[Value],
+    table: &[Row],
     e: usize,
     at: usize,
     buf: &[u8],
     k: usize,
     words: &mut [u32],
 )
-    requires { ⌜ ((x : Shape) × Tree (now members) (now table) e x × (layoutAt (now table) e .kind ≡ 12) × Room x at (length (now buf)) k (length (now words))) ⌝ }
+    requires { ⌜ ((x : Shape) × Tree (now members) (now table) e x × (valueAt (now table) e .kind ≡ 12) × Room x at (length (now buf)) k (length (now words))) ⌝ }
     ensures { λ _. ⌜ ((x : Shape) → Tree (now (members .entry)) (now (table .entry)) e x → now (words .exit) ≡ overPlaces (loading (now (buf .entry))) (placesOf x at) k (now (words .entry))) ⌝ }
 {
-    let r = layout_at(table, e);
+    let r = value_at(table, e);
     let length = wide(r.stride);
     let mut m = wide(r.reference) * length;
     let mut left = wide(r.count);
@@ -153,20 +153,20 @@ fn read_struct(
 // Reads member `m` of a struct that begins at `at`, where the one before it ended at `end`; answers its place.
 fn read_member(
     members: &[u8],
-    table: &[Value],
+    table: &[Row],
     m: usize,
     end: usize,
     at: usize,
     buf: &[u8],
     k: usize,
     words: &mut [u32],
-) -> Placed
+) -> Slot
     requires { ⌜ ((y : Shape) × MemberRoom (now members) (now table) m end y at (length (now buf)) k (length (now words))) ⌝ }
-    ensures placed { λ r. ⌜ r ≡ placedAt (now (members .entry)) (now (table .entry)) m end ⌝ }
-    ensures filled { λ _. ⌜ ((y : Shape) → Tree (now (members .entry)) (now (table .entry)) (placedAt (now (members .entry)) (now (table .entry)) m end .ty) y → now (words .exit) ≡ overPlaces (loading (now (buf .entry))) (placesOf y (at + placedAt (now (members .entry)) (now (table .entry)) m end .start)) k (now (words .entry))) ⌝ }
+    ensures placed { λ r. ⌜ r ≡ slotAt (now (members .entry)) (now (table .entry)) m end ⌝ }
+    ensures filled { λ _. ⌜ ((y : Shape) → Tree (now (members .entry)) (now (table .entry)) (slotAt (now (members .entry)) (now (table .entry)) m end .ty) y → now (words .exit) ≡ overPlaces (loading (now (buf .entry))) (placesOf y (at + slotAt (now (members .entry)) (now (table .entry)) m end .start)) k (now (words .entry))) ⌝ }
 {
-    let p = place(members, table, m, end);
-    let r = layout_at(table, p.ty);
+    let p = slot_after(members, table, m, end);
+    let r = value_at(table, p.ty);
     // a scalar or a vector, most often
     if packed(r) == 4 {
         if p.words <= 4 {

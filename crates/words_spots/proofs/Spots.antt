@@ -9,37 +9,38 @@ use native.Mathlib.Omega.{arith}
 use lib.ListN.{length, getD, set, length-set}
 use lib.Seq.{getD-set-same, getD-set-other}
 use Rattle.wgsl.specs.Place.{Shape, parts, field, spanOf, Place, repeated, placesOf}
-use Rattle.wgsl.proofs.Count.{words, places-words}
+use Rattle.wgsl.specs.Shapes.{shapeWords}
+use Rattle.wgsl.proofs.Count.{places-words}
 use Rattle.runs.specs.Fold.{overPlaces}
 use Rattle.runs.specs.Run.{runPlaces}
 use Rattle.runs.proofs.Folds.{over-append, run-length}
-use Rattle.layout_values.specs.declared.value.Layout.{Layout}
-use Rattle.walk_trees.specs.declared.Placed.{Placed}
-use Rattle.layout_values.specs.Value.{layoutAt, wordsIn}
-use Rattle.walk_trees.specs.Placed.{packedAs, memberAt, placedAt}
+use Rattle.layout_values.specs.declared.value.Value.{Value}
+use Rattle.walk_trees.specs.declared.Slot.{Slot}
+use Rattle.layout_values.specs.Value.{valueAt, wordsIn}
+use Rattle.walk_trees.specs.Slot.{packedAs, memberAt, slotAt}
 use Rattle.walk_trees.specs.Tree.{Valued, Left, Tree, EachRoom}
 use Rattle.walk_trees.proofs.Unique.{repeated-alike}
 use Rattle.walk_trees.proofs.Steps.{tree-valued, tree-left, each-room, First, left-first, left-none}
-use Rattle.words_spots.specs.Spot.{startOf, wordsOf, spotPlaces, SpotsFit, SpottedFrom, Spotted, EachFits}
+use Rattle.words_spots.specs.Spot.{spotStart, spotWords, spotPlaces, SpotsFit, SpottedFrom, Spotted, EachFits}
 
 -- ---- finding them
 
 -- the members of the shape y that are left after j, of the shape `rest`: whoever spots those, and keeps the spots so far, spots all
-pub record Found (ms : List ℕ) (table : List (List ℕ)) (e count first step j end : ℕ) (l : List ℕ) (y : Shape) : Type 0 where
+pub record SpotsFound (ms : List ℕ) (table : List (List ℕ)) (e count first step j end : ℕ) (l : List ℕ) (y : Shape) : Type 0 where
   pub rest : Shape
   pub rest-left : Left ms table e (count - j) (first + j * step) end rest
   pub so-all : (l′ : List ℕ) → ((i : ℕ) → i < 2 * j → getD l′ i 0 ≡ getD l i 0) → SpottedFrom j rest (count - j) l′ → SpottedFrom 0 y count l′
 
 pub record Finding (ms : List ℕ) (table : List (List ℕ)) (e count first step j end : ℕ) (l : List ℕ) : Type 0 where
   pub within : j ≤ count
-  pub step-is : step ≡ layoutAt table e .stride
+  pub step-is : step ≡ valueAt table e .stride
   pub long : length l ≡ 16
-  pub found : (y : Shape) → Tree ms table e y → Found ms table e count first step j end l y
+  pub found : (y : Shape) → Tree ms table e y → SpotsFound ms table e count first step j end l y
 
-pub finding-start : (ms : List ℕ) (table : List (List ℕ)) (e : ℕ) (l : List ℕ) → layoutAt table e .kind ≡ 12 → length l ≡ 16 → Finding ms table e (layoutAt table e .count) (layoutAt table e .reference * layoutAt table e .stride) (layoutAt table e .stride) 0 0 l
+pub finding-start : (ms : List ℕ) (table : List (List ℕ)) (e : ℕ) (l : List ℕ) → valueAt table e .kind ≡ 12 → length l ≡ 16 → Finding ms table e (valueAt table e .count) (valueAt table e .reference * valueAt table e .stride) (valueAt table e .stride) 0 0 l
 finding-start ms table e l kind long =
-    let c : layoutAt table e .count - 0 ≡ layoutAt table e .count = omega arith in
-    let m : layoutAt table e .reference * layoutAt table e .stride + 0 * layoutAt table e .stride ≡ layoutAt table e .reference * layoutAt table e .stride = omega arith in
+    let c : valueAt table e .count - 0 ≡ valueAt table e .count = omega arith in
+    let m : valueAt table e .reference * valueAt table e .stride + 0 * valueAt table e .stride ≡ valueAt table e .reference * valueAt table e .stride = omega arith in
     record {
       within = omega arith;
       step-is = refl;
@@ -52,13 +53,13 @@ finding-start ms table e l kind long =
           };
     }
 
-pub member-type : (ms : List ℕ) (table : List (List ℕ)) (m end : ℕ) {p : Placed} → p ≡ placedAt ms table m end → p .ty ≡ memberAt ms m .type
-unfolding placedAt
-member-type ms table m end is = ap (λ (q : Placed). q .ty) is
+pub member-type : (ms : List ℕ) (table : List (List ℕ)) (m end : ℕ) {p : Slot} → p ≡ slotAt ms table m end → p .ty ≡ memberAt ms m .type
+unfolding slotAt
+member-type ms table m end is = ap (λ (q : Slot). q .ty) is
 
 -- A spot, then the spots after it.
-spot-first : {x y rest : Shape} {j c o n : ℕ} {l : List ℕ} → x ≡ field o y rest → ((at : ℕ) → placesOf y at ≡ runPlaces n 4 at) → words y ≡ n → n ≤ 4 → o + n * 4 ≤ spanOf rest → startOf l j ≡ o → wordsOf l j ≡ n → SpottedFrom (suc j) rest c l → SpottedFrom j x (suc c) l
-unfolding placesOf spotPlaces SpotsFit spanOf words
+spot-first : {x y rest : Shape} {j c o n : ℕ} {l : List ℕ} → x ≡ field o y rest → ((at : ℕ) → placesOf y at ≡ runPlaces n 4 at) → shapeWords y ≡ n → n ≤ 4 → o + n * 4 ≤ spanOf rest → spotStart l j ≡ o → spotWords l j ≡ n → SpottedFrom (suc j) rest c l → SpottedFrom j x (suc c) l
+unfolding placesOf spotPlaces SpotsFit spanOf shapeWords
 spot-first {x} {y} {rest} {j} {c} {o} {n} {l} is run ws short inside s w all =
     rw is
     (record {
@@ -78,18 +79,18 @@ module _ {ms : List ℕ} {table : List (List ℕ)} {e count first step j end : �
   pub finding-first : {y : Shape} (t : Tree ms table e y) → First ms table e (count - j) (first + j * step) end (now .found y t .rest)
   finding-first {y} t = left-first (now .found y t .rest-left) (omega arith)
 
-  module _ {p : Placed} (is : p ≡ placedAt ms table (first + j * step) end) {r : Layout} (layout-is : r ≡ layoutAt table (p .ty)) (run : packedAs r ≡ 4) (short : p .words ≤ 4) (few : count ≤ 8) where
+  module _ {p : Slot} (is : p ≡ slotAt ms table (first + j * step) end) {r : Value} (layout-is : r ≡ valueAt table (p .ty)) (run : packedAs r ≡ 4) (short : p .words ≤ 4) (few : count ≤ 8) where
     type-is : p .ty ≡ memberAt ms (first + j * step) .type
     type-is = member-type ms table (first + j * step) end is
 
-    start-is : p .start ≡ placedAt ms table (first + j * step) end .start
-    start-is = ap (λ (q : Placed). q .start) is
+    start-is : p .start ≡ slotAt ms table (first + j * step) end .start
+    start-is = ap (λ (q : Slot). q .start) is
 
-    words-is : p .words ≡ wordsIn (layoutAt table (p .ty))
-    unfolding placedAt
+    words-is : p .words ≡ wordsIn (valueAt table (p .ty))
+    unfolding slotAt
     words-is = rw is refl
 
-    runs-on : packedAs (layoutAt table (p .ty)) ≡ 4
+    runs-on : packedAs (valueAt table (p .ty)) ≡ 4
     runs-on = rw layout-is at run
 
     abbrev stored : List ℕ
@@ -121,10 +122,10 @@ module _ {ms : List ℕ} {table : List (List ℕ)} {e count first step j end : �
         (same (2 * j) (omega arith) ∙ stored-start ∙ start-is) (same (2 * j + 1) (omega arith) ∙ stored-words)
         (subst (λ (m : ℕ). SpottedFrom m (f .rest) (count - (j + 1)) l′) n all))
 
-    found-next : {y : Shape} (t : Tree ms table e y) → First ms table e (count - j) (first + j * step) end (now .found y t .rest) → Found ms table e count first step (j + 1) (p .end) stored y
+    found-next : {y : Shape} (t : Tree ms table e y) → First ms table e (count - j) (first + j * step) end (now .found y t .rest) → SpotsFound ms table e count first step (j + 1) (p .end) stored y
     found-next {y} t f =
         let c : count - (j + 1) ≡ count - j - 1 = omega arith in
-        let m : first + (j + 1) * step ≡ first + j * step + layoutAt table e .stride = omega (arith, now .step-is) in
+        let m : first + (j + 1) * step ≡ first + j * step + valueAt table e .stride = omega (arith, now .step-is) in
         record {
           rest = f .rest;
           rest-left = rw (c, m, is) (f .rest-left);
@@ -160,20 +161,20 @@ finding-none {ms} {table} {e} {count} {first} {step} {j} {end} {l} now h few y t
 
 -- ---- writing one after the other
 
-pub spots-next : {S : Type 0} (f : Place → ℕ → S → S) (count : ℕ) (l : List ℕ) (j at k : ℕ) (s : S) → j < count → overPlaces f (spotPlaces (count - (j + 1)) l (j + 1) at) (k + wordsOf l j) (overPlaces f (runPlaces (wordsOf l j) 4 (at + startOf l j)) k s) ≡ overPlaces f (spotPlaces (count - j) l j at) k s
+pub spots-next : {S : Type 0} (f : Place → ℕ → S → S) (count : ℕ) (l : List ℕ) (j at k : ℕ) (s : S) → j < count → overPlaces f (spotPlaces (count - (j + 1)) l (j + 1) at) (k + spotWords l j) (overPlaces f (runPlaces (spotWords l j) 4 (at + spotStart l j)) k s) ≡ overPlaces f (spotPlaces (count - j) l j at) k s
 unfolding spotPlaces
 spots-next f count l j at k s h =
     let e : count - j ≡ suc (count - (j + 1)) = omega arith in
     let n : j + 1 ≡ suc j = omega arith in
-    let run = runPlaces (wordsOf l j) 4 (at + startOf l j) in
-    rw (e, n) (sym (rw (run-length (wordsOf l j) 4 (at + startOf l j)) at (over-append f run (spotPlaces (count - suc j) l (suc j) at) k s)))
+    let run = runPlaces (spotWords l j) 4 (at + spotStart l j) in
+    rw (e, n) (sym (rw (run-length (spotWords l j) 4 (at + spotStart l j)) at (over-append f run (spotPlaces (count - suc j) l (suc j) at) k s)))
 
 pub spots-none : {S : Type 0} (f : Place → ℕ → S → S) (count : ℕ) (l : List ℕ) (j at k : ℕ) (s : S) → count ≤ j → overPlaces f (spotPlaces (count - j) l j at) k s ≡ s
 unfolding spotPlaces overPlaces
 spots-none f count l j at k s h = let e : count - j ≡ 0 = omega arith in rw e refl
 
 -- the spot whose turn it is fits, and so do those after it
-pub spots-fit : (count : ℕ) (l : List ℕ) (j at bytes k have : ℕ) → SpotsFit (count - j) l j at bytes k have → j < count → (wordsOf l j ≤ 4) × (at + startOf l j + wordsOf l j * 4 ≤ bytes) × (k + wordsOf l j ≤ have) × SpotsFit (count - (j + 1)) l (j + 1) at bytes (k + wordsOf l j) have
+pub spots-fit : (count : ℕ) (l : List ℕ) (j at bytes k have : ℕ) → SpotsFit (count - j) l j at bytes k have → j < count → (spotWords l j ≤ 4) × (at + spotStart l j + spotWords l j * 4 ≤ bytes) × (k + spotWords l j ≤ have) × SpotsFit (count - (j + 1)) l (j + 1) at bytes (k + spotWords l j) have
 unfolding SpotsFit
 spots-fit count l j at bytes k have fit h =
     let e : count - j ≡ suc (count - (j + 1)) = omega arith in

@@ -11,25 +11,25 @@ use Rattle.runs.specs.Run.{runPlaces}
 use Rattle.walk_trees.specs.Tree.{Room}
 
 -- spot j of the numbers l: its start in the struct, and its words
-abbrev pub startOf : List ℕ → ℕ → ℕ
-startOf l j = getD l (2 * j) 0
+abbrev pub spotStart : List ℕ → ℕ → ℕ
+spotStart l j = getD l (2 * j) 0
 
-abbrev pub wordsOf : List ℕ → ℕ → ℕ
-wordsOf l j = getD l (2 * j + 1) 0
+abbrev pub spotWords : List ℕ → ℕ → ℕ
+spotWords l j = getD l (2 * j + 1) 0
 
 -- the places of so many spots from spot j on, of a struct that begins at `at`
 unfoldable pub spotPlaces : ℕ → List ℕ → ℕ → ℕ → List Place
 spotPlaces zero l j at = []
-spotPlaces (suc c) l j at = runPlaces (wordsOf l j) 4 (at + startOf l j) ++ spotPlaces c l (suc j) at
+spotPlaces (suc c) l j at = runPlaces (spotWords l j) 4 (at + spotStart l j) ++ spotPlaces c l (suc j) at
 
 -- they are short, and lie inside so many bytes and, from word k on, so many words
 unfoldable pub SpotsFit : ℕ → List ℕ → ℕ → ℕ → ℕ → ℕ → ℕ → Type 0
 SpotsFit zero l j at bytes k words = Unit {0}
 SpotsFit (suc c) l j at bytes k words =
-    (wordsOf l j ≤ 4)
-    × (at + startOf l j + wordsOf l j * 4 ≤ bytes)
-    × (k + wordsOf l j ≤ words)
-    × SpotsFit c l (suc j) at bytes (k + wordsOf l j) words
+    (spotWords l j ≤ 4)
+    × (at + spotStart l j + spotWords l j * 4 ≤ bytes)
+    × (k + spotWords l j ≤ words)
+    × SpotsFit c l (suc j) at bytes (k + spotWords l j) words
 
 -- so many spots from spot j on are the places of the shape x, and fit where it does
 pub record SpottedFrom (j : ℕ) (x : Shape) (c : ℕ) (l : List ℕ) : Type 0 where

@@ -1,16 +1,16 @@
 // Spots: the places of a small struct's members, worked out once for all structs of an array.
-use layout_values::value::Value;
-use layout_values::value::layout_at;
+use layout_values::value::Row;
+use layout_values::value::value_at;
 use numbers::wide::wide;
 use runs::write_few;
 use walk_trees::packed;
-use walk_trees::place;
+use walk_trees::slot_after;
 ghost use mathlib.Core.Path.{_≡_};
 ghost use Prim.Native.Nat.{_+_, _*_, _<_, _≤_};
 ghost use lib.ListN.{length};
 ghost use Rattle.wgsl.specs.Place.{Shape, repeated};
 ghost use Rattle.runs.specs.Fold.{overPlaces, storing};
-ghost use Rattle.layout_values.specs.Value.{layoutAt};
+ghost use Rattle.layout_values.specs.Value.{valueAt};
 ghost use Rattle.walk_trees.specs.Tree.{Tree};
 ghost use Rattle.words_spots.specs.Spot.{spotPlaces, SpotsFit, Spotted, EachFits};
 
@@ -25,18 +25,18 @@ pub fn no_spots() -> [usize; 16]
 // 0 where there are more than eight members, or one is no run of at most four words, or less than two such structs are written.
 pub fn spots_of(
     members: &[u8],
-    table: &[Value],
+    table: &[Row],
     e: usize,
     structs: usize,
     spots: &mut [usize],
 ) -> usize
-    requires { ⌜ ((y : Shape) × Tree (now members) (now table) e y × (layoutAt (now table) e .kind ≡ 12)) × (length (now spots) ≡ 16) ⌝ }
+    requires { ⌜ ((y : Shape) × Tree (now members) (now table) e y × (valueAt (now table) e .kind ≡ 12)) × (length (now spots) ≡ 16) ⌝ }
     ensures { λ r. ⌜ (0 < r → (y : Shape) → Tree (now (members .entry)) (now (table .entry)) e y → Spotted y r (now (spots .exit))) ⌝ }
 {
     if structs < 2 {
         return 0;
     }
-    let r = layout_at(table, e);
+    let r = value_at(table, e);
     let count = wide(r.count);
     if 8 < count {
         return 0;
@@ -46,8 +46,8 @@ pub fn spots_of(
     let mut end: usize = 0;
     let mut j: usize = 0;
     while j < count {
-        let p = place(members, table, first + j * length, end);
-        let q = layout_at(table, p.ty);
+        let p = slot_after(members, table, first + j * length, end);
+        let q = value_at(table, p.ty);
         if packed(q) != 4 {
             return 0;
         }

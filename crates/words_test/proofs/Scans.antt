@@ -19,9 +19,9 @@ use Rattle.runs.proofs.Folds.{widths, tested-widths, tested-refused, tested-mov
 use Rattle.runs.specs.declared.Scan.{Scan}
 use Rattle.runs.specs.declared.Scan.the-variants.{Fine, Bad}
 use Rattle.runs.specs.Ask.{saidScan}
-use Rattle.layout_values.specs.declared.value.Layout.{Layout}
-use Rattle.layout_values.specs.Value.{layoutAt, wordsIn}
-use Rattle.walk_trees.specs.Placed.{partWidth, memberAt, placedAt}
+use Rattle.layout_values.specs.declared.value.Value.{Value}
+use Rattle.layout_values.specs.Value.{valueAt, wordsIn}
+use Rattle.walk_trees.specs.Slot.{partWidth, memberAt, slotAt}
 use Rattle.walk_trees.specs.Tree.{Runs, Many, runs, each, Tree, WordRoom, AllWide, Wide, MemberRoom}
 use Rattle.walk_trees.proofs.Steps.{tree-valued, many-runs, Each, each-entry, Turn, turn-start, turn-next, turn-none, Walk, walk-start, walk-first, walk-room, walk-words, walk-next, walk-none}
 
@@ -65,7 +65,7 @@ wide-run : (n at : ℕ) → AllWide (runPlaces n 4 at)
 unfolding runPlaces AllWide
 wide-run n at = wide-repeated n 4 (λ p. record { at = p; width = 4 } ∷ []) at (λ p. (refl, tt))
 
-wide-runs : {table : List (List ℕ)} {r : Layout} {x : Shape} → Runs table r x → r .narrow ≡ 4 → Wide x
+wide-runs : {table : List (List ℕ)} {r : Value} {x : Shape} → Runs table r x → r .narrow ≡ 4 → Wide x
 unfolding Wide partPlaces
 wide-runs {r} R w at =
     rw (R .places-are at, w)
@@ -76,7 +76,7 @@ unfolding Wide placesOf
 wide-parts n stride y h at = wide-repeated n stride (λ p. placesOf y p) at h
 
 -- A layout whose narrowest word has not two bytes has none of two bytes.
-wide-many : {ms : List ℕ} {table : List (List ℕ)} {r : Layout} {x : Shape} → Many ms table r x → (r .narrow ≡ 2 → ⊥) → Wide x
+wide-many : {ms : List ℕ} {table : List (List ℕ)} {r : Value} {x : Shape} → Many ms table r x → (r .narrow ≡ 2 → ⊥) → Wide x
 wide-many (runs R) h = wide-runs R (⊎-elim (λ w. absurd (h w)) (λ w. w) (R .width))
 wide-many {r} (each {y = y} E t) h = wide-parts (r .count) (r .stride) y (E .wide h)
 
@@ -103,15 +103,15 @@ wide-fine {ws} k x low h = sym (wide-passes ws low (placesOf x 0) k (h 0))
 
 -- What holds no f16 is fine.
 module _ {ms : List ℕ} {table : List (List ℕ)} {ws : List ℕ} (k : ℕ) (low : Words32 ws) where
-  pub entry-fine : {e : ℕ} → (layoutAt table e .narrow ≡ 2 → ⊥) → Says ws k (λ x. Tree ms table e x) Fine
+  pub entry-fine : {e : ℕ} → (valueAt table e .narrow ≡ 2 → ⊥) → Says ws k (λ x. Tree ms table e x) Fine
   entry-fine h x t = wide-fine k x low (tree-valued t .wide h)
 
-  pub many-fine : {r : Layout} → (r .narrow ≡ 2 → ⊥) → Says ws k (λ x. Many ms table r x) Fine
+  pub many-fine : {r : Value} → (r .narrow ≡ 2 → ⊥) → Says ws k (λ x. Many ms table r x) Fine
   many-fine h x m = wide-fine k x low (wide-many m h)
 
 -- ---- parts
 
-module _ {ms : List ℕ} {table : List (List ℕ)} {r : Layout} where
+module _ {ms : List ℕ} {table : List (List ℕ)} {r : Value} where
   pub runs-room : {x : Shape} {k n : ℕ} → Many ms table r x → WordRoom x k n → (partWidth table r ≡ 0 → ⊥) → k + r .count * r .unit ≤ n
   runs-room m room w = omega (arith, room .words-there, many-runs m w .words-are)
 
@@ -122,7 +122,7 @@ module _ {ms : List ℕ} {table : List (List ℕ)} {r : Layout} where
       (sym (tested-moved ws (r .count) (r .unit) 2 (r .stride) 0 k (good tt)))
 
 -- the layout's parts are entries, and their words are there
-pub each-there : {ms : List ℕ} {table : List (List ℕ)} {r : Layout} {x : Shape} {element count unit k ws : ℕ} → Many ms table r x → partWidth table r ≡ 0 → WordRoom x k ws → element ≡ r .reference → count ≡ r .count → unit ≡ r .unit → Each ms table r element count unit (r .stride) 0 (spanOf x) k ws
+pub each-there : {ms : List ℕ} {table : List (List ℕ)} {r : Value} {x : Shape} {element count unit k ws : ℕ} → Many ms table r x → partWidth table r ≡ 0 → WordRoom x k ws → element ≡ r .reference → count ≡ r .count → unit ≡ r .unit → Each ms table r element count unit (r .stride) 0 (spanOf x) k ws
 each-there m w room e c u =
     each-entry m w (record { bytes-there = omega arith; words-there = room .words-there }) e c u refl
 
@@ -134,7 +134,7 @@ pub turns-start : (ms : List ℕ) (table : List (List ℕ)) (ws : List ℕ) (ele
 turns-start ms table ws element count unit k =
     record { turn = λ stride. turn-start (testing ws) ms table element count unit stride 0 k (good tt) }
 
-module _ {ms : List ℕ} {table : List (List ℕ)} {r : Layout} {element count unit bytes k n : ℕ} (all : Each ms table r element count unit (r .stride) 0 bytes k n) {ws : List ℕ} {i : ℕ} (now : Turns ms table ws element count unit k i) where
+module _ {ms : List ℕ} {table : List (List ℕ)} {r : Value} {element count unit bytes k n : ℕ} (all : Each ms table r element count unit (r .stride) 0 bytes k n) {ws : List ℕ} {i : ℕ} (now : Turns ms table ws element count unit k i) where
   turns-said : (s : Scan) → i < count → Says ws (k + i * unit) (λ x. Tree ms table element x) s → (stride : ℕ) → Turn (testing ws) ms table element count unit stride 0 k (good tt) (i + 1) (saidScan s)
   turns-said s h said stride =
       turn-next (now .turn stride) (all .tree) (all .room .unit-is) h
@@ -162,7 +162,7 @@ pub record Scanned (ms : List ℕ) (table : List (List ℕ)) (ws : List ℕ) (e 
   pub end : ℕ
   pub walk : Walk (testing ws) ms table e 0 bytes k (length ws) (good tt) left m end next (good tt)
 
-pub scanned-start : {ms : List ℕ} {table : List (List ℕ)} (ws : List ℕ) {e k left m : ℕ} {x : Shape} → Tree ms table e x → layoutAt table e .kind ≡ 12 → WordRoom x k (length ws) → left ≡ layoutAt table e .count → m ≡ layoutAt table e .reference * layoutAt table e .stride → Scanned ms table ws e k left m k
+pub scanned-start : {ms : List ℕ} {table : List (List ℕ)} (ws : List ℕ) {e k left m : ℕ} {x : Shape} → Tree ms table e x → valueAt table e .kind ≡ 12 → WordRoom x k (length ws) → left ≡ valueAt table e .count → m ≡ valueAt table e .reference * valueAt table e .stride → Scanned ms table ws e k left m k
 scanned-start ws {x} t kind room c f =
     rw (c, f)
     (record {
@@ -178,7 +178,7 @@ module _ {ms : List ℕ} {table : List (List ℕ)} {ws : List ℕ} {e k left m n
     scanned-room = walk-room (now .walk) h
 
     pub scanned-inside : m + 12 ≤ length ms
-    scanned-inside = scanned-room .placeable .inside
+    scanned-inside = scanned-room .slot-asks .inside
 
     module _ {ty : ℕ} (read : ty ≡ load 2 ms m) where
       type-read : ty ≡ memberAt ms m .type
@@ -194,26 +194,26 @@ module _ {ms : List ℕ} {table : List (List ℕ)} {ws : List ℕ} {e k left m n
       pub scanned-there : WordRoom (walk-first (now .walk) h .y) next (length ws)
       scanned-there = record { words-there = scanned-room .room .words-there }
 
-      words-read : placedAt ms table m (now .end) .words ≡ wordsIn (layoutAt table ty)
-      unfolding placedAt
+      words-read : slotAt ms table m (now .end) .words ≡ wordsIn (valueAt table ty)
+      unfolding slotAt
       words-read = rw type-read refl
 
-      type-placed : ty ≡ placedAt ms table m (now .end) .ty
-      unfolding placedAt
+      type-placed : ty ≡ slotAt ms table m (now .end) .ty
+      unfolding slotAt
       type-placed = type-read
 
-      module _ {step words : ℕ} (step-is : step ≡ layoutAt table e .stride) (words-are : words ≡ wordsIn (layoutAt table ty)) where
-        walked : (s : Scan) → Says ws next (λ x. Tree ms table ty x) s → Walk (testing ws) ms table e 0 (now .bytes) k (length ws) (good tt) (left - 1) (m + step) (placedAt ms table m (now .end) .end) (next + words) (saidScan s)
+      module _ {step words : ℕ} (step-is : step ≡ valueAt table e .stride) (words-are : words ≡ wordsIn (valueAt table ty)) where
+        walked : (s : Scan) → Says ws next (λ x. Tree ms table ty x) s → Walk (testing ws) ms table e 0 (now .bytes) k (length ws) (good tt) (left - 1) (m + step) (slotAt ms table m (now .end) .end) (next + words) (saidScan s)
         walked s said =
             rw (words-are, ← words-read)
             (walk-next (now .walk) h refl step-is
-            (λ y t. said y (rw type-placed t) ∙ tested-anywhere ws y (0 + placedAt ms table m (now .end) .start) next (good tt)))
+            (λ y t. said y (rw type-placed t) ∙ tested-anywhere ws y (0 + slotAt ms table m (now .end) .start) next (good tt)))
 
         pub scanned-words : next + words ≤ length ws
         scanned-words = rw (words-are, ← words-read) (walk-words (now .walk) h refl)
 
         pub scanned-next : Says ws next (λ x. Tree ms table ty x) Fine → Scanned ms table ws e k (left - 1) (m + step) (next + words)
-        scanned-next said = record { bytes = now .bytes; end = placedAt ms table m (now .end) .end; walk = walked Fine said }
+        scanned-next said = record { bytes = now .bytes; end = slotAt ms table m (now .end) .end; walk = walked Fine said }
 
         pub scanned-bad : {q : ℕ} → Says ws next (λ x. Tree ms table ty x) (Bad q) → Says ws k (λ x. Tree ms table e x) (Bad q)
         scanned-bad {q} said x t =

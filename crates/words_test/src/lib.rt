@@ -1,8 +1,8 @@
 // Testing words by the table, before any of them is stored: the lowest that an f16 cannot hold. Entry numbers fall.
 use file::fields::half;
-use layout_values::value::Layout;
+use layout_values::value::Row;
 use layout_values::value::Value;
-use layout_values::value::layout_at;
+use layout_values::value::value_at;
 use layout_values::value::words_of;
 use numbers::wide::wide;
 use runs::Scan;
@@ -14,15 +14,15 @@ ghost use Rattle.wgsl.specs.Said.{good};
 ghost use Rattle.wgsl.specs.Place.{Shape, placesOf};
 ghost use Rattle.runs.specs.Fold.{overPlaces, testing};
 ghost use Rattle.runs.specs.Ask.{saidScan};
-ghost use Rattle.layout_values.specs.Value.{layoutAt};
+ghost use Rattle.layout_values.specs.Value.{valueAt};
 ghost use Rattle.walk_trees.specs.Tree.{Many, Tree, WordRoom};
 
 // Tests the words of entry `e`, from word `k` on. Only what holds an f16 is looked at.
-pub fn scan_entry(members: &[u8], table: &[Value], e: usize, words: &[u32], k: usize) -> Scan
+pub fn scan_entry(members: &[u8], table: &[Row], e: usize, words: &[u32], k: usize) -> Scan
     requires { ⌜ ((x : Shape) × Tree (now members) (now table) e x × WordRoom x k (length (now words))) ⌝ }
     ensures { λ r. ⌜ ((x : Shape) → Tree (now (members .entry)) (now (table .entry)) e x → saidScan r ≡ overPlaces (testing (now (words .entry))) (placesOf x 0) k (good tt)) ⌝ }
 {
-    let r = layout_at(table, e);
+    let r = value_at(table, e);
     if r.narrow != 2 {
         return Scan::Fine;
     }
@@ -33,7 +33,7 @@ pub fn scan_entry(members: &[u8], table: &[Value], e: usize, words: &[u32], k: u
 }
 
 // Tests parts as the layout `r` says.
-pub fn scan_many(members: &[u8], table: &[Value], r: Layout, words: &[u32], k: usize) -> Scan
+pub fn scan_many(members: &[u8], table: &[Row], r: Value, words: &[u32], k: usize) -> Scan
     requires { ⌜ ((x : Shape) × Many (now members) (now table) r x × WordRoom x k (length (now words))) ⌝ }
     ensures { λ s. ⌜ ((x : Shape) → Many (now (members .entry)) (now (table .entry)) r x → saidScan s ≡ overPlaces (testing (now (words .entry))) (placesOf x 0) k (good tt)) ⌝ }
 {
@@ -60,18 +60,18 @@ pub fn scan_many(members: &[u8], table: &[Value], r: Layout, words: &[u32], k: u
 }
 
 // Tests a struct member by member.
-fn scan_struct(members: &[u8], table: &[Value], e: usize, words: &[u32], k: usize) -> Scan
-    requires { ⌜ ((x : Shape) × Tree (now members) (now table) e x × (layoutAt (now table) e .kind ≡ 12) × WordRoom x k (length (now words))) ⌝ }
+fn scan_struct(members: &[u8], table: &[Row], e: usize, words: &[u32], k: usize) -> Scan
+    requires { ⌜ ((x : Shape) × Tree (now members) (now table) e x × (valueAt (now table) e .kind ≡ 12) × WordRoom x k (length (now words))) ⌝ }
     ensures { λ r. ⌜ ((x : Shape) → Tree (now (members .entry)) (now (table .entry)) e x → saidScan r ≡ overPlaces (testing (now (words .entry))) (placesOf x 0) k (good tt)) ⌝ }
 {
-    let r = layout_at(table, e);
+    let r = value_at(table, e);
     let length = wide(r.stride);
     let mut m = wide(r.reference) * length;
     let mut left = wide(r.count);
     let mut next = k;
     while 0 < left {
         let ty = wide(half(members, m));
-        let l = layout_at(table, ty);
+        let l = value_at(table, ty);
         if l.narrow == 2 {
             match scan_entry(members, table, ty, words, next) {
                 Scan::Fine => {}

@@ -1,16 +1,16 @@
 // Writing words by the table: an entry part by part, a struct member by member. Entry numbers fall.
-use layout_values::value::Layout;
+use layout_values::value::Row;
 use layout_values::value::Value;
-use layout_values::value::layout_at;
+use layout_values::value::value_at;
 use layout_values::value::words_of;
 use numbers::wide::wide;
 use runs::Parts;
 use runs::write_few;
 use runs::write_parts;
-use walk_trees::Placed;
+use walk_trees::Slot;
 use walk_trees::packed;
 use walk_trees::part_width;
-use walk_trees::place;
+use walk_trees::slot_after;
 use words_spots::no_spots;
 use words_spots::spots_of;
 use words_spots::write_each;
@@ -19,14 +19,14 @@ ghost use Prim.Native.Nat.{_+_};
 ghost use lib.ListN.{length};
 ghost use Rattle.wgsl.specs.Place.{Shape, parts, placesOf};
 ghost use Rattle.runs.specs.Fold.{overPlaces, storing};
-ghost use Rattle.layout_values.specs.Value.{layoutAt};
-ghost use Rattle.walk_trees.specs.Placed.{placedAt};
+ghost use Rattle.layout_values.specs.Value.{valueAt};
+ghost use Rattle.walk_trees.specs.Slot.{slotAt};
 ghost use Rattle.walk_trees.specs.Tree.{Many, Tree, Room, EachRoom, MemberRoom};
 
 // Writes entry `e`, which begins at byte `at`, from word `k` on.
 pub fn write_entry(
     members: &[u8],
-    table: &[Value],
+    table: &[Row],
     e: usize,
     at: usize,
     words: &[u32],
@@ -36,7 +36,7 @@ pub fn write_entry(
     requires { ⌜ ((x : Shape) × Tree (now members) (now table) e x × Room x at (length (now buf)) k (length (now words))) ⌝ }
     ensures { λ _. ⌜ ((x : Shape) → Tree (now (members .entry)) (now (table .entry)) e x → now (buf .exit) ≡ overPlaces (storing (now (words .entry))) (placesOf x at) k (now (buf .entry))) ⌝ }
 {
-    let r = layout_at(table, e);
+    let r = value_at(table, e);
     if r.kind == 12 {
         write_structs(
             members,
@@ -58,8 +58,8 @@ pub fn write_entry(
 // Writes parts as the layout `r` says: runs at once, others each by its entry.
 pub fn write_many(
     members: &[u8],
-    table: &[Value],
-    r: Layout,
+    table: &[Row],
+    r: Value,
     at: usize,
     words: &[u32],
     k: usize,
@@ -83,7 +83,7 @@ pub fn write_many(
         return;
     }
     let element = wide(r.reference);
-    let below = layout_at(table, element);
+    let below = value_at(table, element);
     if below.kind == 12 {
         write_structs(
             members,
@@ -117,7 +117,7 @@ pub fn write_many(
 // Writes structs of `unit` words, `count` of them, each a `stride` after the one before. Small ones by their spots.
 fn write_structs(
     members: &[u8],
-    table: &[Value],
+    table: &[Row],
     e: usize,
     count: usize,
     unit: usize,
@@ -127,7 +127,7 @@ fn write_structs(
     k: usize,
     buf: &mut [u8],
 )
-    requires { ⌜ ((y : Shape) × Tree (now members) (now table) e y × (layoutAt (now table) e .kind ≡ 12) × EachRoom y count unit stride at (length (now buf)) k (length (now words))) ⌝ }
+    requires { ⌜ ((y : Shape) × Tree (now members) (now table) e y × (valueAt (now table) e .kind ≡ 12) × EachRoom y count unit stride at (length (now buf)) k (length (now words))) ⌝ }
     ensures { λ _. ⌜ ((y : Shape) → Tree (now (members .entry)) (now (table .entry)) e y → now (buf .exit) ≡ overPlaces (storing (now (words .entry))) (placesOf (parts count stride y) at) k (now (buf .entry))) ⌝ }
 {
     let mut spots = no_spots();
@@ -146,17 +146,17 @@ fn write_structs(
 // Writes a struct member by member.
 fn write_struct(
     members: &[u8],
-    table: &[Value],
+    table: &[Row],
     e: usize,
     at: usize,
     words: &[u32],
     k: usize,
     buf: &mut [u8],
 )
-    requires { ⌜ ((x : Shape) × Tree (now members) (now table) e x × (layoutAt (now table) e .kind ≡ 12) × Room x at (length (now buf)) k (length (now words))) ⌝ }
+    requires { ⌜ ((x : Shape) × Tree (now members) (now table) e x × (valueAt (now table) e .kind ≡ 12) × Room x at (length (now buf)) k (length (now words))) ⌝ }
     ensures { λ _. ⌜ ((x : Shape) → Tree (now (members .entry)) (now (table .entry)) e x → now (buf .exit) ≡ overPlaces (storing (now (words .entry))) (placesOf x at) k (now (buf .entry))) ⌝ }
 {
-    let r = layout_at(table, e);
+    let r = value_at(table, e);
     let length = wide(r.stride);
     let mut m = wide(r.reference) * length;
     let mut left = wide(r.count);
@@ -174,20 +174,20 @@ fn write_struct(
 // Writes member `m` of a struct that begins at `at`, where the one before it ended at `end`; answers its place.
 fn write_member(
     members: &[u8],
-    table: &[Value],
+    table: &[Row],
     m: usize,
     end: usize,
     at: usize,
     words: &[u32],
     k: usize,
     buf: &mut [u8],
-) -> Placed
+) -> Slot
     requires { ⌜ ((y : Shape) × MemberRoom (now members) (now table) m end y at (length (now buf)) k (length (now words))) ⌝ }
-    ensures placed { λ r. ⌜ r ≡ placedAt (now (members .entry)) (now (table .entry)) m end ⌝ }
-    ensures written { λ _. ⌜ ((y : Shape) → Tree (now (members .entry)) (now (table .entry)) (placedAt (now (members .entry)) (now (table .entry)) m end .ty) y → now (buf .exit) ≡ overPlaces (storing (now (words .entry))) (placesOf y (at + placedAt (now (members .entry)) (now (table .entry)) m end .start)) k (now (buf .entry))) ⌝ }
+    ensures placed { λ r. ⌜ r ≡ slotAt (now (members .entry)) (now (table .entry)) m end ⌝ }
+    ensures written { λ _. ⌜ ((y : Shape) → Tree (now (members .entry)) (now (table .entry)) (slotAt (now (members .entry)) (now (table .entry)) m end .ty) y → now (buf .exit) ≡ overPlaces (storing (now (words .entry))) (placesOf y (at + slotAt (now (members .entry)) (now (table .entry)) m end .start)) k (now (buf .entry))) ⌝ }
 {
-    let p = place(members, table, m, end);
-    let r = layout_at(table, p.ty);
+    let p = slot_after(members, table, m, end);
+    let r = value_at(table, p.ty);
     // a scalar or a vector, most often
     if packed(r) == 4 {
         if p.words <= 4 {

@@ -5,7 +5,7 @@ use Rattle.convert_rank.proofs.entry_of.Statement.{statement}
 use Rattle.convert_rank.proofs.entry_of.Tie as tie
 
 returns : tie.Need-returns
-unfolding typeEntryAt typeEntryLength
+unfolding typeEntryAt
 returns c = rw (← c .before .before .pre .0) (c .entry-at .ensures)
 
 pub entry-of-spec : {M : Type 1} → statement M

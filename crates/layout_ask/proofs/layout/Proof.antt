@@ -7,7 +7,7 @@ use Rattle.layout_ask.proofs.layout.Tie as tie
 
 returns : tie.Need-returns
 returns c =
-    let found = c .before .before .before .before .before .before .before .layout-of in
+    let found = c .before .before .before .before .before .before .before .value-of in
     ask-layout _ _ (found .result) (found .ensures) _ (c .before .before .before .before .before .l .given .1) _
     (c .before .least .ensures) (c .before .before .before .mark .ensures) (c .before .before .mark2 .ensures)
     (c .mark3 .ensures)
@@ -15,7 +15,7 @@ returns c =
 returns-2 : tie.Need-returns-2
 unfolding layoutCall
 returns-2 c =
-    let found = c .before .before .before .layout-of in
+    let found = c .before .before .before .value-of in
     ask-refused _ _ (found .result) (found .ensures) _ _ (c .before .r .given .1)
 
 pub layout-spec : {M : Type 1} → statement M

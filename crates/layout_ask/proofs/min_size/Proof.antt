@@ -7,14 +7,14 @@ use Rattle.layout_ask.proofs.min_size.Tie as tie
 
 returns : tie.Need-returns
 returns c =
-    let found = c .before .before .before .before .before .layout-of in
+    let found = c .before .before .before .before .before .value-of in
     ask-min-size _ _ (found .result) (found .ensures) _ (c .before .before .before .l .given .1) _
     (c .before .least .ensures) (c .alone .ensures)
 
 returns-2 : tie.Need-returns-2
 unfolding minSizeCall
 returns-2 c =
-    let found = c .before .before .before .layout-of in
+    let found = c .before .before .before .value-of in
     ask-refused _ _ (found .result) (found .ensures) _ _ (c .before .r .given .1)
 
 pub min-size-spec : {M : Type 1} → statement M

@@ -56,8 +56,8 @@ returns-4 c ms t j =
     sym (steps-align _ ms t _ (rest (e .before .before)) (allowed e t (j .layout) (j .well-formed))
     (sym (c .before .align-fits .ensures t (j .layout) (j .well-formed)) ∙ not-true _ (c .if4 .taken)))
 
-place-requires : tie.Need-place-requires
-place-requires c κs =
+join-requires : tie.Need-join-requires
+join-requires c κs =
     let r = c .before in
     let f = r .before .before in
     let s = f .before .before in
@@ -68,7 +68,7 @@ place-requires c κs =
       j .0,
       j .1,
       steps-joins _ (j .0) (j .1) _ (rest (e .before .before)) (allowed e (j .1) is w) _ _ (j .2)
-          (size-fits s (j .1) is w) (align-fits f (j .1) is w) _ (r .run .given .1),
+          (size-fits s (j .1) is w) (align-fits f (j .1) is w) _ (r .past .given .1),
     )
 
 returns-5 : tie.Need-returns-5
@@ -79,10 +79,10 @@ returns-5 c ms t j =
     let e = s .before .before in
     let ok = allowed e t (j .layout) (j .well-formed) in
     let g = rest (e .before .before) in
-    sym (steps-next _ ms t _ g ok _ (sym (c .place .ensures ms t
+    sym (steps-next _ ms t _ g ok _ (sym (c .join .ensures ms t
     (steps-joins _ ms t _ g ok _ _ j (size-fits s t (j .layout) (j .well-formed))
     (align-fits f t (j .layout) (j .well-formed))
-    _ (r .run .given .1)))))
+    _ (r .past .given .1)))))
 
 returns-6 : tie.Need-returns-6
 returns-6 c ms t j =
@@ -103,4 +103,4 @@ pub step-spec : {M : Type 1} → statement M
 step-spec =
     tie.close (tie.spec
     (λ c κs. search needs) returns (λ c κs. search needs) returns-2 (λ c κs. search needs) returns-3 align-fits-requires
-    returns-4 (λ c. search needs) place-requires (λ c. search needs) (λ c. search needs) returns-5 returns-6 returns-7)
+    returns-4 (λ c. search needs) join-requires (λ c. search needs) (λ c. search needs) returns-5 returns-6 returns-7)

@@ -1,6 +1,6 @@
 -- By the definition.
 use mathlib.Core.Path.{refl}
-use Rattle.layout_structs.specs.Run.{structOf}
+use Rattle.layout_structs.specs.SoFar.{structOf}
 use Rattle.layout_structs.proofs.struct_of.Statement.{statement}
 use Rattle.layout_structs.proofs.struct_of.Tie as tie
 

@@ -8,8 +8,8 @@ use denote.Ref.{now}
 use Rattle.wgsl.specs.Types.{Ty}
 use Rattle.wgsl.specs.Rule.{unused}
 use Rattle.layout_values.proofs.Zero.{unused-two, denied, granted}
-use Rattle.layout_structs.specs.Run.{Lower}
-use Rattle.layout_structs.proofs.Froms.{Found, lower-found, lower-past}
+use Rattle.layout_structs.specs.SoFar.{Lower}
+use Rattle.layout_structs.proofs.Froms.{LowerFound, lower-found, lower-past}
 use Rattle.layout_table.proofs.Judging.{entry-used, entry-scalar, entry-struct, entry-over, entry-missing}
 use Rattle.layout_table.proofs.entry_made.Statement.{statement}
 use Rattle.layout_table.proofs.entry_made.Tie as tie
@@ -50,7 +50,7 @@ returns-4 c ts u =
 -- the entry that is referred to
 below : (c : tie.Else4) →
     let a = c .before .before .before .before .before .before .before .before .before .args in
-    (ts : List Ty) → Lower (now (a .f)) (now (a .table)) (a .k) ts → Found (now (a .f)) (now (a .table)) ts (c .before .wide .result)
+    (ts : List Ty) → Lower (now (a .f)) (now (a .table)) (a .k) ts → LowerFound (now (a .f)) (now (a .table)) ts (c .before .wide .result)
 below c ts low =
     let a = c .before .before .before .before .before .before .before .before .before .args in
     lower-found (now (a .f)) (now (a .table)) (a .k) ts (c .before .wide .result) low (c .if4 .left)
@@ -59,7 +59,7 @@ over-entry-requires : tie.Need-over-entry-requires
 over-entry-requires c κs =
     let u = c .before .before .before .before .before .before .before .before .before .before .pre in
     let r = below (c .before) (u .0) (u .1 .lower) in
-    record { type = r .type; is = rw (c .layout-at .ensures) (r .layout); well-formed = r .well-formed }
+    record { type = r .type; is = rw (c .value-at .ensures) (r .layout); well-formed = r .well-formed }
 
 returns-5 : tie.Need-returns-5
 returns-5 c ts u =
@@ -68,7 +68,7 @@ returns-5 c ts u =
     let z = w .before .before .before .before .before in
     let a = z .before .before .before .args in
     let r = below (l .before) ts (u .lower) in
-    c .over-entry .ensures (r .type) (rw (l .layout-at .ensures) (r .layout)) (r .well-formed)
+    c .over-entry .ensures (r .type) (rw (l .value-at .ensures) (r .layout)) (r .well-formed)
     ∙ entry-over (now (a .f)) ts (a .k) (a .e .reference) (u .entry-is) (zero-fields z) (omega (arith, w .before .before .before .if2 .left))
     (w .before .if3 .left) (r .type) (w .wide .ensures .0) (r .is)
 

@@ -90,7 +90,7 @@ loop-again c =
     let m = c .before .before .before .before in
     let x = m .before .before in
     filled-more (x .before .before .loop .inv) (low (x .before)) (upward x .entry-is) (sym (c .before .before .l .given .1) ∙ made m)
-    (c .numbers .ensures)
+    (c .row-of .ensures)
 
 same-length-4 : tie.Need-same-length-4 Inv-loop μ-loop
 same-length-4 c = long (c .before)

@@ -27,8 +27,8 @@ returns c =
     let a = c .before .before .before .before .before .before .before .before .args in
     ground-missing _ (a .t) (a .entry) (x .0) (c .if1 .taken)
 
-layout-at-requires : tie.Need-layout-at-requires
-layout-at-requires c κs =
+value-at-requires : tie.Need-value-at-requires
+value-at-requires c κs =
     let e = c .before .before .before .before in
     let x = accepted (e .before .before) in
     let long = ap length (x .1) ∙ length-table _ (x .0 .ts) (omega (arith, x .0 .count, x .0 .few)) in
@@ -44,12 +44,12 @@ returns-3 c =
     let e = c .before .before .before .before .before .before in
     let x = accepted (e .before .before) in
     let a = e .before .before .before .before .before .before .before .before .args in
-    ground-is _ (a .t) (a .entry) (x .0) (e .if1 .left) _ (x .1) (rw (c .before .before .wide3 .ensures .0) at (c .before .layout-at .ensures)) (search needs) (search needs)
+    ground-is _ (a .t) (a .entry) (x .0) (e .if1 .left) _ (x .1) (rw (c .before .before .wide3 .ensures .0) at (c .before .value-at .ensures)) (search needs) (search needs)
 
 pub find-spec : {M : Type 1} → statement M
 find-spec =
     tie.close (tie.spec
     (λ c κs. search needs) (λ c. search needs) (λ c. search needs) (λ c. search needs) returns (λ c κs. search needs)
-    (λ c κs. search needs) (λ c. search needs) (λ c. search needs) (λ c κs. search needs) layout-at-requires
+    (λ c κs. search needs) (λ c. search needs) (λ c. search needs) (λ c κs. search needs) value-at-requires
     (λ c κs. search needs) (λ c. search needs) (λ c. search needs) (λ c. search needs) returns-2 (λ c. search needs)
     returns-3)

@@ -10,7 +10,7 @@ use lib.ListN.{length}
 use denote.Ref.{now}
 use Rattle.wgsl.specs.Types.{Ty}
 use Rattle.file.specs.Fields.{memberIs}
-use Rattle.layout_structs.specs.Run.{Lower, steppedTo}
+use Rattle.layout_structs.specs.SoFar.{Lower, steppedTo}
 use Rattle.layout_structs.proofs.Turns.{Reached, Coming, reached-none, coming, reached-meets, reached-next}
 use Rattle.layout_table.proofs.Members.{members-past, members-rule, members-close, members-made}
 use Rattle.layout_table.proofs.struct_entry.Statement.{statement}
@@ -60,26 +60,26 @@ returns : tie.Need-returns Inv-loop μ-loop
 returns c ts u =
     let m = c .before .before in
     let l = m .before .before in
-    members-past u (named l .span-of .ensures) (l .loop .run) (l .loop .inv .1 ts (u .lower)) (m .before .loop-test .taken)
+    members-past u (named l .span-of .ensures) (l .loop .past) (l .loop .inv .1 ts (u .lower)) (m .before .loop-test .taken)
     (m .member-at .ensures) (omega (arith, c .before .wide .ensures, c .if1 .taken))
 
-layout-at-requires : tie.Need-layout-at-requires Inv-loop μ-loop
-layout-at-requires c κs =
+value-at-requires : tie.Need-value-at-requires Inv-loop μ-loop
+value-at-requires c κs =
     let u = begun (c .before .before .before .before) .pre .1 .1 in
     omega (arith, u .table-inside, c .if1 .left)
 
 -- the member whose type and layout are at hand
-here : (c : tie.After-layout-at Inv-loop μ-loop) →
+here : (c : tie.After-value-at Inv-loop μ-loop) →
     let m = c .before .before .before in
     let l = m .before .before in
     let a = begun l .args in
-    (ts : List Ty) → Lower (now (a .f)) (now (a .table)) (a .k) ts → Coming (now (a .f)) ts (a .base + 12 * named l .span-of .result .first) (l .loop .i) (named l .span-of .result .count) (memberIs (m .member-at .result)) (c .layout-at .result)
+    (ts : List Ty) → Lower (now (a .f)) (now (a .table)) (a .k) ts → Coming (now (a .f)) ts (a .base + 12 * named l .span-of .result .first) (l .loop .i) (named l .span-of .result .count) (memberIs (m .member-at .result)) (c .value-at .result)
 here c ts low =
     let m = c .before .before .before in
     let l = m .before .before in
     let a = begun l .args in
     let t = c .before .before .wide in
-    rw (c .layout-at .ensures)
+    rw (c .value-at .ensures)
     (coming (now (a .table)) (a .k) (t .result) low (m .before .loop-test .taken) (m .member-at .ensures) (t .ensures .0)
     (c .before .if1 .left))
 
@@ -89,7 +89,7 @@ step-requires c κs =
     let u = begun l .pre .1 in
     let d = l .loop .inv .1 (u .0) (u .1 .lower) in
     let m = here c (u .0) (u .1 .lower) in
-    (d .members, m .type, reached-meets (l .loop .run) d m)
+    (d .members, m .type, reached-meets (l .loop .past) d m)
 
 -- what `step` answered, of the members so far and this one
 told : (c : tie.After-step Inv-loop μ-loop) →
@@ -99,13 +99,13 @@ told : (c : tie.After-step Inv-loop μ-loop) →
     (ts : List Ty) (low : Lower (now (a .f)) (now (a .table)) (a .k) ts) → c .step .result ≡ steppedTo (eqb (l .loop .i + 1) (named l .span-of .result .count)) (l .loop .inv .1 ts low .members) (here (c .before) ts low .type) (memberIs (m .member-at .result))
 told c ts low =
     let l = c .before .before .before .before .before .before in
-    c .step .ensures _ _ (reached-meets (l .loop .run) (l .loop .inv .1 ts low) (here (c .before) ts low))
+    c .step .ensures _ _ (reached-meets (l .loop .past) (l .loop .inv .1 ts low) (here (c .before) ts low))
 
 returns-2 : tie.Need-returns-2 Inv-loop μ-loop
 returns-2 c ts u =
     let s = c .before .before in
     let l = s .before .before .before .before .before .before in
-    members-rule u (named l .span-of .ensures) (l .loop .run) (l .loop .inv .1 ts (u .lower)) (here (s .before) ts (u .lower))
+    members-rule u (named l .span-of .ensures) (l .loop .past) (l .loop .inv .1 ts (u .lower)) (here (s .before) ts (u .lower))
     (sym (c .enum-told .given .1) ∙ told s ts (u .lower))
 
 loop-again : tie.Need-loop-again Inv-loop μ-loop
@@ -114,7 +114,7 @@ loop-again c =
     let l = s .before .before .before .before .before .before in (
       search needs,
       λ ts low.
-          reached-next (l .loop .run) (l .loop .inv .1 ts low) (here (s .before) ts low) _
+          reached-next (l .loop .past) (l .loop .inv .1 ts low) (here (s .before) ts low) _
           (sym (c .before .r .given .1) ∙ told s ts low),
     )
 
@@ -122,18 +122,18 @@ finish-requires : tie.Need-finish-requires Inv-loop μ-loop
 finish-requires c κs h =
     let l = c .before in
     let u = begun l .pre .1 in
-    (_, members-close (u .1) (named l .span-of .ensures) (l .loop .run) (l .loop .inv .1 (u .0) (u .1 .lower)) (search needs) h)
+    (_, members-close (u .1) (named l .span-of .ensures) (l .loop .past) (l .loop .inv .1 (u .0) (u .1 .lower)) (search needs) h)
 
 returns-3 : tie.Need-returns-3 Inv-loop μ-loop
 returns-3 c ts u =
     let l = c .before .before in
-    members-made u (named l .span-of .ensures) (l .loop .run) (l .loop .inv .1 ts (u .lower)) (search needs) (begun l .pre .0)
+    members-made u (named l .span-of .ensures) (l .loop .past) (l .loop .inv .1 ts (u .lower)) (search needs) (begun l .pre .0)
     (c .finish .ensures .0) (c .finish .ensures .1)
 
 pub struct-entry-spec : {M : Type 1} → statement M
 struct-entry-spec =
     tie.close (tie.spec
     Inv-loop μ-loop (λ c κs. search needs) mul-at add-at (λ c κs. search needs) loop-holds mul-member-at add-member-at
-    member-at-requires (λ c κs. search needs) returns layout-at-requires (λ c. search needs) step-requires
+    member-at-requires (λ c κs. search needs) returns value-at-requires (λ c. search needs) step-requires
     (λ c. search needs) (λ c. search needs) returns-2 (λ c. search needs) (λ c. search needs) loop-again finish-requires
     returns-3)

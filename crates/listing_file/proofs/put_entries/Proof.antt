@@ -19,8 +19,8 @@ abbrev μ-loop : tie.MeasureT-loop
 loop-holds : tie.Need-loop-holds Inv-loop μ-loop
 loop-holds c = going-none (search needs) (c .before .before .put-heading .ensures)
 
-layout-at-requires : tie.Need-layout-at-requires Inv-loop μ-loop
-layout-at-requires c κs =
+value-at-requires : tie.Need-value-at-requires Inv-loop μ-loop
+value-at-requires c κs =
     let l = c .before .loop in
     let start = c .before .before .before .before .before .before .before in
     let (f, ts, e) = start .pre .1 in
@@ -31,7 +31,7 @@ layout-at-requires c κs =
 loop-again : tie.Need-loop-again Inv-loop μ-loop
 loop-again c =
     let l = c .before .before .before .before .before .before .loop in
-    going-more (l .inv) (search needs) (rw (c .before .before .before .before .layout-at .ensures) at (c .before .before .put-line .ensures))
+    going-more (l .inv) (search needs) (rw (c .before .before .before .before .value-at .ensures) at (c .before .before .put-line .ensures))
 
 returns : tie.Need-returns Inv-loop μ-loop
 returns c =
@@ -40,5 +40,5 @@ returns c =
 pub put-entries-spec : {M : Type 1} → statement M
 put-entries-spec =
     tie.close (tie.spec
-    Inv-loop μ-loop (λ c κs. search needs) loop-holds (λ c. search needs) layout-at-requires (λ c κs. search needs)
+    Inv-loop μ-loop (λ c κs. search needs) loop-holds (λ c. search needs) value-at-requires (λ c κs. search needs)
     (λ c. search needs) (λ c. search needs) loop-again (λ c. search needs) returns)

@@ -4,14 +4,14 @@ use native.Mathlib.Omega.{arith}
 use native.Mathlib.Nat.{mul-le-mul}
 use Prim.Native.Nat.{_≤_}
 use borrow.Author.Needs.{needs}
-use Rattle.walk_trees.specs.Placed.{placedIn, Placeables}
+use Rattle.walk_trees.specs.Slot.{slotIn, SlotsAsk}
 use Rattle.walk_trees.proofs.Further.{next-placeable, rest-placeables, rest-placed}
 use Rattle.walk_trees.proofs.member_in.Statement.{statement}
 use Rattle.walk_trees.proofs.member_in.Tie as tie
 
 abbrev Inv-loop : tie.InvT-loop
 Inv-loop members table number length m₀ end₀ left₀ m end left =
-    Placeables members table length m end left × (placedIn members table length m₀ 0 number ≡ placedIn members table length m end left)
+    SlotsAsk members table length m end left × (slotIn members table length m₀ 0 number ≡ slotIn members table length m end left)
 
 abbrev μ-loop : tie.MeasureT-loop
 μ-loop members table number length m₀ end₀ left₀ m end left = left
@@ -27,8 +27,8 @@ loop-holds c =
     rw (c .wide3 .ensures .0, c .before .wide2 .ensures .0, c .before .before .wide .ensures .0)
     (c .before .before .before .before .pre, refl)
 
-place-requires : tie.Need-place-requires Inv-loop μ-loop
-place-requires c κs = next-placeable _ _ _ _ _ (c .before .loop .left) (c .before .loop .inv .0)
+slot-after-requires : tie.Need-slot-after-requires Inv-loop μ-loop
+slot-after-requires c κs = next-placeable _ _ _ _ _ (c .before .loop .left) (c .before .loop .inv .0)
 
 add-m : tie.Need-add-m Inv-loop μ-loop
 add-m c =
@@ -41,21 +41,21 @@ add-m c =
 loop-again : tie.Need-loop-again Inv-loop μ-loop
 loop-again c =
     let l = c .before .before .loop in
-    rw (c .place .ensures) (
+    rw (c .slot-after .ensures) (
       rest-placeables _ _ _ (l .m) (l .end) (l .left) (omega arith) (l .inv .0),
       l .inv .1 ∙ rest-placed _ _ _ (l .m) (l .end) (l .left) (omega arith),
     )
 
-place-requires-2 : tie.Need-place-requires-2 Inv-loop μ-loop
-place-requires-2 c κs = next-placeable _ _ _ _ _ (c .before .loop .left) (c .before .loop .inv .0)
+slot-after-requires-2 : tie.Need-slot-after-requires-2 Inv-loop μ-loop
+slot-after-requires-2 c κs = next-placeable _ _ _ _ _ (c .before .loop .left) (c .before .loop .inv .0)
 
 returns : tie.Need-returns Inv-loop μ-loop
-unfolding placedIn
+unfolding slotIn
 returns c =
     let l = c .before .before .loop in
     let none : l .left ≡ 0 = omega arith in
     let q = l .inv .1 in
-    c .place2 .ensures ∙ sym (rw (none, c .before .before .before .before .wide2 .ensures .0, c .before .before .before .before .before .wide .ensures .0) at q)
+    c .slot-after2 .ensures ∙ sym (rw (none, c .before .before .before .before .wide2 .ensures .0, c .before .before .before .before .before .wide .ensures .0) at q)
 
 pub member-in-spec : {M : Type 1} → statement M
 member-in-spec =
@@ -68,10 +68,10 @@ member-in-spec =
     mul-m
     (λ c κs. search needs)
     loop-holds
-    place-requires
+    slot-after-requires
     add-m
     (λ c. search needs)
     (λ c. search needs)
     loop-again
-    place-requires-2
+    slot-after-requires-2
     returns)

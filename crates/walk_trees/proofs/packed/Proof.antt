@@ -2,7 +2,7 @@
 use borrow.Author.Needs.{needs}
 use borrow.Author.Tests.{eq-eqb, ne-eqb}
 use Rattle.wgsl.specs.Round.{limit}
-use Rattle.walk_trees.specs.Placed.{packedAs}
+use Rattle.walk_trees.specs.Slot.{packedAs}
 use Rattle.walk_trees.proofs.packed.Statement.{statement}
 use Rattle.walk_trees.proofs.packed.Tie as tie
 
@@ -11,7 +11,6 @@ unfolding packedAs
 returns c = rw (eq-eqb _ 0 (c .if1 .taken))
 
 words-of-requires : tie.Need-words-of-requires
-unfolding limit
 words-of-requires c κs = c .before .before .pre
 
 returns-2 : tie.Need-returns-2

@@ -3,7 +3,7 @@ use Prim.Native.Nat.{_≤_}
 use native.Mathlib.Omega.{arith}
 use borrow.Author.Needs.{needs}
 use borrow.Author.Tests.{lt-ltb, le-ltb}
-use Rattle.walk_trees.specs.Placed.{partWidth}
+use Rattle.walk_trees.specs.Slot.{partWidth}
 use Rattle.walk_trees.proofs.part_width.Statement.{statement}
 use Rattle.walk_trees.proofs.part_width.Tie as tie
 
@@ -18,13 +18,13 @@ returns-2 c =
     let h : 9 ≤ l .kind = omega arith in
     rw (le-ltb (l .kind) 9 h, lt-ltb 10 (l .kind) (c .if2 .taken))
 
-layout-at-requires : tie.Need-layout-at-requires
-layout-at-requires c κs =
+value-at-requires : tie.Need-value-at-requires
+value-at-requires c κs =
     omega (arith, c .wide .ensures .0, c .before .before .before .before .before .pre .inside (omega arith) (omega arith))
 
 packed-requires : tie.Need-packed-requires
 packed-requires c κs =
-    rw (c .layout-at .ensures, c .before .wide .ensures .0)
+    rw (c .value-at .ensures, c .before .wide .ensures .0)
     (c .before .before .before .before .before .before .pre .counted (omega arith) (omega arith))
 
 returns-3 : tie.Need-returns-3
@@ -33,9 +33,9 @@ returns-3 c =
     let l = c .before .before .before .before .before .before .before .args .l in
     let h : 9 ≤ l .kind = omega arith in
     let g : l .kind ≤ 10 = omega arith in
-    rw (le-ltb (l .kind) 9 h, le-ltb 10 (l .kind) g, ← c .before .before .wide .ensures .0, ← c .before .layout-at .ensures) (c .packed .ensures)
+    rw (le-ltb (l .kind) 9 h, le-ltb 10 (l .kind) g, ← c .before .before .wide .ensures .0, ← c .before .value-at .ensures) (c .packed .ensures)
 
 pub part-width-spec : {M : Type 1} → statement M
 part-width-spec =
     tie.close (tie.spec
-    returns returns-2 (λ c κs. search needs) layout-at-requires packed-requires returns-3)
+    returns returns-2 (λ c κs. search needs) value-at-requires packed-requires returns-3)

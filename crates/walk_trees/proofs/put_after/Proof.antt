@@ -15,7 +15,6 @@ up-power-requires c κs =
     (rw (w .0) (c .before .pre .0), omega (arith, power-bounded (c .before .pre .0) (omega arith)), omega (arith, up-not-below (a .align) (a .end) pos))
 
 add-t8 : tie.Need-add-t8
-unfolding limit
 add-t8 c =
     let u = c .before .up-power .ensures in
     let low = c .before .before .before .pre .1 in

@@ -5,7 +5,7 @@ use borrow.Author.Needs.{needs}
 use borrow.Author.Tests.{eq-eqb, ne-eqb}
 use native.Mathlib.Omega.{arith}
 use native.Mathlib.Nat.{mul-le-mul}
-use Rattle.walk_trees.specs.Placed.{touching}
+use Rattle.walk_trees.specs.Slot.{touching}
 use Rattle.walk_trees.proofs.touch.Statement.{statement}
 use Rattle.walk_trees.proofs.touch.Tie as tie
 

@@ -10,7 +10,7 @@ use native.Mathlib.Omega.{arith}
 use borrow.Author.Needs.{needs}
 use lib.ListN.{length}
 use Rattle.runs.specs.Fold.{loading}
-use Rattle.walk_trees.specs.Placed.{memberAt}
+use Rattle.walk_trees.specs.Slot.{memberAt}
 use Rattle.walk_trees.proofs.Steps.{tree-valued, tree-many, many-referring, many-runs, depth, depth-below, each-entry, each-room, type-is, type-inside, type-tree, member-room, run-places, run-room, Each, Turn, turn-start, turn-next, turn-none, Walk, walk-start, walk-first, walk-room, walk-words, walk-next, walk-none}
 use borrow.Fn.Kinds.{In}
 use borrow.Fn.PlainCycle.{Measures, is, falls, and}
@@ -30,12 +30,12 @@ use Rattle.words_read.proofs.read_structs.Reads as read-structs
 use Rattle.words_read.proofs.read_structs.Kinds as read-structs-kinds
 use Rattle.words_read.proofs.+read_entry+read_many+read_member+read_struct+read_structs.Lts-read_structs as read-structs-lts
 use Rattle.numbers.proofs.wide.wide.Reads as wide-reads
-use Rattle.layout_values.proofs.value.layout_at.Reads as layout-at-reads
+use Rattle.layout_values.proofs.value.value_at.Reads as value-at-reads
 use Rattle.runs.proofs.read_few.Reads as read-few-reads
 use Rattle.runs.proofs.read_parts.Reads as read-parts-reads
 use Rattle.walk_trees.proofs.packed.Reads as packed-reads
 use Rattle.walk_trees.proofs.part_width.Reads as part-width-reads
-use Rattle.walk_trees.proofs.place.Reads as place-reads
+use Rattle.walk_trees.proofs.slot_after.Reads as slot-after-reads
 use Rattle.words_read.proofs.+read_entry+read_many+read_member+read_struct+read_structs.{statement}
 use Rattle.words_read.proofs.+read_entry+read_many+read_member+read_struct+read_structs.Tie.{close}
 
@@ -87,18 +87,18 @@ read-structs-below t = and 4 read-structs-kinds.ps (falls 4 read-structs-kinds.p
 -- ---- read_entry
 
 abbrev read-entry-calls : ℕ → read-entry-lts.Claims
-read-entry-calls t = (layout-at-reads.Asked, layout-at-reads.Learnt, read-struct-below t, read-struct.Post, read-many-below t, read-many.Post)
+read-entry-calls t = (value-at-reads.Asked, value-at-reads.Learnt, read-struct-below t, read-struct.Post, read-many-below t, read-many.Post)
 
 module _ (t : ℕ) where
-  read-entry-layout-at-requires : read-entry-lts.Need-layout-at-requires (read-entry-calls t) (read-entry-at t) read-entry.Post
-  read-entry-layout-at-requires c κs = tree-valued (c .before .before .before .pre .1 .1) .inside
+  read-entry-value-at-requires : read-entry-lts.Need-value-at-requires (read-entry-calls t) (read-entry-at t) read-entry.Post
+  read-entry-value-at-requires c κs = tree-valued (c .before .before .before .pre .1 .1) .inside
 
   read-entry-read-struct-requires : read-entry-lts.Need-read-struct-requires (read-entry-calls t) (read-entry-at t) read-entry.Post
   read-entry-read-struct-requires c κs =
       let then1 = c .before in
-      let after-layout-at = then1 .before .before in
-      let start = after-layout-at .before .before .before .before in
-      let row = after-layout-at .layout-at .ensures in (
+      let after-value-at = then1 .before .before in
+      let start = after-value-at .before .before .before .before in
+      let row = after-value-at .value-at .ensures in (
         omega (arith, start .pre .0),
         (start .pre .1 .0, start .pre .1 .1, rw row at (then1 .if1 .taken), start .pre .1 .2),
       )
@@ -112,9 +112,9 @@ module _ (t : ℕ) where
   read-entry-read-many-requires : read-entry-lts.Need-read-many-requires (read-entry-calls t) (read-entry-at t) read-entry.Post
   read-entry-read-many-requires c κs =
       let else1 = c .before in
-      let after-layout-at = else1 .before .before in
-      let start = after-layout-at .before .before .before .before in
-      let row = after-layout-at .layout-at .ensures in
+      let after-value-at = else1 .before .before in
+      let start = after-value-at .before .before .before .before in
+      let row = after-value-at .value-at .ensures in
       let no = rw row at (else1 .if1 .left) in (
         rw row (omega (arith, start .pre .0, depth-below (start .pre .1 .1) no)),
         (start .pre .1 .0, rw row (tree-many (start .pre .1 .1) no), start .pre .1 .2),
@@ -127,8 +127,8 @@ module _ (t : ℕ) where
   read-entry-returns-2 c =
       let after-read-many = c .before .before in
       let else1 = after-read-many .before .before in
-      let after-layout-at = else1 .before .before in
-      let row = after-layout-at .layout-at .ensures in
+      let after-value-at = else1 .before .before in
+      let row = after-value-at .value-at .ensures in
       λ x u. after-read-many .read-many .ensures x (rw row (tree-many u (rw row at (else1 .if1 .left))))
 
 -- ---- read_many
@@ -141,7 +141,7 @@ abbrev read-many-μ-loop : read-many-lts.MeasureT-loop
 read-many-μ-loop members table at buf k words₀ count unit stride width element i₀ words i = count - i
 
 abbrev read-many-calls : ℕ → read-many-lts.Claims
-read-many-calls t = (wide-reads.Asked, wide-reads.Learnt, part-width-reads.Asked, part-width-reads.Learnt, read-parts-reads.Asked, read-parts-reads.Learnt, layout-at-reads.Asked, layout-at-reads.Learnt, read-structs-below t, read-structs.Post, read-entry-below t, read-entry.Post)
+read-many-calls t = (wide-reads.Asked, wide-reads.Learnt, part-width-reads.Asked, part-width-reads.Learnt, read-parts-reads.Asked, read-parts-reads.Learnt, value-at-reads.Asked, value-at-reads.Learnt, read-structs-below t, read-structs.Post, read-entry-below t, read-entry.Post)
 
 module _ (t : ℕ) where
   read-many-each : (c : read-many-lts.After-wide5 (read-many-calls t) (read-many-at t) read-many.Post read-many-Inv-loop read-many-μ-loop) →
@@ -200,20 +200,20 @@ module _ (t : ℕ) where
       rw (runs .places-are)
       (rw (after-wide .wide .ensures .0, after-wide2 .wide2 .ensures .0, after-wide3 .wide3 .ensures .0, after-wide4 .wide4 .ensures .0, is, runs .narrow-is) at (after-read-parts .read-parts .ensures))
 
-  read-many-layout-at-requires : read-many-lts.Need-layout-at-requires (read-many-calls t) (read-many-at t) read-many.Post read-many-Inv-loop read-many-μ-loop
-  read-many-layout-at-requires c κs =
+  read-many-value-at-requires : read-many-lts.Need-value-at-requires (read-many-calls t) (read-many-at t) read-many.Post read-many-Inv-loop read-many-μ-loop
+  read-many-value-at-requires c κs =
       let each = read-many-each c in
       tree-valued (each .tree) .inside
 
   read-many-read-structs-requires : read-many-lts.Need-read-structs-requires (read-many-calls t) (read-many-at t) read-many.Post read-many-Inv-loop read-many-μ-loop
   read-many-read-structs-requires c κs =
       let then2 = c .before in
-      let after-layout-at = then2 .before .before in
-      let after-wide5 = after-layout-at .before in
+      let after-value-at = then2 .before .before in
+      let after-wide5 = after-value-at .before in
       let start = after-wide5 .before .before .before .before .before .before .before .before .before in
       let each = read-many-each after-wide5 in (
         omega (arith, start .pre .0, each .deep),
-        (each .y, each .tree, rw (after-layout-at .layout-at .ensures) at (then2 .if2 .taken), each .room),
+        (each .y, each .tree, rw (after-value-at .value-at .ensures) at (then2 .if2 .taken), each .room),
       )
 
   read-many-same-length-2 : read-many-lts.Need-same-length-2 (read-many-calls t) (read-many-at t) read-many.Post read-many-Inv-loop read-many-μ-loop
@@ -304,39 +304,39 @@ module _ (t : ℕ) where
 -- ---- read_member
 
 abbrev read-member-calls : ℕ → read-member-lts.Claims
-read-member-calls t = (place-reads.Asked, place-reads.Learnt, layout-at-reads.Asked, layout-at-reads.Learnt, packed-reads.Asked, packed-reads.Learnt, read-few-reads.Asked, read-few-reads.Learnt, read-entry-below t, read-entry.Post)
+read-member-calls t = (slot-after-reads.Asked, slot-after-reads.Learnt, value-at-reads.Asked, value-at-reads.Learnt, packed-reads.Asked, packed-reads.Learnt, read-few-reads.Asked, read-few-reads.Learnt, read-entry-below t, read-entry.Post)
 
 module _ (t : ℕ) where
-  read-member-place-requires : read-member-lts.Need-place-requires (read-member-calls t) (read-member-at t) read-member.Post
-  read-member-place-requires c κs = c .before .before .before .pre .1 .1 .placeable
+  read-member-slot-after-requires : read-member-lts.Need-slot-after-requires (read-member-calls t) (read-member-at t) read-member.Post
+  read-member-slot-after-requires c κs = c .before .before .before .pre .1 .1 .slot-asks
 
-  read-member-layout-at-requires : read-member-lts.Need-layout-at-requires (read-member-calls t) (read-member-at t) read-member.Post
-  read-member-layout-at-requires c κs =
+  read-member-value-at-requires : read-member-lts.Need-value-at-requires (read-member-calls t) (read-member-at t) read-member.Post
+  read-member-value-at-requires c κs =
       let start = c .before .before .before .before in
-      type-inside (start .pre .1 .1) (c .place .ensures)
+      type-inside (start .pre .1 .1) (c .slot-after .ensures)
 
   read-member-packed-requires : read-member-lts.Need-packed-requires (read-member-calls t) (read-member-at t) read-member.Post
   read-member-packed-requires c κs =
-      let after-place = c .before in
-      let start = after-place .before .before .before .before in
-      rw (c .layout-at .ensures) (tree-valued (type-tree (start .pre .1 .1) (after-place .place .ensures)) .counted)
+      let after-slot = c .before in
+      let start = after-slot .before .before .before .before in
+      rw (c .value-at .ensures) (tree-valued (type-tree (start .pre .1 .1) (after-slot .slot-after .ensures)) .counted)
 
   read-member-add-read-few : read-member-lts.Need-add-read-few (read-member-calls t) (read-member-at t) read-member.Post
   read-member-add-read-few c =
       let then1 = c .before .before .before in
-      let after-layout-at = then1 .before .before in
-      let after-place = after-layout-at .before in
-      let start = after-place .before .before .before .before in
-      omega (arith, run-room (start .pre .1 .1) (after-place .place .ensures) (after-layout-at .layout-at .ensures) (sym (then1 .before .packed .ensures) ∙ then1 .if1 .taken) .1, start .good .1 .1 .1 .1 .1 .0 .0)
+      let after-value-at = then1 .before .before in
+      let after-slot = after-value-at .before in
+      let start = after-slot .before .before .before .before in
+      omega (arith, run-room (start .pre .1 .1) (after-slot .slot-after .ensures) (after-value-at .value-at .ensures) (sym (then1 .before .packed .ensures) ∙ then1 .if1 .taken) .1, start .good .1 .1 .1 .1 .1 .0 .0)
 
   read-member-read-few-requires : read-member-lts.Need-read-few-requires (read-member-calls t) (read-member-at t) read-member.Post
   read-member-read-few-requires c κs =
       let then2 = c .before .before in
       let then1 = then2 .before .before in
-      let after-layout-at = then1 .before .before in
-      let after-place = after-layout-at .before in
-      let start = after-place .before .before .before .before in
-      let room = run-room (start .pre .1 .1) (after-place .place .ensures) (after-layout-at .layout-at .ensures) (sym (then1 .before .packed .ensures) ∙ then1 .if1 .taken) in
+      let after-value-at = then1 .before .before in
+      let after-slot = after-value-at .before in
+      let start = after-slot .before .before .before .before in
+      let room = run-room (start .pre .1 .1) (after-slot .slot-after .ensures) (after-value-at .value-at .ensures) (sym (then1 .before .packed .ensures) ∙ then1 .if1 .taken) in
       (then2 .if2 .taken, room .1, room .0)
 
   read-member-same-length : read-member-lts.Need-same-length (read-member-calls t) (read-member-at t) read-member.Post
@@ -346,24 +346,24 @@ module _ (t : ℕ) where
   read-member-returns c =
       let after-read-few = c .before .before in
       let then1 = after-read-few .before .before .before .before .before in
-      let after-layout-at = then1 .before .before in
-      let after-place = after-layout-at .before in
-      let start = after-place .before .before .before .before in (
-        after-place .place .ensures,
-        λ y u. rw (run-places (start .pre .1 .1) (after-place .place .ensures) (after-layout-at .layout-at .ensures) (sym (then1 .before .packed .ensures) ∙ then1 .if1 .taken) u) (rw (after-place .place .ensures) at (after-read-few .read-few .ensures)),
+      let after-value-at = then1 .before .before in
+      let after-slot = after-value-at .before in
+      let start = after-slot .before .before .before .before in (
+        after-slot .slot-after .ensures,
+        λ y u. rw (run-places (start .pre .1 .1) (after-slot .slot-after .ensures) (after-value-at .value-at .ensures) (sym (then1 .before .packed .ensures) ∙ then1 .if1 .taken) u) (rw (after-slot .slot-after .ensures) at (after-read-few .read-few .ensures)),
       )
 
   read-member-add-read-entry : read-member-lts.Need-add-read-entry (read-member-calls t) (read-member-at t) read-member.Post
   read-member-add-read-entry c =
-      let after-place = c .before .before .before .before in
-      let start = after-place .before .before .before .before in
-      omega (arith, member-room (start .pre .1 .1) (after-place .place .ensures) .bytes-there, start .good .1 .1 .1 .1 .1 .0 .0)
+      let after-slot = c .before .before .before .before in
+      let start = after-slot .before .before .before .before in
+      omega (arith, member-room (start .pre .1 .1) (after-slot .slot-after .ensures) .bytes-there, start .good .1 .1 .1 .1 .1 .0 .0)
 
   read-member-read-entry-requires : read-member-lts.Need-read-entry-requires (read-member-calls t) (read-member-at t) read-member.Post
   read-member-read-entry-requires c κs =
-      let after-place = c .before .before .before .before .before in
-      let start = after-place .before .before .before .before in
-      let is = after-place .place .ensures in (
+      let after-slot = c .before .before .before .before .before in
+      let start = after-slot .before .before .before .before in
+      let is = after-slot .slot-after .ensures in (
         omega (arith, start .pre .0, type-is (start .pre .1 .1) is),
         (start .pre .1 .0, type-tree (start .pre .1 .1) is, member-room (start .pre .1 .1) is),
       )
@@ -374,9 +374,9 @@ module _ (t : ℕ) where
   read-member-returns-2 : read-member-lts.Need-returns-2 (read-member-calls t) (read-member-at t) read-member.Post
   read-member-returns-2 c =
       let after-read-entry = c .before .before in
-      let after-place = after-read-entry .before .before .before .before .before .before in (
-        after-place .place .ensures,
-        rw (after-place .place .ensures) at (after-read-entry .read-entry .ensures),
+      let after-slot = after-read-entry .before .before .before .before .before .before in (
+        after-slot .slot-after .ensures,
+        rw (after-slot .slot-after .ensures) at (after-read-entry .read-entry .ensures),
       )
 
 -- ---- read_struct
@@ -389,11 +389,11 @@ abbrev read-struct-μ-loop : read-struct-lts.MeasureT-loop
 read-struct-μ-loop members table e at buf k words₀ step m₀ left₀ end₀ next₀ words m left end next = left
 
 abbrev read-struct-calls : ℕ → read-struct-lts.Claims
-read-struct-calls t = (layout-at-reads.Asked, layout-at-reads.Learnt, wide-reads.Asked, wide-reads.Learnt, read-member-below t, read-member.Post)
+read-struct-calls t = (value-at-reads.Asked, value-at-reads.Learnt, wide-reads.Asked, wide-reads.Learnt, read-member-below t, read-member.Post)
 
 module _ (t : ℕ) where
-  read-struct-layout-at-requires : read-struct-lts.Need-layout-at-requires (read-struct-calls t) (read-struct-at t) read-struct.Post read-struct-Inv-loop read-struct-μ-loop
-  read-struct-layout-at-requires c κs = tree-valued (c .before .before .before .pre .1 .1) .inside
+  read-struct-value-at-requires : read-struct-lts.Need-value-at-requires (read-struct-calls t) (read-struct-at t) read-struct.Post read-struct-Inv-loop read-struct-μ-loop
+  read-struct-value-at-requires c κs = tree-valued (c .before .before .before .pre .1 .1) .inside
 
   read-struct-mul-m : read-struct-lts.Need-mul-m (read-struct-calls t) (read-struct-at t) read-struct.Post read-struct-Inv-loop read-struct-μ-loop
   read-struct-mul-m c =
@@ -405,9 +405,9 @@ module _ (t : ℕ) where
   read-struct-loop-holds c =
       let after-wide2 = c .before in
       let after-wide = after-wide2 .before in
-      let after-layout-at = after-wide .before in
-      let start = after-layout-at .before .before .before .before in (
-        rw (c .wide3 .ensures .0, after-wide2 .wide2 .ensures .0, after-wide .wide .ensures .0, after-layout-at .layout-at .ensures) (walk-start _ _ (start .pre .1 .1) (start .pre .1 .2) (start .pre .1 .3)),
+      let after-value-at = after-wide .before in
+      let start = after-value-at .before .before .before .before in (
+        rw (c .wide3 .ensures .0, after-wide2 .wide2 .ensures .0, after-wide .wide .ensures .0, after-value-at .value-at .ensures) (walk-start _ _ (start .pre .1 .1) (start .pre .1 .2) (start .pre .1 .3)),
         refl,
       )
 
@@ -435,7 +435,7 @@ module _ (t : ℕ) where
       let in-loop = c .before .before .before .before .before in
       let at-loop = in-loop .before in
       let start = at-loop .before .before .before .before .before .before .before .before in
-      omega (arith, walk-room (at-loop .loop .inv .0) (in-loop .loop-test .taken) .placeable .inside, at-loop .before .before .before .wide .ensures .1, start .good .0 .0)
+      omega (arith, walk-room (at-loop .loop .inv .0) (in-loop .loop-test .taken) .slot-asks .inside, at-loop .before .before .before .wide .ensures .1, start .good .0 .0)
 
   read-struct-sub-left : read-struct-lts.Need-sub-left (read-struct-calls t) (read-struct-at t) read-struct.Post read-struct-Inv-loop read-struct-μ-loop
   read-struct-sub-left c = omega (arith, c .before .before .before .before .before .loop-test .taken)
@@ -449,7 +449,7 @@ module _ (t : ℕ) where
       let in-loop = after-read-member .before .before in
       let at-loop = in-loop .before in
       let after-wide = at-loop .before .before .before in
-      let step = rw (after-wide .before .layout-at .ensures) at (after-wide .wide .ensures .0) in
+      let step = rw (after-wide .before .value-at .ensures) at (after-wide .wide .ensures .0) in
       let call = after-read-member .read-member in (
         walk-next (at-loop .loop .inv .0) (in-loop .loop-test .taken) (call .ensures .0) step (call .ensures .1),
         call .kept .1 .1 .1 .1 .1 .1 .1 .0 ∙ at-loop .loop .inv .1,
@@ -545,24 +545,24 @@ pub +read-entry+read-many+read-member+read-struct+read-structs-spec : {M : Type 
 +read-entry+read-many+read-member+read-struct+read-structs-spec =
     close μ-read-entry μ-read-many μ-read-member μ-read-struct μ-read-structs
     (λ t. read-entry-lts.spec (read-entry-calls t) (read-entry-at t) read-entry.Post
-    (read-entry-layout-at-requires t) (read-entry-read-struct-requires t)
+    (read-entry-value-at-requires t) (read-entry-read-struct-requires t)
     (read-entry-same-length t) (read-entry-returns t) (read-entry-read-many-requires t)
     (read-entry-same-length-2 t) (read-entry-returns-2 t))
     (λ t. read-many-lts.spec (read-many-calls t) (read-many-at t) read-many.Post read-many-Inv-loop read-many-μ-loop
     (λ c κs. search needs) (λ c κs. search needs) (λ c κs. search needs) (read-many-part-width-requires t) (λ c κs. search needs)
     (read-many-read-parts-requires t) (read-many-same-length t) (read-many-returns t) (λ c κs. search needs)
-    (read-many-layout-at-requires t) (read-many-read-structs-requires t) (read-many-same-length-2 t)
+    (read-many-value-at-requires t) (read-many-read-structs-requires t) (read-many-same-length-2 t)
     (read-many-returns-2 t) (read-many-loop-holds t) (read-many-mul-read-entry t) (read-many-add-read-entry t)
     (read-many-mul-read-entry-2 t) (read-many-add-read-entry-2 t) (read-many-read-entry-requires t)
     (read-many-add-i t) (read-many-loop-less t) (read-many-loop-again t) (read-many-same-length-3 t)
     (read-many-returns-3 t))
     (λ t. read-member-lts.spec (read-member-calls t) (read-member-at t) read-member.Post
-    (read-member-place-requires t) (read-member-layout-at-requires t) (read-member-packed-requires t) (read-member-add-read-few t)
+    (read-member-slot-after-requires t) (read-member-value-at-requires t) (read-member-packed-requires t) (read-member-add-read-few t)
     (read-member-read-few-requires t) (read-member-same-length t) (read-member-returns t)
     (read-member-add-read-entry t) (read-member-read-entry-requires t) (read-member-same-length-2 t)
     (read-member-returns-2 t))
     (λ t. read-struct-lts.spec (read-struct-calls t) (read-struct-at t) read-struct.Post read-struct-Inv-loop read-struct-μ-loop
-    (read-struct-layout-at-requires t) (λ c κs. search needs) (λ c κs. search needs) (read-struct-mul-m t) (λ c κs. search needs) (read-struct-loop-holds t)
+    (read-struct-value-at-requires t) (λ c κs. search needs) (λ c κs. search needs) (read-struct-mul-m t) (λ c κs. search needs) (read-struct-loop-holds t)
     (read-struct-read-member-requires t) (read-struct-add-next t) (read-struct-add-m t) (read-struct-sub-left t)
     (read-struct-loop-less t) (read-struct-loop-again t) (read-struct-same-length t) (read-struct-returns t))
     (λ t. read-structs-lts.spec (read-structs-calls t) (read-structs-at t) read-structs.Post read-structs-Inv-loop read-structs-μ-loop

@@ -13,9 +13,9 @@ use lib.ListN.{length}
 use Rattle.wgsl.specs.Number.{load}
 use Rattle.wgsl.specs.Place.{spanOf}
 use Rattle.runs.specs.declared.Scan.the-variants.{Fine}
-use Rattle.layout_values.specs.declared.value.Layout.{Layout}
-use Rattle.layout_values.specs.Value.{layoutAt, wordsIn}
-use Rattle.walk_trees.specs.Placed.{partWidth}
+use Rattle.layout_values.specs.declared.value.Value.{Value}
+use Rattle.layout_values.specs.Value.{valueAt, wordsIn}
+use Rattle.walk_trees.specs.Slot.{partWidth}
 use Rattle.walk_trees.specs.Tree.{Tree, Room}
 use Rattle.walk_trees.proofs.Steps.{tree-valued, tree-many, many-referring, depth, depth-below, Each, each-room, walk-first}
 use Rattle.words_test.proofs.Scans.{Says, entry-fine, many-fine, runs-room, says-two, each-there, Turns, turns-start, turns-fine, turns-bad, turns-none, Scanned, scanned-start, scanned-inside, scanned-lower, scanned-tree, scanned-there, scanned-words, scanned-next, scanned-bad, scanned-none}
@@ -30,7 +30,7 @@ use Rattle.words_test.proofs.scan_struct.Kinds as struct-kinds
 use Rattle.words_test.proofs.+scan_entry+scan_many+scan_struct.Lts-scan_struct as struct-lts
 use Rattle.file.proofs.fields.half.Reads as half
 use Rattle.numbers.proofs.wide.wide.Reads as wide
-use Rattle.layout_values.proofs.value.layout_at.Reads as layout-at
+use Rattle.layout_values.proofs.value.value_at.Reads as value-at
 use Rattle.layout_values.proofs.value.words_of.Reads as words-of
 use Rattle.runs.proofs.scan_two.Reads as scan-two
 use Rattle.walk_trees.proofs.part_width.Reads as part-width
@@ -65,7 +65,7 @@ abbrev struct-below : ℕ → In 3 struct-kinds.ps
 struct-below t = and 3 struct-kinds.ps (falls 3 struct-kinds.ps _<_ μ-struct t) struct.Pre
 
 abbrev entry-claims : ℕ → entry-lts.Claims
-entry-claims t = (layout-at.Asked, layout-at.Learnt, struct-below t, struct.Post, many-below t, many.Post)
+entry-claims t = (value-at.Asked, value-at.Learnt, struct-below t, struct.Post, many-below t, many.Post)
 
 abbrev many-claims : ℕ → many-lts.Claims
 many-claims t =
@@ -73,7 +73,7 @@ many-claims t =
 
 abbrev struct-claims : ℕ → struct-lts.Claims
 struct-claims t =
-    (layout-at.Asked, layout-at.Learnt, wide.Asked, wide.Learnt, half.Asked, half.Learnt, entry-below t, entry.Post, words-of.Asked, words-of.Learnt)
+    (value-at.Asked, value-at.Learnt, wide.Asked, wide.Learnt, half.Asked, half.Learnt, entry-below t, entry.Post, words-of.Asked, words-of.Learnt)
 
 abbrev Inv-many : many-lts.InvT-loop
 Inv-many members table words k count unit element i₀ i = Turns members table words element count unit k i
@@ -89,36 +89,36 @@ abbrev μ-struct-loop : struct-lts.MeasureT-loop
 
 -- ---- scan_entry
 
-entry-layout-at-requires : (t : ℕ) → entry-lts.Need-layout-at-requires (entry-claims t) (entry-at t) entry.Post
-entry-layout-at-requires t c κs = tree-valued (c .before .before .pre .1 .1) .inside
+entry-value-at-requires : (t : ℕ) → entry-lts.Need-value-at-requires (entry-claims t) (entry-at t) entry.Post
+entry-value-at-requires t c κs = tree-valued (c .before .before .pre .1 .1) .inside
 
 entry-returns : (t : ℕ) → entry-lts.Need-returns (entry-claims t) (entry-at t) entry.Post
 entry-returns t c =
     let s = c .before .before .before .before .before in
     let known = c .before .before .before .shared-slice-known2 in
     entry-fine (s .args .k) (record { below = λ i. known .given i .fits })
-    (λ h. c .if1 .taken (ap (λ (r : Layout). r .narrow) (c .before .before .layout-at .ensures) ∙ h))
+    (λ h. c .if1 .taken (ap (λ (r : Value). r .narrow) (c .before .before .value-at .ensures) ∙ h))
 
 entry-scan-struct-requires : (t : ℕ) → entry-lts.Need-scan-struct-requires (entry-claims t) (entry-at t) entry.Post
 entry-scan-struct-requires t c κs =
     let s = c .before .before .before .before .before .before .before in
-    let kind = ap (λ (r : Layout). r .kind) (sym (c .before .before .before .before .layout-at .ensures)) ∙ c .if2 .taken in
+    let kind = ap (λ (r : Value). r .kind) (sym (c .before .before .before .before .value-at .ensures)) ∙ c .if2 .taken in
     (omega (arith, s .pre .0), (s .pre .1 .0, s .pre .1 .1, kind, s .pre .1 .2))
 
-entry-other : (t : ℕ) (c : entry-lts.Else2 (entry-claims t) (entry-at t) entry.Post) → layoutAt (now (c .before .before .before .before .before .before .before .args .table)) (c .before .before .before .before .before .before .before .args .e) .kind ≡ 12 → ⊥
-entry-other t c h = c .if2 .left (ap (λ (r : Layout). r .kind) (c .before .before .before .before .layout-at .ensures) ∙ h)
+entry-other : (t : ℕ) (c : entry-lts.Else2 (entry-claims t) (entry-at t) entry.Post) → valueAt (now (c .before .before .before .before .before .before .before .args .table)) (c .before .before .before .before .before .before .before .args .e) .kind ≡ 12 → ⊥
+entry-other t c h = c .if2 .left (ap (λ (r : Value). r .kind) (c .before .before .before .before .value-at .ensures) ∙ h)
 
 entry-scan-many-requires : (t : ℕ) → entry-lts.Need-scan-many-requires (entry-claims t) (entry-at t) entry.Post
 entry-scan-many-requires t c κs =
     let s = c .before .before .before .before .before .before .before in
-    rw (c .before .before .before .before .layout-at .ensures) (
+    rw (c .before .before .before .before .value-at .ensures) (
       omega (arith, s .pre .0, depth-below (s .pre .1 .1) (entry-other t c)),
       (s .pre .1 .0, tree-many (s .pre .1 .1) (entry-other t c), s .pre .1 .2),
     )
 
 entry-returns-3 : (t : ℕ) → entry-lts.Need-returns-3 (entry-claims t) (entry-at t) entry.Post
 entry-returns-3 t c =
-    let is = c .before .before .before .before .before .layout-at .ensures in
+    let is = c .before .before .before .before .before .value-at .ensures in
     λ x u. c .scan-many .ensures x (rw is (tree-many u (entry-other t (c .before))))
 
 -- ---- scan_many
@@ -212,8 +212,8 @@ many-returns-4 t c = turns-none (many-each t (c .before .before)) (c .before .lo
 
 -- ---- scan_struct
 
-struct-layout-at-requires : (t : ℕ) → struct-lts.Need-layout-at-requires (struct-claims t) (struct-at t) struct.Post Inv-struct μ-struct-loop
-struct-layout-at-requires t c κs = tree-valued (c .before .before .pre .1 .1) .inside
+struct-value-at-requires : (t : ℕ) → struct-lts.Need-value-at-requires (struct-claims t) (struct-at t) struct.Post Inv-struct μ-struct-loop
+struct-value-at-requires t c κs = tree-valued (c .before .before .pre .1 .1) .inside
 
 struct-mul-m : (t : ℕ) → struct-lts.Need-mul-m (struct-claims t) (struct-at t) struct.Post Inv-struct μ-struct-loop
 struct-mul-m t c =
@@ -225,7 +225,7 @@ struct-loop-holds : (t : ℕ) → struct-lts.Need-loop-holds (struct-claims t) (
 struct-loop-holds t c =
     let entry = c .before .before .before in
     let s = entry .before .before .before in
-    let is = entry .layout-at .ensures in
+    let is = entry .value-at .ensures in
     scanned-start (now (s .args .words)) (s .pre .1 .1) (s .pre .1 .2) (s .pre .1 .3)
     (rw is at (c .wide3 .ensures .0)) (rw (c .before .wide2 .ensures .0, c .before .before .wide .ensures .0, is))
 
@@ -236,8 +236,8 @@ struct-half-requires t c κs = omega (arith, scanned-inside (c .before .loop .in
 struct-read : (t : ℕ) (c : struct-lts.After-wide4 (struct-claims t) (struct-at t) struct.Post Inv-struct μ-struct-loop) → c .wide4 .result ≡ load 2 (now (c .before .before .before .before .before .before .before .before .before .before .args .members)) (c .before .before .before .loop .m)
 struct-read t c = c .wide4 .ensures .0 ∙ c .before .half .ensures .0
 
-struct-layout-at-requires-2 : (t : ℕ) → struct-lts.Need-layout-at-requires-2 (struct-claims t) (struct-at t) struct.Post Inv-struct μ-struct-loop
-struct-layout-at-requires-2 t c κs =
+struct-value-at-requires-2 : (t : ℕ) → struct-lts.Need-value-at-requires-2 (struct-claims t) (struct-at t) struct.Post Inv-struct μ-struct-loop
+struct-value-at-requires-2 t c κs =
     let turn = c .before .before in
     tree-valued (scanned-tree (turn .before .loop .inv) (turn .loop-test .taken) (struct-read t c)) .inside
 
@@ -253,8 +253,8 @@ struct-scan-entry-requires t c κs =
     )
 
 -- from one member entry to the next
-struct-step : (t : ℕ) (c : struct-lts.After-wide (struct-claims t) (struct-at t) struct.Post Inv-struct μ-struct-loop) → c .wide .result ≡ layoutAt (now (c .before .before .before .before .args .table)) (c .before .before .before .before .args .e) .stride
-struct-step t c = rw (c .before .layout-at .ensures) at (c .wide .ensures .0)
+struct-step : (t : ℕ) (c : struct-lts.After-wide (struct-claims t) (struct-at t) struct.Post Inv-struct μ-struct-loop) → c .wide .result ≡ valueAt (now (c .before .before .before .before .args .table)) (c .before .before .before .before .args .e) .stride
+struct-step t c = rw (c .before .value-at .ensures) at (c .wide .ensures .0)
 
 struct-returns : (t : ℕ) → struct-lts.Need-returns (struct-claims t) (struct-at t) struct.Post Inv-struct μ-struct-loop
 struct-returns t c =
@@ -269,13 +269,13 @@ struct-words-of-requires t c κs =
     let found = c .before .before in
     let read = found .before in
     let turn = read .before .before in
-    rw (found .layout-at2 .ensures) (tree-valued (scanned-tree (turn .before .loop .inv) (turn .loop-test .taken) (struct-read t read)) .counted)
+    rw (found .value-at2 .ensures) (tree-valued (scanned-tree (turn .before .loop .inv) (turn .loop-test .taken) (struct-read t read)) .counted)
 
 -- the member's words, as they are counted
 struct-words : (t : ℕ) (c : struct-lts.After-wide5 (struct-claims t) (struct-at t) struct.Post Inv-struct μ-struct-loop) →
     let read = c .before .before .before .before .before in
-    c .wide5 .result ≡ wordsIn (layoutAt (now (read .before .before .before .before .before .before .before .before .before .before .args .table)) (read .wide4 .result))
-struct-words t c = rw (c .before .before .before .before .layout-at2 .ensures) at (c .wide5 .ensures .0 ∙ c .before .words-of .ensures)
+    c .wide5 .result ≡ wordsIn (valueAt (now (read .before .before .before .before .before .before .before .before .before .before .args .table)) (read .wide4 .result))
+struct-words t c = rw (c .before .before .before .before .value-at2 .ensures) at (c .wide5 .ensures .0 ∙ c .before .words-of .ensures)
 
 struct-add-next : (t : ℕ) → struct-lts.Need-add-next (struct-claims t) (struct-at t) struct.Post Inv-struct μ-struct-loop
 struct-add-next t c =
@@ -309,7 +309,7 @@ struct-passed t c =
     ⊎-elim (λ w. rw (w .3 .given .1) at (w .1 .ensures))
     (λ w.
     entry-fine (turn .before .loop .next) (record { below = λ i. known .given i .fits })
-    (λ h. w .left (ap (λ (r : Layout). r .narrow) (found .layout-at2 .ensures) ∙ h)))
+    (λ h. w .left (ap (λ (r : Value). r .narrow) (found .value-at2 .ensures) ∙ h)))
     (c .if1 .came)
 
 struct-loop-again : (t : ℕ) → struct-lts.Need-loop-again (struct-claims t) (struct-at t) struct.Post Inv-struct μ-struct-loop
@@ -326,14 +326,14 @@ pub +scan-entry+scan-many+scan-struct-spec : {M : Type 1} → statement M
 +scan-entry+scan-many+scan-struct-spec =
     close μ-entry μ-many μ-struct
     (λ t. entry-lts.spec (entry-claims t) (entry-at t) entry.Post
-    (entry-layout-at-requires t) (entry-returns t) (entry-scan-struct-requires t) (λ c. c .scan-struct .ensures) (entry-scan-many-requires t) (entry-returns-3 t))
+    (entry-value-at-requires t) (entry-returns t) (entry-scan-struct-requires t) (λ c. c .scan-struct .ensures) (entry-scan-many-requires t) (entry-returns-3 t))
     (λ t. many-lts.spec (many-claims t) (many-at t) many.Post Inv-many μ-many-loop
     (many-returns t) (λ c κs. search needs) (λ c κs. search needs) (many-part-width-requires t) (many-mul-scan-two t) (λ c κs. many-two t c)
     (many-returns-2 t) (λ c κs. search needs) (λ c. turns-start _ _ _ _ _ _ _)
     (many-mul-scan-entry t) (many-add-scan-entry t) (many-scan-entry-requires t) (λ c. search needs) (λ c. search needs)
     (many-returns-3 t) (many-add-i t) (many-loop-less t) (many-loop-again t) (many-returns-4 t))
     (λ t. struct-lts.spec (struct-claims t) (struct-at t) struct.Post Inv-struct μ-struct-loop
-    (struct-layout-at-requires t) (λ c κs. search needs) (λ c κs. search needs) (struct-mul-m t) (λ c κs. search needs) (struct-loop-holds t)
-    (struct-half-requires t) (λ c κs. search needs) (struct-layout-at-requires-2 t) (struct-scan-entry-requires t) (λ c. search needs) (λ c. search needs)
+    (struct-value-at-requires t) (λ c κs. search needs) (λ c κs. search needs) (struct-mul-m t) (λ c κs. search needs) (struct-loop-holds t)
+    (struct-half-requires t) (λ c κs. search needs) (struct-value-at-requires-2 t) (struct-scan-entry-requires t) (λ c. search needs) (λ c. search needs)
     (struct-returns t) (struct-words-of-requires t) (λ c κs. search needs) (struct-add-next t) (struct-add-m t) (struct-sub-left t) (struct-loop-less t)
     (struct-loop-again t) (struct-returns-2 t))

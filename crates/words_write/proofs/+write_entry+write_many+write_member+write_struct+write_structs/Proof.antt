@@ -10,7 +10,7 @@ use native.Mathlib.Omega.{arith}
 use borrow.Author.Needs.{needs}
 use lib.ListN.{length}
 use Rattle.runs.specs.Fold.{storing}
-use Rattle.walk_trees.specs.Placed.{memberAt}
+use Rattle.walk_trees.specs.Slot.{memberAt}
 use Rattle.walk_trees.proofs.Steps.{tree-valued, tree-many, many-referring, many-runs, depth, depth-below, one-room, one-places, each-entry, each-room, type-is, type-inside, type-tree, member-room, run-places, run-room, Each, Turn, turn-start, turn-next, turn-none, Walk, walk-start, walk-first, walk-room, walk-words, walk-next, walk-none}
 use Rattle.words_spots.proofs.Spots.{spotted-each, spotted-parts}
 use borrow.Fn.Kinds.{In}
@@ -31,9 +31,9 @@ use Rattle.words_write.proofs.write_structs.Reads as write-structs
 use Rattle.words_write.proofs.write_structs.Kinds as write-structs-kinds
 use Rattle.words_write.proofs.+write_entry+write_many+write_member+write_struct+write_structs.Lts-write_structs as write-structs-lts
 use Rattle.numbers.proofs.wide.wide.Reads as wide-reads
-use Rattle.layout_values.proofs.value.layout_at.Reads as layout-at-reads
+use Rattle.layout_values.proofs.value.value_at.Reads as value-at-reads
 use Rattle.layout_values.proofs.value.words_of.Reads as words-of-reads
-use Rattle.walk_trees.proofs.place.Reads as place-reads
+use Rattle.walk_trees.proofs.slot_after.Reads as slot-after-reads
 use Rattle.walk_trees.proofs.packed.Reads as packed-reads
 use Rattle.walk_trees.proofs.part_width.Reads as part-width-reads
 use Rattle.runs.proofs.write_few.Reads as write-few-reads
@@ -92,25 +92,25 @@ write-structs-below t = and 4 write-structs-kinds.ps (falls 4 write-structs-kind
 -- ---- write_entry
 
 abbrev write-entry-calls : ℕ → write-entry-lts.Claims
-write-entry-calls t = (layout-at-reads.Asked, layout-at-reads.Learnt, words-of-reads.Asked, words-of-reads.Learnt, wide-reads.Asked, wide-reads.Learnt, write-structs-below t, write-structs.Post, write-many-below t, write-many.Post)
+write-entry-calls t = (value-at-reads.Asked, value-at-reads.Learnt, words-of-reads.Asked, words-of-reads.Learnt, wide-reads.Asked, wide-reads.Learnt, write-structs-below t, write-structs.Post, write-many-below t, write-many.Post)
 
 module _ (t : ℕ) where
-  write-entry-layout-at-requires : write-entry-lts.Need-layout-at-requires (write-entry-calls t) (write-entry-at t) write-entry.Post
-  write-entry-layout-at-requires c κs = tree-valued (c .before .before .before .pre .1 .1) .inside
+  write-entry-value-at-requires : write-entry-lts.Need-value-at-requires (write-entry-calls t) (write-entry-at t) write-entry.Post
+  write-entry-value-at-requires c κs = tree-valued (c .before .before .before .pre .1 .1) .inside
 
   write-entry-words-of-requires : write-entry-lts.Need-words-of-requires (write-entry-calls t) (write-entry-at t) write-entry.Post
   write-entry-words-of-requires c κs =
-      let after-layout-at = c .before .before in
-      rw (after-layout-at .layout-at .ensures) (tree-valued (after-layout-at .before .before .before .before .pre .1 .1) .counted)
+      let after-value-at = c .before .before in
+      rw (after-value-at .value-at .ensures) (tree-valued (after-value-at .before .before .before .before .pre .1 .1) .counted)
 
   write-entry-write-structs-requires : write-entry-lts.Need-write-structs-requires (write-entry-calls t) (write-entry-at t) write-entry.Post
   write-entry-write-structs-requires c κs =
       let after-wide = c .before in
       let after-words-of = after-wide .before in
       let then1 = after-words-of .before in
-      let after-layout-at = then1 .before .before in
-      let start = after-layout-at .before .before .before .before in
-      let layout = after-layout-at .layout-at .ensures in (
+      let after-value-at = then1 .before .before in
+      let start = after-value-at .before .before .before .before in
+      let layout = after-value-at .value-at .ensures in (
         omega (arith, start .pre .0),
         (
           start .pre .1 .0,
@@ -129,9 +129,9 @@ module _ (t : ℕ) where
   write-entry-write-many-requires : write-entry-lts.Need-write-many-requires (write-entry-calls t) (write-entry-at t) write-entry.Post
   write-entry-write-many-requires c κs =
       let else1 = c .before in
-      let after-layout-at = else1 .before .before in
-      let start = after-layout-at .before .before .before .before in
-      let layout = after-layout-at .layout-at .ensures in
+      let after-value-at = else1 .before .before in
+      let start = after-value-at .before .before .before .before in
+      let layout = after-value-at .value-at .ensures in
       let no = rw layout at (else1 .if1 .left) in (
         rw layout (omega (arith, start .pre .0, depth-below (start .pre .1 .1) no)),
         (start .pre .1 .0, rw layout (tree-many (start .pre .1 .1) no), start .pre .1 .2),
@@ -144,8 +144,8 @@ module _ (t : ℕ) where
   write-entry-returns-2 c =
       let after-write-many = c .before .before in
       let else1 = after-write-many .before .before in
-      let after-layout-at = else1 .before .before in
-      let layout = after-layout-at .layout-at .ensures in
+      let after-value-at = else1 .before .before in
+      let layout = after-value-at .value-at .ensures in
       λ x u. after-write-many .write-many .ensures x (rw layout (tree-many u (rw layout at (else1 .if1 .left))))
 
 -- ---- write_many
@@ -158,7 +158,7 @@ abbrev write-many-μ-loop : write-many-lts.MeasureT-loop
 write-many-μ-loop members table at words k buf₀ count unit stride width element i₀ buf i = count - i
 
 abbrev write-many-calls : ℕ → write-many-lts.Claims
-write-many-calls t = (wide-reads.Asked, wide-reads.Learnt, part-width-reads.Asked, part-width-reads.Learnt, write-parts-reads.Asked, write-parts-reads.Learnt, layout-at-reads.Asked, layout-at-reads.Learnt, write-structs-below t, write-structs.Post, write-entry-below t, write-entry.Post)
+write-many-calls t = (wide-reads.Asked, wide-reads.Learnt, part-width-reads.Asked, part-width-reads.Learnt, write-parts-reads.Asked, write-parts-reads.Learnt, value-at-reads.Asked, value-at-reads.Learnt, write-structs-below t, write-structs.Post, write-entry-below t, write-entry.Post)
 
 module _ (t : ℕ) where
   write-many-each : (c : write-many-lts.After-wide5 (write-many-calls t) (write-many-at t) write-many.Post write-many-Inv-loop write-many-μ-loop) →
@@ -216,20 +216,20 @@ module _ (t : ℕ) where
       rw (runs .places-are)
       (rw (after-wide .wide .ensures .0, after-wide2 .wide2 .ensures .0, after-wide3 .wide3 .ensures .0, after-wide4 .wide4 .ensures .0, after-part-width .part-width .ensures, runs .narrow-is) at (after-write-parts .write-parts .ensures))
 
-  write-many-layout-at-requires : write-many-lts.Need-layout-at-requires (write-many-calls t) (write-many-at t) write-many.Post write-many-Inv-loop write-many-μ-loop
-  write-many-layout-at-requires c κs =
+  write-many-value-at-requires : write-many-lts.Need-value-at-requires (write-many-calls t) (write-many-at t) write-many.Post write-many-Inv-loop write-many-μ-loop
+  write-many-value-at-requires c κs =
       let each = write-many-each c in
       tree-valued (each .tree) .inside
 
   write-many-write-structs-requires : write-many-lts.Need-write-structs-requires (write-many-calls t) (write-many-at t) write-many.Post write-many-Inv-loop write-many-μ-loop
   write-many-write-structs-requires c κs =
       let then2 = c .before in
-      let after-layout-at = then2 .before .before in
-      let after-wide5 = after-layout-at .before in
+      let after-value-at = then2 .before .before in
+      let after-wide5 = after-value-at .before in
       let start = after-wide5 .before .before .before .before .before .before .before .before .before in
       let each = write-many-each after-wide5 in (
         omega (arith, start .pre .0, each .deep),
-        (each .y, each .tree, rw (after-layout-at .layout-at .ensures) at (then2 .if2 .taken), each .room),
+        (each .y, each .tree, rw (after-value-at .value-at .ensures) at (then2 .if2 .taken), each .room),
       )
 
   write-many-same-length-2 : write-many-lts.Need-same-length-2 (write-many-calls t) (write-many-at t) write-many.Post write-many-Inv-loop write-many-μ-loop
@@ -320,41 +320,41 @@ module _ (t : ℕ) where
 -- ---- write_member
 
 abbrev write-member-calls : ℕ → write-member-lts.Claims
-write-member-calls t = (place-reads.Asked, place-reads.Learnt, layout-at-reads.Asked, layout-at-reads.Learnt, packed-reads.Asked, packed-reads.Learnt, write-few-reads.Asked, write-few-reads.Learnt, write-entry-below t, write-entry.Post)
+write-member-calls t = (slot-after-reads.Asked, slot-after-reads.Learnt, value-at-reads.Asked, value-at-reads.Learnt, packed-reads.Asked, packed-reads.Learnt, write-few-reads.Asked, write-few-reads.Learnt, write-entry-below t, write-entry.Post)
 
 module _ (t : ℕ) where
-  write-member-place-requires : write-member-lts.Need-place-requires (write-member-calls t) (write-member-at t) write-member.Post
-  write-member-place-requires c κs = c .before .before .before .pre .1 .1 .placeable
+  write-member-slot-after-requires : write-member-lts.Need-slot-after-requires (write-member-calls t) (write-member-at t) write-member.Post
+  write-member-slot-after-requires c κs = c .before .before .before .pre .1 .1 .slot-asks
 
-  write-member-layout-at-requires : write-member-lts.Need-layout-at-requires (write-member-calls t) (write-member-at t) write-member.Post
-  write-member-layout-at-requires c κs =
+  write-member-value-at-requires : write-member-lts.Need-value-at-requires (write-member-calls t) (write-member-at t) write-member.Post
+  write-member-value-at-requires c κs =
       let start = c .before .before .before .before in
-      type-inside (start .pre .1 .1) (c .place .ensures)
+      type-inside (start .pre .1 .1) (c .slot-after .ensures)
 
   write-member-packed-requires : write-member-lts.Need-packed-requires (write-member-calls t) (write-member-at t) write-member.Post
   write-member-packed-requires c κs =
-      let after-place = c .before in
-      let start = after-place .before .before .before .before in
-      rw (c .layout-at .ensures, type-is (start .pre .1 .1) (after-place .place .ensures)) (start .pre .1 .1 .placeable .counted)
+      let after-slot = c .before in
+      let start = after-slot .before .before .before .before in
+      rw (c .value-at .ensures, type-is (start .pre .1 .1) (after-slot .slot-after .ensures)) (start .pre .1 .1 .slot-asks .counted)
 
   write-member-add-write-few : write-member-lts.Need-add-write-few (write-member-calls t) (write-member-at t) write-member.Post
   write-member-add-write-few c =
       let then1 = c .before .before .before .before in
       let after-packed = then1 .before in
-      let after-layout-at = after-packed .before in
-      let after-place = after-layout-at .before in
-      let start = after-place .before .before .before .before in
-      omega (arith, run-room (start .pre .1 .1) (after-place .place .ensures) (after-layout-at .layout-at .ensures) (sym (after-packed .packed .ensures) ∙ then1 .if1 .taken) .1, start .good .1 .1 .1 .1 .1 .1 .1 .0 .0)
+      let after-value-at = after-packed .before in
+      let after-slot = after-value-at .before in
+      let start = after-slot .before .before .before .before in
+      omega (arith, run-room (start .pre .1 .1) (after-slot .slot-after .ensures) (after-value-at .value-at .ensures) (sym (after-packed .packed .ensures) ∙ then1 .if1 .taken) .1, start .good .1 .1 .1 .1 .1 .1 .1 .0 .0)
 
   write-member-write-few-requires : write-member-lts.Need-write-few-requires (write-member-calls t) (write-member-at t) write-member.Post
   write-member-write-few-requires c κs =
       let then2 = c .before .before in
       let then1 = then2 .before .before in
       let after-packed = then1 .before in
-      let after-layout-at = after-packed .before in
-      let after-place = after-layout-at .before in
-      let start = after-place .before .before .before .before in
-      let room = run-room (start .pre .1 .1) (after-place .place .ensures) (after-layout-at .layout-at .ensures) (sym (after-packed .packed .ensures) ∙ then1 .if1 .taken) in
+      let after-value-at = after-packed .before in
+      let after-slot = after-value-at .before in
+      let start = after-slot .before .before .before .before in
+      let room = run-room (start .pre .1 .1) (after-slot .slot-after .ensures) (after-value-at .value-at .ensures) (sym (after-packed .packed .ensures) ∙ then1 .if1 .taken) in
       (then2 .if2 .taken, room .0, room .1)
 
   write-member-same-length : write-member-lts.Need-same-length (write-member-calls t) (write-member-at t) write-member.Post
@@ -365,24 +365,24 @@ module _ (t : ℕ) where
       let after-write-few = c .before .before in
       let then1 = after-write-few .before .before .before .before .before in
       let after-packed = then1 .before in
-      let after-layout-at = after-packed .before in
-      let after-place = after-layout-at .before in
-      let start = after-place .before .before .before .before in (
-        after-place .place .ensures,
-        λ y u. rw (run-places (start .pre .1 .1) (after-place .place .ensures) (after-layout-at .layout-at .ensures) (sym (after-packed .packed .ensures) ∙ then1 .if1 .taken) u) (rw (after-place .place .ensures) at (after-write-few .write-few .ensures)),
+      let after-value-at = after-packed .before in
+      let after-slot = after-value-at .before in
+      let start = after-slot .before .before .before .before in (
+        after-slot .slot-after .ensures,
+        λ y u. rw (run-places (start .pre .1 .1) (after-slot .slot-after .ensures) (after-value-at .value-at .ensures) (sym (after-packed .packed .ensures) ∙ then1 .if1 .taken) u) (rw (after-slot .slot-after .ensures) at (after-write-few .write-few .ensures)),
       )
 
   write-member-add-write-entry : write-member-lts.Need-add-write-entry (write-member-calls t) (write-member-at t) write-member.Post
   write-member-add-write-entry c =
-      let after-place = c .before .before .before .before in
-      let start = after-place .before .before .before .before in
-      omega (arith, member-room (start .pre .1 .1) (after-place .place .ensures) .bytes-there, start .good .1 .1 .1 .1 .1 .1 .1 .0 .0)
+      let after-slot = c .before .before .before .before in
+      let start = after-slot .before .before .before .before in
+      omega (arith, member-room (start .pre .1 .1) (after-slot .slot-after .ensures) .bytes-there, start .good .1 .1 .1 .1 .1 .1 .1 .0 .0)
 
   write-member-write-entry-requires : write-member-lts.Need-write-entry-requires (write-member-calls t) (write-member-at t) write-member.Post
   write-member-write-entry-requires c κs =
-      let after-place = c .before .before .before .before .before in
-      let start = after-place .before .before .before .before in
-      let is = after-place .place .ensures in (
+      let after-slot = c .before .before .before .before .before in
+      let start = after-slot .before .before .before .before in
+      let is = after-slot .slot-after .ensures in (
         omega (arith, start .pre .0, type-is (start .pre .1 .1) is),
         (start .pre .1 .0, type-tree (start .pre .1 .1) is, member-room (start .pre .1 .1) is),
       )
@@ -393,9 +393,9 @@ module _ (t : ℕ) where
   write-member-returns-2 : write-member-lts.Need-returns-2 (write-member-calls t) (write-member-at t) write-member.Post
   write-member-returns-2 c =
       let after-write-entry = c .before .before in
-      let after-place = after-write-entry .before .before .before .before .before .before in (
-        after-place .place .ensures,
-        rw (after-place .place .ensures) at (after-write-entry .write-entry .ensures),
+      let after-slot = after-write-entry .before .before .before .before .before .before in (
+        after-slot .slot-after .ensures,
+        rw (after-slot .slot-after .ensures) at (after-write-entry .write-entry .ensures),
       )
 
 -- ---- write_struct
@@ -408,11 +408,11 @@ abbrev write-struct-μ-loop : write-struct-lts.MeasureT-loop
 write-struct-μ-loop members table e at words k buf₀ step m₀ left₀ end₀ next₀ buf m left end next = left
 
 abbrev write-struct-calls : ℕ → write-struct-lts.Claims
-write-struct-calls t = (layout-at-reads.Asked, layout-at-reads.Learnt, wide-reads.Asked, wide-reads.Learnt, write-member-below t, write-member.Post)
+write-struct-calls t = (value-at-reads.Asked, value-at-reads.Learnt, wide-reads.Asked, wide-reads.Learnt, write-member-below t, write-member.Post)
 
 module _ (t : ℕ) where
-  write-struct-layout-at-requires : write-struct-lts.Need-layout-at-requires (write-struct-calls t) (write-struct-at t) write-struct.Post write-struct-Inv-loop write-struct-μ-loop
-  write-struct-layout-at-requires c κs = tree-valued (c .before .before .before .pre .1 .1) .inside
+  write-struct-value-at-requires : write-struct-lts.Need-value-at-requires (write-struct-calls t) (write-struct-at t) write-struct.Post write-struct-Inv-loop write-struct-μ-loop
+  write-struct-value-at-requires c κs = tree-valued (c .before .before .before .pre .1 .1) .inside
 
   write-struct-mul-m : write-struct-lts.Need-mul-m (write-struct-calls t) (write-struct-at t) write-struct.Post write-struct-Inv-loop write-struct-μ-loop
   write-struct-mul-m c =
@@ -424,9 +424,9 @@ module _ (t : ℕ) where
   write-struct-loop-holds c =
       let after-wide2 = c .before in
       let after-wide = after-wide2 .before in
-      let after-layout-at = after-wide .before in
-      let start = after-layout-at .before .before .before .before in (
-        rw (after-wide .wide .ensures .0, after-wide2 .wide2 .ensures .0, c .wide3 .ensures .0, after-layout-at .layout-at .ensures) (walk-start _ _ (start .pre .1 .1) (start .pre .1 .2) (start .pre .1 .3)),
+      let after-value-at = after-wide .before in
+      let start = after-value-at .before .before .before .before in (
+        rw (after-wide .wide .ensures .0, after-wide2 .wide2 .ensures .0, c .wide3 .ensures .0, after-value-at .value-at .ensures) (walk-start _ _ (start .pre .1 .1) (start .pre .1 .2) (start .pre .1 .3)),
         refl,
       )
 
@@ -454,7 +454,7 @@ module _ (t : ℕ) where
       let in-loop = c .before .before .before .before .before in
       let at-loop = in-loop .before in
       let start = at-loop .before .before .before .before .before .before .before .before in
-      omega (arith, walk-room (at-loop .loop .inv .0) (in-loop .loop-test .taken) .placeable .inside, start .good .0 .0, at-loop .before .before .before .wide .ensures)
+      omega (arith, walk-room (at-loop .loop .inv .0) (in-loop .loop-test .taken) .slot-asks .inside, start .good .0 .0, at-loop .before .before .before .wide .ensures)
 
   write-struct-sub-left : write-struct-lts.Need-sub-left (write-struct-calls t) (write-struct-at t) write-struct.Post write-struct-Inv-loop write-struct-μ-loop
   write-struct-sub-left c = omega (arith, c .before .before .before .before .before .loop-test .taken)
@@ -468,7 +468,7 @@ module _ (t : ℕ) where
       let in-loop = after-write-member .before .before in
       let at-loop = in-loop .before in
       let after-wide = at-loop .before .before .before in
-      let step-is = rw (after-wide .before .layout-at .ensures) at (after-wide .wide .ensures .0) in
+      let step-is = rw (after-wide .before .value-at .ensures) at (after-wide .wide .ensures .0) in
       let call = after-write-member .write-member in (
         walk-next (at-loop .loop .inv .0) (in-loop .loop-test .taken) (call .ensures .0) step-is (call .ensures .1),
         call .kept .1 .1 .1 .1 .1 .1 .1 .0 ∙ at-loop .loop .inv .1,
@@ -596,24 +596,24 @@ pub +write-entry+write-many+write-member+write-struct+write-structs-spec : {M : 
 +write-entry+write-many+write-member+write-struct+write-structs-spec =
     close μ-write-entry μ-write-many μ-write-member μ-write-struct μ-write-structs
     (λ t. write-entry-lts.spec (write-entry-calls t) (write-entry-at t) write-entry.Post
-    (write-entry-layout-at-requires t) (write-entry-words-of-requires t) (λ c κs. search needs) (write-entry-write-structs-requires t)
+    (write-entry-value-at-requires t) (write-entry-words-of-requires t) (λ c κs. search needs) (write-entry-write-structs-requires t)
     (write-entry-same-length t) (write-entry-returns t) (write-entry-write-many-requires t)
     (write-entry-same-length-2 t) (write-entry-returns-2 t))
     (λ t. write-many-lts.spec (write-many-calls t) (write-many-at t) write-many.Post write-many-Inv-loop write-many-μ-loop
     (λ c κs. search needs) (λ c κs. search needs) (λ c κs. search needs) (write-many-part-width-requires t) (λ c κs. search needs)
     (write-many-write-parts-requires t) (write-many-same-length t) (write-many-returns t) (λ c κs. search needs)
-    (write-many-layout-at-requires t) (write-many-write-structs-requires t) (write-many-same-length-2 t)
+    (write-many-value-at-requires t) (write-many-write-structs-requires t) (write-many-same-length-2 t)
     (write-many-returns-2 t) (write-many-loop-holds t) (write-many-mul-write-entry t)
     (write-many-add-write-entry t) (write-many-mul-write-entry-2 t) (write-many-add-write-entry-2 t)
     (write-many-write-entry-requires t) (write-many-add-i t) (write-many-loop-less t) (write-many-loop-again t)
     (write-many-same-length-3 t) (write-many-returns-3 t))
     (λ t. write-member-lts.spec (write-member-calls t) (write-member-at t) write-member.Post
-    (write-member-place-requires t) (write-member-layout-at-requires t) (write-member-packed-requires t) (write-member-add-write-few t)
+    (write-member-slot-after-requires t) (write-member-value-at-requires t) (write-member-packed-requires t) (write-member-add-write-few t)
     (write-member-write-few-requires t) (write-member-same-length t) (write-member-returns t)
     (write-member-add-write-entry t) (write-member-write-entry-requires t) (write-member-same-length-2 t)
     (write-member-returns-2 t))
     (λ t. write-struct-lts.spec (write-struct-calls t) (write-struct-at t) write-struct.Post write-struct-Inv-loop write-struct-μ-loop
-    (write-struct-layout-at-requires t) (λ c κs. search needs) (λ c κs. search needs) (write-struct-mul-m t) (λ c κs. search needs) (write-struct-loop-holds t)
+    (write-struct-value-at-requires t) (λ c κs. search needs) (λ c κs. search needs) (write-struct-mul-m t) (λ c κs. search needs) (write-struct-loop-holds t)
     (write-struct-write-member-requires t) (write-struct-add-next t) (write-struct-add-m t)
     (write-struct-sub-left t) (write-struct-loop-less t) (write-struct-loop-again t) (write-struct-same-length t)
     (write-struct-returns t))

@@ -12,14 +12,13 @@ sub-result : tie.Need-sub-result
 sub-result c = omega (arith, power-positive (c .pre .0))
 
 add-result : tie.Need-add-result
-unfolding limit
 add-result c = omega arith
 
 sub-result-2 : tie.Need-sub-result-2
 sub-result-2 c = omega (arith, power-positive (c .pre .0))
 
 returns : tie.Need-returns
-unfolding up limit
+unfolding up
 returns c =
     let p = c .pre .0 in
     let k = p .exponent in

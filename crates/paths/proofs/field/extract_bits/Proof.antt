@@ -4,7 +4,7 @@ use denote.Ref.{now}
 use borrow.Author.Needs.{needs}
 use lib.ListN.{length}
 use Rattle.wgsl.specs.Said.{good}
-use Rattle.wgsl.specs.BitFieldCall.{Found, integerAt}
+use Rattle.wgsl.specs.BitFieldCall.{FoundInteger, integerAt}
 use Rattle.paths.specs.Field.{Integer}
 use Rattle.paths.proofs.Integers.{integer-there, extract-refused, extract-found}
 use Rattle.paths.proofs.field.extract_bits.Statement.{statement}
@@ -13,7 +13,7 @@ use Rattle.paths.proofs.field.extract_bits.Tie as tie
 -- the scalar, found
 found : (c : tie.After-t) →
     let a = c .before .before .before .before .before .before .args in
-    (x : Found) × (integerAt (now (a .file)) (a .entry) (now (a .path)) (now (a .buf)) ≡ good x) × Integer (c .t .given .0 .0) x (length (now (a .buf)))
+    (x : FoundInteger) × (integerAt (now (a .file)) (a .entry) (now (a .path)) (now (a .buf)) ≡ good x) × Integer (c .t .given .0 .0) x (length (now (a .buf)))
 found c =
     let a = c .before .before .before .before .before .before .args in
     integer-there _ _ _ _ (rw (c .t .given .1) at (c .before .before .integer-at .ensures (now (a .buf)) refl))

@@ -5,7 +5,7 @@ use borrow.Author.Needs.{needs}
 use lib.ListN.{length}
 use Rattle.wgsl.specs.Said.{good, refused}
 use Rattle.wgsl.specs.Call.{answerOf, contentsOf}
-use Rattle.wgsl.specs.BitFieldCall.{Found, integerAt, insertCall}
+use Rattle.wgsl.specs.BitFieldCall.{FoundInteger, integerAt, insertCall}
 use Rattle.said.specs.Refusal.{numberOf, placeOf}
 use Rattle.said.specs.Answer.{saidNumber}
 use Rattle.paths.specs.Field.{Integer}
@@ -16,7 +16,7 @@ use Rattle.paths.proofs.field.insert_bits.Tie as tie
 -- the scalar, found
 found : (c : tie.After-t) →
     let a = c .before .before .before .before .before .before .args in
-    (x : Found) × (integerAt (now (a .file)) (a .entry) (now (a .path)) (now (a .buf)) ≡ good x) × Integer (c .t .given .0 .0) x (length (now (a .buf)))
+    (x : FoundInteger) × (integerAt (now (a .file)) (a .entry) (now (a .path)) (now (a .buf)) ≡ good x) × Integer (c .t .given .0 .0) x (length (now (a .buf)))
 found c =
     let a = c .before .before .before .before .before .before .args in
     integer-there _ _ _ _ (rw (c .t .given .1) at (c .before .before .integer-at .ensures (now (a .buf)) refl))

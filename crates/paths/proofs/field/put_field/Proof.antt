@@ -20,7 +20,6 @@ store-u32-requires c κs =
     omega (arith, i .inside, at-offset i)
 
 cast-t13 : tie.Need-cast-t13
-unfolding limit
 cast-t13 c =
     let i = c .before .before .before .before .before .before .before .before .pre .1 in
     omega (arith, i .inside, i .within, at-offset i)

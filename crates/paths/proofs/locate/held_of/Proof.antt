@@ -6,21 +6,21 @@ use Rattle.paths.proofs.Holds.{viewable-value, viewable-well-formed, cl
 use Rattle.paths.proofs.locate.held_of.Statement.{statement}
 use Rattle.paths.proofs.locate.held_of.Tie as tie
 
-tail-of-requires : tie.Need-tail-of-requires
-tail-of-requires c κs =
+rest-of-requires : tie.Need-rest-of-requires
+rest-of-requires c κs =
     let (f, e, t, x, few) = c .before .before .before .pre in
     open-findable x (sym (c .before .opens .ensures t (viewable-value x) (viewable-well-formed x)) ∙ c .if1 .taken)
 
 held-open-requires : tie.Need-held-open-requires
 held-open-requires c κs =
     let (f, e, t, x, few) = c .before .before .before .before .pre in
-    (t, open-opening x (sym (c .before .before .opens .ensures t (viewable-value x) (viewable-well-formed x)) ∙ c .before .if1 .taken) (c .tail-of .ensures), few)
+    (t, open-opening x (sym (c .before .before .opens .ensures t (viewable-value x) (viewable-well-formed x)) ∙ c .before .if1 .taken) (c .rest-of .ensures), few)
 
 returns : tie.Need-returns
 returns c f e t b x l =
     let tail = c .before in
     c .held-open .ensures t b
-    (open-opening x (sym (tail .before .before .opens .ensures t (viewable-value x) (viewable-well-formed x)) ∙ tail .before .if1 .taken) (tail .tail-of .ensures)) l
+    (open-opening x (sym (tail .before .before .opens .ensures t (viewable-value x) (viewable-well-formed x)) ∙ tail .before .if1 .taken) (tail .rest-of .ensures)) l
 
 returns-2 : tie.Need-returns-2
 returns-2 c f e t b x l =
@@ -35,4 +35,4 @@ returns-3 c f e t b x l =
 
 pub held-of-spec : {M : Type 1} → statement M
 held-of-spec =
-    tie.close (tie.spec (λ c κs. search needs) tail-of-requires held-open-requires returns (λ c κs. search needs) returns-2 returns-3)
+    tie.close (tie.spec (λ c κs. search needs) rest-of-requires held-open-requires returns (λ c κs. search needs) returns-2 returns-3)

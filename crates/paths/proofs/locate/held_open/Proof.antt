@@ -4,7 +4,7 @@ use mathlib.Core.Path.{_≡_, sym, _∙_}
 use native.Mathlib.Omega.{arith}
 use borrow.Author.Needs.{needs}
 use Rattle.wgsl.specs.Round.{limit}
-use Rattle.walk_decide.specs.declared.Found.the-variants.{Is}
+use Rattle.walk_decide.specs.declared.Fits.the-variants.{Is}
 use Rattle.walk_decide.specs.Decide.{elementsFound}
 use Rattle.walk_decide.proofs.Calls.{found-inside}
 use Rattle.paths.proofs.Holds.{stride-above, open-short, open-there}
@@ -17,7 +17,7 @@ elements-in-requires c κs = stride-above (c .pre .1)
 -- the elements, found
 found : (c : tie.After-n) →
     let a = c .before .before .before .args in
-    elementsFound (a .bytes) (a .x .offset) (a .x .layout .stride) ≡ Is (c .n .given .0 .0)
+    elementsFound (a .bytes) (a .x .offset) (a .x .value .stride) ≡ Is (c .n .given .0 .0)
 found c = sym (c .before .before .elements-in .ensures) ∙ c .n .given .1
 
 -- they end within the limit
@@ -29,11 +29,9 @@ inside c =
     rw (c .wide .ensures .0) (omega (arith, found-inside _ _ _ (found n), n .before .before .before .pre .2))
 
 mul-t7 : tie.Need-mul-t7
-unfolding limit
 mul-t7 c = omega (arith, inside c)
 
 add-t8 : tie.Need-add-t8
-unfolding limit
 add-t8 c = omega (arith, inside (c .before))
 
 returns : tie.Need-returns

@@ -5,7 +5,7 @@ use borrow.Author.Needs.{needs}
 use Rattle.wgsl.specs.Types.{Ty}
 use Rattle.file.specs.Fields.{saidTrailer}
 use Rattle.said.specs.Target.{reached}
-use Rattle.walk_decide.specs.Entry.{Entry}
+use Rattle.walk_decide.specs.Meant.{Meant}
 use Rattle.walk_decide.proofs.Entries.{entry-found, entry-missing, trailer-refused}
 use Rattle.paths.proofs.Plants.{target-missing}
 use Rattle.paths.proofs.locate.locate.Statement.{statement}
@@ -20,7 +20,7 @@ find-requires c κs =
 found : (c : tie.After-wide) →
     let find = c .before .before .before .before .before in
     let trailer = find .before .before .before .before .before in
-    (t : Ty) × Entry (now (trailer .before .before .before .before .args .file)) (c .wide .result) (c .before .before .g .given .0 .0) (find .find .last .1 .1 .1 .0) t
+    (t : Ty) × Meant (now (trailer .before .before .before .before .args .file)) (c .wide .result) (c .before .before .g .given .0 .0) (find .find .last .1 .1 .1 .0) t
 found c =
     let g = c .before .before in
     let find = g .before .before .before in

@@ -6,9 +6,8 @@ use borrow.Author.Needs.{needs}
 use lib.ListN.{length}
 use Rattle.wgsl.specs.Said.{good, refused}
 use Rattle.wgsl.specs.Path as path
-use Rattle.wgsl.specs.Call.{answerOf, contentsOf, setCall}
+use Rattle.wgsl.specs.Call.{answerOf, contentsOf, setCall, targetCall}
 use Rattle.said.specs.Refusal.{numberOf, placeOf}
-use Rattle.paths.specs.Locate.{targetCall}
 use Rattle.paths.specs.Set.{Roomy}
 use Rattle.paths.proofs.Rooms.{reached-refused, roomy}
 use Rattle.paths.proofs.Settings.{set-refused, set-found}

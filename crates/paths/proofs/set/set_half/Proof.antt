@@ -16,7 +16,6 @@ returns c = (
 )
 
 cast-t10 : tie.Need-cast-t10
-unfolding limit
 cast-t10 c = omega (arith, c .before .before .before .before .before .before .pre)
 
 returns-2 : tie.Need-returns-2

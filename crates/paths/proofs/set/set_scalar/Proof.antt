@@ -39,7 +39,6 @@ store-u32-requires c κs =
     omega (arith, room x, wide (one-scalar x (omega arith)) (λ e. omega (arith, e)) .1)
 
 cast-t11 : tie.Need-cast-t11
-unfolding limit
 cast-t11 c =
     let x = c .before .before .before .before .before .before .before .before .before .before .pre .1 in
     omega (arith, room x, wide (one-scalar x (omega arith)) (λ e. omega (arith, e)) .1, x .within)

@@ -6,8 +6,7 @@ use native.Mathlib.Omega.{arith}
 use denote.Ref.{now}
 use borrow.Author.Needs.{needs}
 use lib.ListN.{length, replicate, length-replicate}
-use Rattle.wgsl.specs.Call.{viewCall}
-use Rattle.paths.specs.Locate.{targetCall}
+use Rattle.wgsl.specs.Call.{viewCall, targetCall}
 use Rattle.paths.specs.View.{PartIs}
 use Rattle.paths.proofs.Rooms.{part-there, part-none}
 use Rattle.paths.proofs.view.part_at.Statement.{statement}

@@ -1,8 +1,7 @@
 -- What `locate` answers. Assumes nothing.
 use mathlib.Core.Path.{refl}
 use borrow.Author.Needs.{needs}
-use Rattle.wgsl.specs.Call.{viewCall}
-use Rattle.paths.specs.Locate.{targetCall}
+use Rattle.wgsl.specs.Call.{viewCall, targetCall}
 use Rattle.paths.proofs.view.view_at.Statement.{statement}
 use Rattle.paths.proofs.view.view_at.Tie as tie
 

@@ -11,27 +11,26 @@ returns : tie.Need-returns
 unfolding Enters
 returns c = λ f ts ms n x at. column-past at _ (c .if1 .taken)
 
-layout-at-requires : tie.Need-layout-at-requires
-layout-at-requires c κs = let (f, ts, ms, n, x, at) = c .before .pre in column-inside at
+value-at-requires : tie.Need-value-at-requires
+value-at-requires c κs = let (f, ts, ms, n, x, at) = c .before .pre in column-inside at
 
 mul-t9 : tie.Need-mul-t9
-unfolding limit
 mul-t9 c =
     let after-wide = c .before in
-    let after-layout-at = after-wide .before in
-    let else1 = after-layout-at .before in
+    let after-value-at = after-wide .before in
+    let else1 = after-value-at .before in
     let (f, ts, ms, n, x, at) = else1 .before .pre in
     let low = scalar-offset at _ (else1 .if1 .left) in
-    rw (c .wide2 .ensures .0, after-wide .wide .ensures .0, after-layout-at .layout-at .ensures) (omega (arith, low))
+    rw (c .wide2 .ensures .0, after-wide .wide .ensures .0, after-value-at .value-at .ensures) (omega (arith, low))
 
 returns-2 : tie.Need-returns-2
 returns-2 c =
     let after-wide = c .before in
-    let after-layout-at = after-wide .before in
-    let else1 = after-layout-at .before in
-    rw (c .wide2 .ensures .0, after-wide .wide .ensures .0, after-layout-at .layout-at .ensures)
+    let after-value-at = after-wide .before in
+    let else1 = after-value-at .before in
+    rw (c .wide2 .ensures .0, after-wide .wide .ensures .0, after-value-at .value-at .ensures)
     (λ f ts ms n x at. scalar-enters at _ (else1 .if1 .left))
 
 pub enter-column-spec : {M : Type 1} → statement M
 enter-column-spec =
-    tie.close (tie.spec returns layout-at-requires (λ c κs. search needs) (λ c κs. search needs) mul-t9 returns-2)
+    tie.close (tie.spec returns value-at-requires (λ c κs. search needs) (λ c κs. search needs) mul-t9 returns-2)

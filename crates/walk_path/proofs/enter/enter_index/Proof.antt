@@ -6,19 +6,19 @@ use Rattle.walk_path.proofs.Parts.{entry-inside, entry-found, no-index,
 use Rattle.walk_path.proofs.enter.enter_index.Statement.{statement}
 use Rattle.walk_path.proofs.enter.enter_index.Tie as tie
 
-layout-at-requires : tie.Need-layout-at-requires
-layout-at-requires c κs = let (f, ts, ms, x, at) = c .pre in entry-inside at
+value-at-requires : tie.Need-value-at-requires
+value-at-requires c κs = let (f, ts, ms, x, at) = c .pre in entry-inside at
 
 returns : tie.Need-returns
 unfolding Enters
 returns c =
-    let small = rw (c .before .layout-at .ensures) at (c .if1 .taken) in
+    let small = rw (c .before .value-at .ensures) at (c .if1 .taken) in
     λ f ts ms x at. no-index (entry-found at) (λ low high. omega (arith, small)) _
 
 returns-2 : tie.Need-returns-2
 unfolding Enters
 returns-2 c =
-    let large = rw (c .before .before .layout-at .ensures) at (c .if2 .taken) in
+    let large = rw (c .before .before .value-at .ensures) at (c .if2 .taken) in
     λ f ts ms x at. no-index (entry-found at) (λ low high. omega (arith, large)) _
 
 parts-at-requires : tie.Need-parts-at-requires
@@ -29,7 +29,7 @@ unfolding Enters
 returns-3 c =
     let after-parts-at = c .before .before in
     let else2 = after-parts-at .before in
-    let layout = else2 .before .before .layout-at .ensures in
+    let layout = else2 .before .before .value-at .ensures in
     let high = rw layout at (else2 .if2 .left) in
     let low = rw layout at (else2 .before .if1 .left) in
     let past = rw (after-parts-at .parts-at .ensures, c .before .wide .ensures .0) at (c .if3 .taken) in
@@ -42,7 +42,7 @@ parted : (c : tie.Else3) →
 parted c =
     let after-parts-at = c .before .before in
     let else2 = after-parts-at .before in
-    let layout = else2 .before .before .layout-at .ensures in
+    let layout = else2 .before .before .value-at .ensures in
     record {
       low = rw layout at (else2 .before .if1 .left);
       high = rw layout at (else2 .if2 .left);
@@ -59,4 +59,4 @@ returns-4 c = λ f ts ms x at. c .enter-part .ensures f ts ms x at (parted (c .b
 
 pub enter-index-spec : {M : Type 1} → statement M
 enter-index-spec =
-    tie.close (tie.spec layout-at-requires returns returns-2 parts-at-requires (λ c κs. search needs) returns-3 enter-part-requires returns-4)
+    tie.close (tie.spec value-at-requires returns returns-2 parts-at-requires (λ c κs. search needs) returns-3 enter-part-requires returns-4)

@@ -8,13 +8,13 @@ use Rattle.walk_path.proofs.enter.parts_at.Tie as tie
 returns : tie.Need-returns
 unfolding partsAt
 returns c =
-    let layout = c .before .before .layout-at .ensures in
+    let layout = c .before .before .value-at .ensures in
     rw (eq-eqb _ _ (rw layout at (c .if1 .taken)))
 
 returns-2 : tie.Need-returns-2
 unfolding partsAt
 returns-2 c =
-    let layout = c .before .before .before .layout-at .ensures in
+    let layout = c .before .before .before .value-at .ensures in
     rw (ne-eqb _ _ (rw layout at (c .before .if1 .left))) (rw layout at (c .wide .ensures .0))
 
 pub parts-at-spec : {M : Type 1} → statement M

@@ -7,9 +7,8 @@ use Rattle.walk_path.proofs.enter.size_at.Statement.{statement}
 use Rattle.walk_path.proofs.enter.size_at.Tie as tie
 
 mul-result : tie.Need-mul-result
-unfolding limit
 mul-result c =
-    let r = c .before .before .before .layout-at .ensures in
+    let r = c .before .before .before .value-at .ensures in
     let p = c .before .before .before .before .pre in
     rw (c .wide .ensures .0) (omega (arith, rw (← r) at (p .1) (omega arith)))
 
@@ -17,13 +16,13 @@ returns : tie.Need-returns
 unfolding sizeAt
 returns c =
     let at = c .before .before .before in
-    rw (← at .layout-at .ensures, eq-eqb (at .layout-at .result .kind) 10 (omega arith), c .wide .ensures .0)
+    rw (← at .value-at .ensures, eq-eqb (at .value-at .result .kind) 10 (omega arith), c .wide .ensures .0)
 
 returns-2 : tie.Need-returns-2
 unfolding sizeAt
 returns-2 c =
     let at = c .before .before .before in
-    rw (← at .layout-at .ensures, ne-eqb (at .layout-at .result .kind) 10 (λ e. omega (arith, e)), c .wide2 .ensures .0)
+    rw (← at .value-at .ensures, ne-eqb (at .value-at .result .kind) 10 (λ e. omega (arith, e)), c .wide2 .ensures .0)
 
 pub size-at-spec : {M : Type 1} → statement M
 size-at-spec =

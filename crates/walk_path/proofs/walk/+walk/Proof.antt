@@ -21,7 +21,7 @@ use Rattle.walk_path.proofs.walk.walk.Reads as walk
 use Rattle.walk_path.proofs.walk.walk.Kinds as walk-kinds
 use Rattle.walk_path.proofs.walk.+walk.Lts-walk as walk-lts
 use Rattle.walk_path.proofs.enter.enter.Reads as enter-reads
-use Rattle.walk_path.proofs.enter.scalar_in.Reads as scalar-in-reads
+use Rattle.walk_path.proofs.enter.kind_in.Reads as kind-in-reads
 use Rattle.walk_path.proofs.step.step_of.Reads as step-of-reads
 use Rattle.walk_path.proofs.walk.+walk.{statement}
 use Rattle.walk_path.proofs.walk.+walk.Tie.{close}
@@ -36,11 +36,11 @@ abbrev walk-below : ℕ → In 3 walk-kinds.ps
 walk-below t = and 3 walk-kinds.ps (falls 3 walk-kinds.ps _<_ μ-walk t) walk.Pre
 
 abbrev walk-calls : ℕ → walk-lts.Claims
-walk-calls t = (scalar-in-reads.Asked, scalar-in-reads.Learnt, step-of-reads.Asked, step-of-reads.Learnt, enter-reads.Asked, enter-reads.Learnt, walk-below t, walk.Post)
+walk-calls t = (kind-in-reads.Asked, kind-in-reads.Learnt, step-of-reads.Asked, step-of-reads.Learnt, enter-reads.Asked, enter-reads.Learnt, walk-below t, walk.Post)
 
 module _ (t : ℕ) where
-  walk-scalar-in-requires : walk-lts.Need-scalar-in-requires (walk-calls t) (walk-at t) walk.Post
-  walk-scalar-in-requires c κs =
+  walk-kind-in-requires : walk-lts.Need-kind-in-requires (walk-calls t) (walk-at t) walk.Post
+  walk-kind-in-requires c κs =
       let start = c .before .before .before in
       let (f, ts, x, at, size, low, inside) = start .pre .1 in
       (f, ts, start .args .members .now, start .args .n, x, at)
@@ -50,7 +50,7 @@ module _ (t : ℕ) where
       let then1 = c .before in
       let args = then1 .before .before .before .args in
       λ f ts x at size.
-      rw (walk-end (args .path .now) (args .k) (args .offset) x (then1 .if1 .taken), size, c .scalar-in .ensures f ts _ _ x at)
+      rw (walk-end (args .path .now) (args .k) (args .offset) x (then1 .if1 .taken), size, c .kind-in .ensures f ts _ _ x at)
 
   -- a step is left
   walk-more : (c : walk-lts.Else1 (walk-calls t) (walk-at t) walk.Post) →
@@ -92,7 +92,6 @@ module _ (t : ℕ) where
       omega (arith, walk-more else1, else1 .before .before .before .good .1 .1 .1 .1 .1 .0 .0)
 
   walk-add-walk-2 : walk-lts.Need-add-walk-2 (walk-calls t) (walk-at t) walk.Post
-  unfolding limit
   walk-add-walk-2 c =
       let after-i = c .before .before in
       let (f, ts, x, at, size, low, inside) = after-i .before .before .before .before .before .before .before .before .pre .1 in
@@ -152,7 +151,7 @@ pub +walk-spec : {M : Type 1} → statement M
 +walk-spec =
     close μ-walk
     (λ t. walk-lts.spec (walk-calls t) (walk-at t) walk.Post
-    (walk-scalar-in-requires t) (walk-returns t) (walk-mul-step-of t) (walk-shared-slice-read-step-of t)
+    (walk-kind-in-requires t) (walk-returns t) (walk-mul-step-of t) (walk-shared-slice-read-step-of t)
     (λ c κs. search needs) (walk-enter-requires t) (λ c. search needs) (walk-add-walk t) (walk-add-walk-2 t)
     (walk-walk-requires t) (λ c. search needs) (λ c. search needs) (λ c. search needs)
     (walk-returns-2 t) (walk-returns-3 t) (walk-returns-4 t) (walk-returns-5 t))

@@ -43,8 +43,8 @@ returns-2 c =
     let few = rw (c .before .wide2 .ensures .0, counted .words-of .ensures) at (c .if2 .taken) in
     (λ t r o. ap answerOf (sym (few-words r o _ _ room few)), λ t r o. ap (contentsOf _) (sym (few-words r o _ _ room few)))
 
-closed-tail-requires : tie.Need-closed-tail-requires
-closed-tail-requires c κs = c .before .before .before .before .before .before .before .before .pre .1 .counted
+closed-rest-requires : tie.Need-closed-rest-requires
+closed-rest-requires c κs = c .before .before .before .before .before .before .before .before .pre .1 .counted
 
 load-requires : tie.Need-load-requires
 load-requires c κs =
@@ -54,7 +54,7 @@ load-requires c κs =
     let (t, r, o) = else1 .before .before .before .before .before .pre in (
       t,
       0,
-      rw (tail .closed-tail .ensures) (closed-whole r),
+      rw (tail .closed-rest .ensures) (closed-whole r),
       omega (arith, ready-words r, there else2),
       omega (arith, closed-extent 0 t o, size-is r, enough else1),
     )
@@ -75,12 +75,12 @@ returns-3 c =
           ap good (c .words-of2 .ensures ∙ sym (ready-words r))
           ∙ ap answerOf (sym (all-read r o _ _ room (there else2))),
       λ t r o.
-          load .load .ensures t 0 (rw (tail .closed-tail .ensures) (closed-whole r)) (omega (arith, ready-words r, there else2))
+          load .load .ensures t 0 (rw (tail .closed-rest .ensures) (closed-whole r)) (omega (arith, ready-words r, there else2))
           ∙ ap (contentsOf _) (sym (all-read r o _ _ room (there else2))),
     )
 
 pub read-closed-spec : {M : Type 1} → statement M
 read-closed-spec =
     tie.close (tie.spec
-    (λ c κs. search needs) returns words-of-requires (λ c κs. search needs) returns-2 closed-tail-requires load-requires
+    (λ c κs. search needs) returns words-of-requires (λ c κs. search needs) returns-2 closed-rest-requires load-requires
     words-of-requires-2 (λ c. search needs) returns-3)

@@ -31,10 +31,10 @@ few c =
     omega (arith, count c y, words-few (y .tailed .ready) (start .args .n), start .pre .2, start .pre .3)
 
 -- the fixed part, and the tail that it makes
-tail : {t : Ty} (c : tie.After-open-tail) →
+tail : {t : Ty} (c : tie.After-open-rest) →
     let a = c .before .before .before .before .before .before .before .args in
-    TailedBy (now (a .members)) (now (a .table)) (a .e) (a .x) t → Whole (now (a .members)) (now (a .table)) (a .e) (c .open-tail .result) t (a .n)
-tail c y = rw (c .open-tail .ensures, y .tail-is) (open-whole (y .tailed) _)
+    TailedBy (now (a .members)) (now (a .table)) (a .e) (a .x) t → Whole (now (a .members)) (now (a .table)) (a .e) (c .open-rest .result) t (a .n)
+tail c y = rw (c .open-rest .ensures, y .tail-is) (open-whole (y .tailed) _)
 
 mul-count : tie.Need-mul-count
 mul-count c = omega (arith, few c)
@@ -49,8 +49,8 @@ returns c = (
   λ t y. ap (contentsOf _) (sym (loaded-few _ t _ _ (rw (count (c .before .before) y) at (c .if1 .taken)))),
 )
 
-cast-open-tail : tie.Need-cast-open-tail
-cast-open-tail c =
+cast-open-rest : tie.Need-cast-open-rest
+cast-open-rest c =
     let start = c .before .before .before .before .before .before in
     let pre = start .pre in
     omega (arith, elements-few (pre .1 .tailed) (start .args .n) (length (now (start .args .buf))) (pre .2), pre .3)
@@ -84,5 +84,5 @@ returns-2 c =
 pub read-elements-spec : {M : Type 1} → statement M
 read-elements-spec =
     tie.close (tie.spec
-    (λ c κs. search needs) mul-count add-count returns cast-open-tail (λ c κs. search needs) load-requires cast-t15
+    (λ c κs. search needs) mul-count add-count returns cast-open-rest (λ c κs. search needs) load-requires cast-t15
     (λ c. search needs) returns-2)

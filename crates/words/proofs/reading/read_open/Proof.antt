@@ -11,16 +11,16 @@ use Rattle.words.proofs.reading.read_open.Statement.{statement}
 use Rattle.words.proofs.reading.read_open.Tie as tie
 
 -- the tail that is found
-by : {t : Ty} (c : tie.After-tail-of) →
+by : {t : Ty} (c : tie.After-rest-of) →
     let a = c .before .before .before .before .args in
-    Tailed (now (a .members)) (now (a .table)) (a .e) (a .l) t → TailedBy (now (a .members)) (now (a .table)) (a .e) (c .tail-of .result) t
-by c x = record { layout = _; tailed = x; tail-is = c .tail-of .ensures }
+    Tailed (now (a .members)) (now (a .table)) (a .e) (a .l) t → TailedBy (now (a .members)) (now (a .table)) (a .e) (c .rest-of .result) t
+by c x = record { layout = _; tailed = x; tail-is = c .rest-of .ensures }
 
-tail-of-requires : tie.Need-tail-of-requires
-tail-of-requires c κs = c .before .before .before .pre .1 .findable
+rest-of-requires : tie.Need-rest-of-requires
+rest-of-requires c κs = c .before .before .before .pre .1 .findable
 
 elements-in-requires : tie.Need-elements-in-requires
-elements-in-requires c κs = rw (c .tail-of .ensures) (stride-above (c .before .before .before .before .pre .1))
+elements-in-requires c κs = rw (c .rest-of .ensures) (stride-above (c .before .before .before .before .pre .1))
 
 read-elements-requires : tie.Need-read-elements-requires
 read-elements-requires c κs =
@@ -58,5 +58,5 @@ returns-2 c =
 pub read-open-spec : {M : Type 1} → statement M
 read-open-spec =
     tie.close (tie.spec
-    tail-of-requires elements-in-requires (λ c. search needs) (λ c. search needs) read-elements-requires returns
+    rest-of-requires elements-in-requires (λ c. search needs) (λ c. search needs) read-elements-requires returns
     (λ c. search needs) returns-2)

@@ -28,15 +28,15 @@ returns-2 c =
     let n = counted (c .before .before .before) in
     (λ t r o. ap answerOf (sym (few-bytes r o _ _ (omega (arith, n)) (omega arith))), λ t r o. ap (contentsOf _) (sym (few-bytes r o _ _ (omega (arith, n)) (omega arith))))
 
-closed-tail-requires : tie.Need-closed-tail-requires
-closed-tail-requires c κs = c .before .before .before .before .before .before .before .before .pre .1 .counted
+closed-rest-requires : tie.Need-closed-rest-requires
+closed-rest-requires c κs = c .before .before .before .before .before .before .before .before .pre .1 .counted
 
 write-whole-requires : tie.Need-write-whole-requires
 write-whole-requires c κs =
     let tail = c .before in
     let wide = tail .before .before .before .before in
     let (t, r, o) = wide .before .before .before .before .before .pre in
-    (t, 0, rw (tail .closed-tail .ensures) (closed-whole r), omega (arith, ready-words r, counted wide), fixed-extent r o, omega arith)
+    (t, 0, rw (tail .closed-rest .ensures) (closed-whole r), omega (arith, ready-words r, counted wide), fixed-extent r o, omega arith)
 
 returns-3 : tie.Need-returns-3
 returns-3 c =
@@ -44,13 +44,13 @@ returns-3 c =
     let tail = whole .before .before in
     let n = counted (tail .before .before .before .before) in (
       λ t r o.
-          whole .write-whole .ensures .0 t 0 (rw (tail .closed-tail .ensures) (closed-whole r)) (omega (arith, ready-words r, n)) (fixed-extent r o) (omega arith)
+          whole .write-whole .ensures .0 t 0 (rw (tail .closed-rest .ensures) (closed-whole r)) (omega (arith, ready-words r, n)) (fixed-extent r o) (omega arith)
           ∙ ap answerOf (sym (all-there r o _ _ (omega (arith, n)) (omega arith))),
       λ t r o.
-          whole .write-whole .ensures .1 t 0 (rw (tail .closed-tail .ensures) (closed-whole r)) (omega (arith, ready-words r, n)) (fixed-extent r o) (omega arith)
+          whole .write-whole .ensures .1 t 0 (rw (tail .closed-rest .ensures) (closed-whole r)) (omega (arith, ready-words r, n)) (fixed-extent r o) (omega arith)
           ∙ ap (contentsOf _) (sym (all-there r o _ _ (omega (arith, n)) (omega arith))),
     )
 
 pub write-closed-spec : {M : Type 1} → statement M
 write-closed-spec =
-    tie.close (tie.spec words-of-requires (λ c κs. search needs) returns (λ c κs. search needs) returns-2 closed-tail-requires write-whole-requires (λ c. search needs) returns-3)
+    tie.close (tie.spec words-of-requires (λ c κs. search needs) returns (λ c κs. search needs) returns-2 closed-rest-requires write-whole-requires (λ c. search needs) returns-3)

@@ -32,13 +32,13 @@ ends c y =
     (r .0, r .1)
 
 -- the fixed part, and the tail that it makes
-tail : {t : Ty} (c : tie.After-open-tail) →
+tail : {t : Ty} (c : tie.After-open-rest) →
     let a = c .before .before .before .before .before .before .before .before .args in
-    TailedBy (now (a .members)) (now (a .table)) (a .e) (a .x) t → Whole (now (a .members)) (now (a .table)) (a .e) (c .open-tail .result) t (a .n)
-tail c y = rw (c .open-tail .ensures, y .tail-is) (open-whole (y .tailed) _)
+    TailedBy (now (a .members)) (now (a .table)) (a .e) (a .x) t → Whole (now (a .members)) (now (a .table)) (a .e) (c .open-rest .result) t (a .n)
+tail c y = rw (c .open-rest .ensures, y .tail-is) (open-whole (y .tailed) _)
 
-cast-open-tail : tie.Need-cast-open-tail
-cast-open-tail c =
+cast-open-rest : tie.Need-cast-open-rest
+cast-open-rest c =
     let extent = c .before in
     let start = extent .before .before .before .before .before .before in
     let y = start .pre .1 in
@@ -83,4 +83,4 @@ returns-2 c =
 pub write-elements-spec : {M : Type 1} → statement M
 write-elements-spec =
     tie.close (tie.spec
-    extent-for-requires (λ c. search needs) (λ c. search needs) cast-open-tail (λ c κs. search needs) cast-write-whole write-whole-requires returns (λ c. search needs) returns-2)
+    extent-for-requires (λ c. search needs) (λ c. search needs) cast-open-rest (λ c κs. search needs) cast-write-whole write-whole-requires returns (λ c. search needs) returns-2)

@@ -11,18 +11,18 @@ use Rattle.words.proofs.writing.write_open.Statement.{statement}
 use Rattle.words.proofs.writing.write_open.Tie as tie
 
 -- the tail that is found
-by : {t : Ty} (c : tie.After-tail-of) →
+by : {t : Ty} (c : tie.After-rest-of) →
     let a = c .before .before .before .before .args in
-    Tailed (now (a .members)) (now (a .table)) (a .e) (a .l) t → TailedBy (now (a .members)) (now (a .table)) (a .e) (c .tail-of .result) t
-by c x = record { layout = _; tailed = x; tail-is = c .tail-of .ensures }
+    Tailed (now (a .members)) (now (a .table)) (a .e) (a .l) t → TailedBy (now (a .members)) (now (a .table)) (a .e) (c .rest-of .result) t
+by c x = record { layout = _; tailed = x; tail-is = c .rest-of .ensures }
 
-tail-of-requires : tie.Need-tail-of-requires
-tail-of-requires c κs = c .before .before .before .pre .1 .findable
+rest-of-requires : tie.Need-rest-of-requires
+rest-of-requires c κs = c .before .before .before .pre .1 .findable
 
 elements-for-requires : tie.Need-elements-for-requires
 elements-for-requires c κs =
     let x = c .before .before .before .before .pre .1 in
-    rw (c .tail-of .ensures) (x .unit-above, fixed-few x)
+    rw (c .rest-of .ensures) (x .unit-above, fixed-few x)
 
 write-elements-requires : tie.Need-write-elements-requires
 write-elements-requires c κs =
@@ -63,4 +63,4 @@ returns-2 c =
 pub write-open-spec : {M : Type 1} → statement M
 write-open-spec =
     tie.close (tie.spec
-    tail-of-requires elements-for-requires (λ c. search needs) (λ c. search needs) write-elements-requires returns (λ c. search needs) returns-2)
+    rest-of-requires elements-for-requires (λ c. search needs) (λ c. search needs) write-elements-requires returns (λ c. search needs) returns-2)

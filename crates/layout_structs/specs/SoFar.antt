@@ -14,19 +14,19 @@ use Rattle.wgsl.specs.Types.{Ty, Members, no-more, member, endsInRuntime, every
 use Rattle.wgsl.specs.Size.{present, membersAlign, membersEnd, offsetsOf, withinLimits}
 use Rattle.wgsl.specs.File.{Trailer, trailerOf, typeEntryLength, memberEntryLength, TypeEntry, MemberEntry, givenSize, givenAlign, restIsZero}
 use Rattle.wgsl.specs.Rule.{unused, structMade, countOf, memberAllowed, membersAllowed, givenSizeFits, givenAlignFits, membersGivenFit, isWellFormed}
-use Rattle.layout_values.specs.declared.value.Layout.{Layout}
+use Rattle.layout_values.specs.declared.value.Value.{Value}
 use Rattle.layout_values.specs.declared.value.Made.the-variants as made
 use Rattle.layout_values.specs.Value.{fixedWords, narrowest, valueOf, valuesFrom, madeOf}
 use Rattle.layout_structs.specs.declared.Ends.{Ends}
-use Rattle.layout_structs.specs.declared.Run.{Run}
-use Rattle.layout_structs.specs.declared.Run.the-variants.{Placed, Unfit, TooLarge}
+use Rattle.layout_structs.specs.declared.SoFar.{SoFar}
+use Rattle.layout_structs.specs.declared.SoFar.the-variants.{Good, Unfit, TooLarge}
 use Rattle.layout_structs.specs.declared.Stepped.{Stepped}
 use Rattle.layout_structs.specs.declared.Stepped.the-variants.{Next, Rule}
 
 -- members, and one more after them
-unfoldable pub after : Members → Ty → Option ℕ → Option ℕ → Members
-after no-more t size align = member t size align no-more
-after (member u size′ align′ ms) t size align = member u size′ align′ (after ms t size align)
+unfoldable pub appended : Members → Ty → Option ℕ → Option ℕ → Members
+appended no-more t size align = member t size align no-more
+appended (member u size′ align′ ms) t size align = member u size′ align′ (appended ms t size align)
 
 unfoldable pub wordsOfMembers : Members → ℕ
 wordsOfMembers no-more = 0
@@ -43,7 +43,7 @@ endsOf ms =
     }
 
 -- a struct with the entry e, of so many bytes, whose members end as p says
-unfoldable pub structOf : TypeEntry → Ends → ℕ → Layout
+unfoldable pub structOf : TypeEntry → Ends → ℕ → Value
 structOf e p size =
     record {
       kind = 12;
@@ -61,8 +61,8 @@ unfoldable pub membersFit : Members → Bool
 membersFit ms = withinLimits (membersEnd (some 0) ms ∷ offsetsOf (some 0) ms)
 
 -- 6 before 7
-unfoldable pub runOf : Members → Run
-runOf ms = cond (membersGivenFit ms) (cond (membersFit ms) (Placed (endsOf ms)) TooLarge) Unfit
+unfoldable pub soFar : Members → SoFar
+soFar ms = cond (membersGivenFit ms) (cond (membersFit ms) (Good (endsOf ms)) TooLarge) Unfit
 
 -- members that are no runtime arrays, so that more may follow
 unfoldable pub allSized : Members → Bool
@@ -76,10 +76,10 @@ pub record Going (ms : Members) : Type 0 where
 
 -- members, and one more of a member entry
 abbrev pub followed : Members → Ty → MemberEntry → Members
-followed ms t m = after ms t (givenSize m) (givenAlign m)
+followed ms t m = appended ms t (givenSize m) (givenAlign m)
 
 -- members that end as p says and passed 6 and 7; and one more of type t, whose layout is l, that passes 5 and 6
-pub record Joins (p : Ends) (l : Layout) (m : MemberEntry) (ms : Members) (t : Ty) : Type 0 where
+pub record Joins (p : Ends) (l : Value) (m : MemberEntry) (ms : Members) (t : Ty) : Type 0 where
   pub ends : p ≡ endsOf ms
   pub layout : l ≡ valueOf (l .reference) t
   pub going : Going ms
@@ -91,15 +91,15 @@ pub record Joins (p : Ends) (l : Layout) (m : MemberEntry) (ms : Members) (t : T
   pub align-fits : givenAlignFits t (givenAlign m) ≡ true
 
 -- the verdict on members is `run`, and one more of type t, whose layout is l, comes
-pub record Meets (run : Run) (l : Layout) (ms : Members) (t : Ty) : Type 0 where
-  pub verdict : run ≡ runOf ms
+pub record Meets (run : SoFar) (l : Value) (ms : Members) (t : Ty) : Type 0 where
+  pub verdict : run ≡ soFar ms
   pub layout : l ≡ valueOf (l .reference) t
   pub going : Going ms
   pub well-formed : everywhere isWellFormed t ≡ true
 
 -- what one more member comes to: 5, or the verdict on all
 unfoldable pub steppedTo : Bool → Members → Ty → MemberEntry → Stepped
-steppedTo last ms t m = cond (restIsZero m && memberAllowed last t) (Next (runOf (followed ms t m))) Rule
+steppedTo last ms t m = cond (restIsZero m && memberAllowed last t) (Next (soFar (followed ms t m))) Rule
 
 -- all members of a struct, which passed 5
 pub record Complete (ms : Members) : Type 0 where
@@ -115,8 +115,8 @@ pub record Ended (p : Ends) (ms : Members) : Type 0 where
   pub given : membersGivenFit ms ≡ true
   pub fits : membersFit ms ≡ true
 
-pub record Closes (run : Run) (ms : Members) : Type 0 where
-  pub verdict : run ≡ runOf ms
+pub record Closes (run : SoFar) (ms : Members) : Type 0 where
+  pub verdict : run ≡ soFar ms
   pub complete : Complete ms
 
 -- the byte where member entry m of a file begins

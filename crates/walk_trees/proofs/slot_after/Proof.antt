@@ -5,23 +5,23 @@ use borrow.Author.Needs.{needs}
 use denote.Ref.{now}
 use Rattle.wgsl.specs.File.{MemberEntry}
 use Rattle.file.specs.Fields.{memberIs}
-use Rattle.walk_trees.proofs.Places.{Found, given-align, given-size, own-align, own-size, placed-is, counted, may-place}
-use Rattle.walk_trees.proofs.place.Statement.{statement}
-use Rattle.walk_trees.proofs.place.Tie as tie
+use Rattle.walk_trees.proofs.Places.{MemberFound, given-align, given-size, own-align, own-size, placed-is, counted, may-place}
+use Rattle.walk_trees.proofs.slot_after.Statement.{statement}
+use Rattle.walk_trees.proofs.slot_after.Tie as tie
 
-layout-at-requires : tie.Need-layout-at-requires
-layout-at-requires c κs =
+value-at-requires : tie.Need-value-at-requires
+value-at-requires c κs =
     omega (arith, c .wide .ensures .0, ap (λ (y : MemberEntry). y .type) (c .before .member-at .ensures), c .before .before .before .pre .type-inside)
 
 -- the entry and the layout
-found : (c : tie.After-layout-at) →
+found : (c : tie.After-value-at) →
     let s = c .before .before .before .before in
-    Found (now (s .args .members)) (now (s .args .table)) (s .args .m) (memberIs (c .before .before .member-at .result)) (c .before .wide .result) (c .layout-at .result)
+    MemberFound (now (s .args .members)) (now (s .args .table)) (s .args .m) (memberIs (c .before .before .member-at .result)) (c .before .wide .result) (c .value-at .result)
 found c =
     record {
       entry-is = c .before .before .member-at .ensures;
       type-is = c .before .wide .ensures .0;
-      layout-is = c .layout-at .ensures;
+      layout-is = c .value-at .ensures;
     }
 
 words-of-requires : tie.Need-words-of-requires
@@ -55,8 +55,8 @@ returns-2 c =
     placed-is (found at) _ (s .args .end) _ _ _ (c .put-after2 .ensures) (w .words-of .ensures)
     (given-align (found at) (c .before .before .given-align .ensures)) (given-size (found at) (c .before .given-size .ensures))
 
-pub place-spec : {M : Type 1} → statement M
-place-spec =
+pub slot-after-spec : {M : Type 1} → statement M
+slot-after-spec =
     tie.close (tie.spec
-    (λ c κs. search needs) (λ c κs. search needs) layout-at-requires words-of-requires put-after-requires returns
+    (λ c κs. search needs) (λ c κs. search needs) value-at-requires words-of-requires put-after-requires returns
     (λ c κs. search needs) (λ c κs. search needs) put-after-requires-2 returns-2)

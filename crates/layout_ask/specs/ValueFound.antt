@@ -9,18 +9,18 @@ use Rattle.wgsl.specs.Said.{Said, good, refused, _>>=_}
 use Rattle.wgsl.specs.File.{typeEntryAt}
 use Rattle.wgsl.specs.Call.{entryOf}
 use Rattle.said.specs.Refusal.{numberOf, placeOf}
-use Rattle.layout_values.specs.declared.value.Layout.{Layout}
+use Rattle.layout_values.specs.declared.value.Value.{Value}
 use Rattle.layout_values.specs.Value.{valueOf}
-use Rattle.layout_ask.specs.declared.Found.{Found}
+use Rattle.layout_ask.specs.declared.ValueFound.{ValueFound}
 
-unfoldable pub layoutFound : List ℕ → ℕ → Said Layout
-layoutFound f e = do
+unfoldable pub valueFound : List ℕ → ℕ → Said Value
+valueFound f e = do
   t ← entryOf f e
   good (valueOf (typeEntryAt f e .reference) t)
 
-abbrev pub saidFound : Found → Said Layout
-saidFound (Found.Is l) = good l
-saidFound (Found.Refused r) = refused (numberOf r) (placeOf r)
+abbrev pub saidValue : ValueFound → Said Value
+saidValue (ValueFound.Is l) = good l
+saidValue (ValueFound.Refused r) = refused (numberOf r) (placeOf r)
 
 -- a number that is above 0, or an absent one
 unfoldable pub marked : ℕ → Option ℕ

@@ -3,8 +3,8 @@ use mathlib.Core.Path.{sym, ap, _∙_}
 use borrow.Author.Needs.{needs}
 use Rattle.file.specs.Fields.{saidTrailer}
 use Rattle.layout_ask.proofs.Asks.{found-no-trailer, found-ground, found-no-ground}
-use Rattle.layout_ask.proofs.layout_of.Statement.{statement}
-use Rattle.layout_ask.proofs.layout_of.Tie as tie
+use Rattle.layout_ask.proofs.value_of.Statement.{statement}
+use Rattle.layout_ask.proofs.value_of.Tie as tie
 
 find-requires : tie.Need-find-requires
 find-requires c κs =
@@ -26,8 +26,8 @@ returns-3 c =
     let found = c .before .before .before .before .find in
     found-no-ground _ _ (found .result) _ (found .ensures) _ (c .before .r2 .given .1)
 
-pub layout-of-spec : {M : Type 1} → statement M
-layout-of-spec =
+pub value-of-spec : {M : Type 1} → statement M
+value-of-spec =
     tie.close (tie.spec
     (λ c κs. search needs) (λ c. search needs) (λ c. search needs) (λ c κs. search needs) (λ c. search needs)
     find-requires (λ c. search needs) (λ c. search needs) returns returns-2 returns-3)

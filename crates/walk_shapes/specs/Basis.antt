@@ -9,7 +9,7 @@ use Rattle.wgsl.specs.Rule.{typesOf}
 use Rattle.file.specs.Members.{memberBytes}
 use Rattle.layout_values.specs.Value.{valuesOf}
 
-pub record Site (f : List ℕ) (ts : List Ty) (ms : List ℕ) (table : List (List ℕ)) : Type 0 where
+pub record Basis (f : List ℕ) (ts : List Ty) (ms : List ℕ) (table : List (List ℕ)) : Type 0 where
   pub good-file : typesOf f ≡ good ts
   pub members-are : ms ≡ memberBytes f
   pub table-is : table ≡ valuesOf f ts

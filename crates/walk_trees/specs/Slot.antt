@@ -11,9 +11,9 @@ use lib.ListN.{length}
 use Rattle.wgsl.specs.Round.{IsPower, up, limit}
 use Rattle.wgsl.specs.Size.{givenOr, present}
 use Rattle.wgsl.specs.File.{MemberEntry, memberEntryFrom, givenSize, givenAlign}
-use Rattle.layout_values.specs.declared.value.Layout.{Layout}
-use Rattle.layout_values.specs.Value.{layoutAt, wordsIn}
-use Rattle.walk_trees.specs.declared.Placed.{Placed}
+use Rattle.layout_values.specs.declared.value.Value.{Value}
+use Rattle.layout_values.specs.Value.{valueAt, wordsIn}
+use Rattle.walk_trees.specs.declared.Slot.{Slot}
 
 -- ---- words that lie one after the other
 
@@ -22,38 +22,38 @@ unfoldable pub touching : ℕ → ℕ → ℕ → ℕ
 touching bytes words width = cond (eqb bytes (words * width)) width 0
 
 -- the width of a type's words, where they fill its size; else 0
-unfoldable pub packedAs : Layout → ℕ
+unfoldable pub packedAs : Value → ℕ
 packedAs l = cond (eqb (l .size) 0) 0 (touching (l .size) (wordsIn l) (l .narrow))
 
 -- the width of the words of each part of a type that is no struct, where they lie one after the other; else 0
-unfoldable pub partWidth : List (List ℕ) → Layout → ℕ
+unfoldable pub partWidth : List (List ℕ) → Value → ℕ
 partWidth table l =
     cond (ltb (l .kind) 9) (l .narrow)
-    (cond (ltb 10 (l .kind)) (l .narrow) (packedAs (layoutAt table (l .reference))))
+    (cond (ltb 10 (l .kind)) (l .narrow) (packedAs (valueAt table (l .reference))))
 
 -- the width of the words of entry e, whatever the number of its elements, where they lie one after the other; else 0
 unfoldable pub runAt : List (List ℕ) → ℕ → ℕ
 runAt table e =
-    let l : Layout = layoutAt table e in
+    let l : Value = valueAt table e in
     cond (eqb (l .kind) 10) (touching (l .stride) (l .unit) (partWidth table l)) (packedAs l)
 
 -- the words of a layout are within the limit
-abbrev pub Counted : Layout → Type 0
+abbrev pub Counted : Value → Type 0
 Counted l = wordsIn l ≤ 4294967295
 
 -- what an array refers to is there
-pub record Referring (table : List (List ℕ)) (l : Layout) : Type 0 where
+pub record Referring (table : List (List ℕ)) (l : Value) : Type 0 where
   pub inside : 9 ≤ l .kind → l .kind ≤ 10 → l .reference < length table
-  pub counted : 9 ≤ l .kind → l .kind ≤ 10 → Counted (layoutAt table (l .reference))
+  pub counted : 9 ≤ l .kind → l .kind ≤ 10 → Counted (valueAt table (l .reference))
 
 -- what looking for the run of entry e asks
 pub record RunAsks (table : List (List ℕ)) (e : ℕ) : Type 0 where
   pub inside : e < length table
-  pub counted : Counted (layoutAt table e)
-  pub referring : Referring table (layoutAt table e)
+  pub counted : Counted (valueAt table e)
+  pub referring : Referring table (valueAt table e)
 
 -- a layout, but for its count
-unfoldable pub withCount : ℕ → Layout → Layout
+unfoldable pub withCount : ℕ → Value → Value
 withCount n l =
     record {
       kind = l .kind;
@@ -72,46 +72,46 @@ abbrev pub memberAt : List ℕ → ℕ → MemberEntry
 memberAt ms m = memberEntryFrom ms m
 
 -- the layout of a member's type
-abbrev pub memberLayout : List ℕ → List (List ℕ) → ℕ → Layout
-memberLayout ms table m = layoutAt table (memberAt ms m .type)
+abbrev pub memberValue : List ℕ → List (List ℕ) → ℕ → Value
+memberValue ms table m = valueAt table (memberAt ms m .type)
 
 -- the number that the file gives, else the type's own
 unfoldable pub orOwn : Option ℕ → ℕ → ℕ
 orOwn given own = present (givenOr given (some own))
 
 abbrev pub memberAlign : List ℕ → List (List ℕ) → ℕ → ℕ
-memberAlign ms table m = orOwn (givenAlign (memberAt ms m)) (memberLayout ms table m .align)
+memberAlign ms table m = orOwn (givenAlign (memberAt ms m)) (memberValue ms table m .align)
 
 abbrev pub memberSize : List ℕ → List (List ℕ) → ℕ → ℕ
-memberSize ms table m = orOwn (givenSize (memberAt ms m)) (memberLayout ms table m .size)
+memberSize ms table m = orOwn (givenSize (memberAt ms m)) (memberValue ms table m .size)
 
 -- the member at m, where the one before it ended at `end`
-unfoldable pub placedAt : List ℕ → List (List ℕ) → ℕ → ℕ → Placed
-placedAt ms table m end =
+unfoldable pub slotAt : List ℕ → List (List ℕ) → ℕ → ℕ → Slot
+slotAt ms table m end =
     record {
       ty = memberAt ms m .type;
       start = up (memberAlign ms table m) end;
       end = up (memberAlign ms table m) end + memberSize ms table m;
-      words = wordsIn (memberLayout ms table m);
+      words = wordsIn (memberValue ms table m);
     }
 
 -- its entry and its type's value are there, and its start is within the limit
-pub record Placeable (ms : List ℕ) (table : List (List ℕ)) (m end : ℕ) : Type 0 where
+pub record SlotAsks (ms : List ℕ) (table : List (List ℕ)) (m end : ℕ) : Type 0 where
   pub inside : m + 12 ≤ length ms
   pub type-inside : memberAt ms m .type < length table
-  pub counted : Counted (memberLayout ms table m)
+  pub counted : Counted (memberValue ms table m)
   pub power : IsPower (memberAlign ms table m)
   pub low : up (memberAlign ms table m) end ≤ limit
 
 -- ---- a member further on, where member entries are so many bytes long
 
 -- member i of those from m on, where the one before them ended at `end`
-unfoldable pub placedIn : List ℕ → List (List ℕ) → ℕ → ℕ → ℕ → ℕ → Placed
-placedIn ms table length m end zero = placedAt ms table m end
-placedIn ms table length m end (suc i) = placedIn ms table length (m + length) (placedAt ms table m end .end) i
+unfoldable pub slotIn : List ℕ → List (List ℕ) → ℕ → ℕ → ℕ → ℕ → Slot
+slotIn ms table length m end zero = slotAt ms table m end
+slotIn ms table length m end (suc i) = slotIn ms table length (m + length) (slotAt ms table m end .end) i
 
 -- it and those before it can be placed
-unfoldable pub Placeables : List ℕ → List (List ℕ) → ℕ → ℕ → ℕ → ℕ → Type 0
-Placeables ms table length m end zero = Placeable ms table m end
-Placeables ms table length m end (suc i) =
-    Placeable ms table m end × Placeables ms table length (m + length) (placedAt ms table m end .end) i
+unfoldable pub SlotsAsk : List ℕ → List (List ℕ) → ℕ → ℕ → ℕ → ℕ → Type 0
+SlotsAsk ms table length m end zero = SlotAsks ms table m end
+SlotsAsk ms table length m end (suc i) =
+    SlotAsks ms table m end × SlotsAsk ms table length (m + length) (slotAt ms table m end .end) i

@@ -8,8 +8,8 @@ use Rattle.file.specs.Fields.{memberIs}
 use Rattle.layout_values.specs.Value.{wordsIn}
 use Rattle.layout_structs.proofs.Joinings.{align-above, joins-past, joins-open, joins-end-past, joins-closed, joins-words}
 use borrow.Author.Needs.{needs}
-use Rattle.layout_structs.proofs.place.Statement.{statement}
-use Rattle.layout_structs.proofs.place.Tie as tie
+use Rattle.layout_structs.proofs.join.Statement.{statement}
+use Rattle.layout_structs.proofs.join.Tie as tie
 
 align-is : (c : tie.After-chosen2) →
     let a = c .before .before .before .before .args in
@@ -91,8 +91,8 @@ returns-4 c ms t j =
     (sym (o .opens .ensures t (j .layout) (j .well-formed)) ∙ e .before .if1 .left) _ (size-is (r .before)) _
     (sym (e .sum .ensures) ∙ x .end .given .1) _ (w .words-of .ensures))
 
-pub place-spec : {M : Type 1} → statement M
-place-spec =
+pub join-spec : {M : Type 1} → statement M
+join-spec =
     tie.close (tie.spec
     (λ c κs. search needs) (λ c κs. search needs) (λ c κs. search needs) (λ c κs. search needs) round-up-requires
     (λ c. search needs) (λ c. search needs) returns (λ c κs. search needs) (λ c κs. search needs) (λ c κs. search needs)
