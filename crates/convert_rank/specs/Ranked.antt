@@ -7,7 +7,7 @@ use mathlib.Core.List.{List}
 use mathlib.Core.Option.{Option, none, some}
 use lib.Dec.{eqb}
 use lib.ListN.{length}
-use Rattle.wgsl.specs.Types.{Scalar, Ty, vector, matrix, atomic}
+use Rattle.wgsl.specs.Types.{Scalar, Ty, vector, matrix, atomic, vectorKind, matrixKind}
 use Rattle.wgsl.specs.Said.{good}
 use Rattle.wgsl.specs.File.{trailerOf, TypeEntry}
 use Rattle.wgsl.specs.Rule.{typesOf}
@@ -26,4 +26,4 @@ pub record Pair (f : List ℕ) (ts : List Ty) (start a b : ℕ) : Type 0 where
 
 -- the type over a scalar that the fields of an entry say: of kind 7 a vector, of kind 8 a matrix, else (11) an atomic
 unfoldable pub overScalar : TypeEntry → Scalar → Ty
-overScalar x s = cond (eqb (x .kind) 7) (vector (x .rows) s) (cond (eqb (x .kind) 8) (matrix (x .columns) (x .rows) s) (atomic s))
+overScalar x s = cond (eqb (x .kind) vectorKind) (vector (x .rows) s) (cond (eqb (x .kind) matrixKind) (matrix (x .columns) (x .rows) s) (atomic s))

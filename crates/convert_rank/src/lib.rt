@@ -3,8 +3,15 @@ pub mod scalar;
 
 use crate::scalar::Ranked;
 use crate::scalar::scalar_rank;
+use file::fields::TYPE_ENTRY_LENGTH;
 use file::fields::TypeEntry;
 use file::fields::entry_at;
+use file::kinds::ARRAY;
+use file::kinds::LAST_SCALAR;
+use file::kinds::MATRIX;
+use file::kinds::RUNTIME;
+use file::kinds::STRUCT;
+use file::kinds::VECTOR;
 use numbers::wide::wide;
 ghost use mathlib.Core.Path.{_≡_};
 ghost use mathlib.Core.List.{List};
@@ -13,7 +20,7 @@ ghost use Prim.Native.Nat.{_+_, _*_, _≤_};
 ghost use lib.ListN.{length, getElem?};
 ghost use Rattle.wgsl.specs.Types.{Scalar, Ty, scalarKind};
 ghost use Rattle.wgsl.specs.Said.{good};
-ghost use Rattle.wgsl.specs.File.{trailerOf, typeEntryAt};
+ghost use Rattle.wgsl.specs.File.{typeEntryLength, trailerOf, typeEntryAt};
 ghost use Rattle.wgsl.specs.Rule.{typesOf};
 ghost use Rattle.wgsl.specs.Rank.{rankOf};
 ghost use Rattle.file.specs.Fields.{entryIs};
@@ -21,10 +28,10 @@ ghost use Rattle.convert_rank.specs.Ranked.{rankIs, Pair, overScalar};
 
 // Type entry `k`, where the entries begin at `start`.
 fn entry_of(f: &[u8], start: usize, k: usize) -> TypeEntry
-    requires { ⌜ (start ≡ trailerOf (now f) .start) × (start + 12 * k + 12 ≤ length (now f)) ⌝ }
+    requires { ⌜ (start ≡ trailerOf (now f) .start) × (start + typeEntryLength * k + typeEntryLength ≤ length (now f)) ⌝ }
     ensures { λ r. ⌜ entryIs r ≡ typeEntryAt (now (f .entry)) k ⌝ }
 {
-    entry_at(f, start + 12 * k)
+    entry_at(f, start + TYPE_ENTRY_LENGTH * k)
 }
 
 // The rank of two types of one kind over scalars of kinds `u` and `v`: two vectors, two matrices or two atomics, with the fields `x` and `y`.
@@ -32,13 +39,13 @@ fn over_scalar_rank(x: TypeEntry, y: TypeEntry, u: u32, v: u32) -> Ranked
     requires { ⌜ x .kind ≡ y .kind ⌝ }
     ensures { λ r. ⌜ ((s t : Scalar) → scalarKind s ≡ u → scalarKind t ≡ v → rankIs r ≡ rankOf (overScalar (entryIs x) s) (overScalar (entryIs y) t)) ⌝ }
 {
-    if x.kind == 7 {
+    if x.kind == VECTOR {
         if x.rows != y.rows {
             return Ranked::No;
         }
         return scalar_rank(u, v);
     }
-    if x.kind == 8 {
+    if x.kind == MATRIX {
         if x.columns != y.columns {
             return Ranked::No;
         }
@@ -61,8 +68,8 @@ pub fn entry_rank(f: &[u8], start: usize, a: usize, b: usize) -> Ranked
 {
     let x = entry_of(f, start, a);
     let y = entry_of(f, start, b);
-    if x.kind <= 6 {
-        if y.kind <= 6 {
+    if x.kind <= LAST_SCALAR {
+        if y.kind <= LAST_SCALAR {
             return scalar_rank(x.kind, y.kind);
         }
         return Ranked::No;
@@ -71,7 +78,7 @@ pub fn entry_rank(f: &[u8], start: usize, a: usize, b: usize) -> Ranked
         return Ranked::No;
     }
     // "structs by entry number"
-    if x.kind == 12 {
+    if x.kind == STRUCT {
         if a == b {
             return Ranked::Is(0);
         }
@@ -79,13 +86,13 @@ pub fn entry_rank(f: &[u8], start: usize, a: usize, b: usize) -> Ranked
     }
     let p = wide(x.reference);
     let q = wide(y.reference);
-    if x.kind == 9 {
+    if x.kind == ARRAY {
         if x.count != y.count {
             return Ranked::No;
         }
         return entry_rank(f, start, p, q);
     }
-    if x.kind == 10 {
+    if x.kind == RUNTIME {
         return entry_rank(f, start, p, q);
     }
     let u = entry_of(f, start, p);

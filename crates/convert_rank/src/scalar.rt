@@ -1,4 +1,10 @@
 // The rank of one scalar to another, by their kinds.
+use file::kinds::ABSTRACT_FLOAT;
+use file::kinds::ABSTRACT_INT;
+use file::kinds::F16;
+use file::kinds::F32;
+use file::kinds::I32;
+use file::kinds::U32;
 ghost use mathlib.Core.Path.{_≡_};
 ghost use Rattle.wgsl.specs.Types.{Scalar, scalarKind};
 ghost use Rattle.wgsl.specs.Rank.{fromAbstractInt, fromAbstractFloat, scalarRank};
@@ -14,19 +20,19 @@ pub enum Ranked {
 fn from_abstract_int(kind: u32) -> Ranked
     ensures { λ r. ⌜ ((s : Scalar) → scalarKind s ≡ kind → (kind ≡ 5 → ⊥) → rankIs r ≡ fromAbstractInt s) ⌝ }
 {
-    if kind == 1 {
+    if kind == I32 {
         return Ranked::Is(3);
     }
-    if kind == 2 {
+    if kind == U32 {
         return Ranked::Is(4);
     }
-    if kind == 6 {
+    if kind == ABSTRACT_FLOAT {
         return Ranked::Is(5);
     }
-    if kind == 3 {
+    if kind == F32 {
         return Ranked::Is(6);
     }
-    if kind == 4 {
+    if kind == F16 {
         return Ranked::Is(7);
     }
     Ranked::No
@@ -36,10 +42,10 @@ fn from_abstract_int(kind: u32) -> Ranked
 fn from_abstract_float(kind: u32) -> Ranked
     ensures { λ r. ⌜ ((s : Scalar) → scalarKind s ≡ kind → (kind ≡ 6 → ⊥) → rankIs r ≡ fromAbstractFloat s) ⌝ }
 {
-    if kind == 3 {
+    if kind == F32 {
         return Ranked::Is(1);
     }
-    if kind == 4 {
+    if kind == F16 {
         return Ranked::Is(2);
     }
     Ranked::No
@@ -52,10 +58,10 @@ pub fn scalar_rank(a: u32, b: u32) -> Ranked
     if a == b {
         return Ranked::Is(0);
     }
-    if a == 5 {
+    if a == ABSTRACT_INT {
         return from_abstract_int(b);
     }
-    if a == 6 {
+    if a == ABSTRACT_FLOAT {
         return from_abstract_float(b);
     }
     Ranked::No

@@ -7,8 +7,15 @@ ghost use mathlib.Core.Path.{_≡_};
 ghost use Prim.Native.Nat.{_+_, _≤_, _<_};
 ghost use lib.ListN.{length};
 ghost use Rattle.wgsl.specs.Number.{load};
-ghost use Rattle.wgsl.specs.File.{typeEntryFrom, memberEntryFrom};
+ghost use Rattle.wgsl.specs.File.{typeEntryLength, typeEntryFrom, memberFieldsLength, memberEntryFrom};
 ghost use Rattle.file.specs.Fields.{entryIs, memberIs};
+
+// How long a type entry is, and a member entry of form 1; the second as a number of 32 bits too, as a struct's value carries it.
+pub const TYPE_ENTRY_LENGTH: usize = 12;
+
+pub const MEMBER_ENTRY_LENGTH: usize = 12;
+
+pub const MEMBER_ENTRY_STRIDE: u32 = 12;
 
 // A type entry.
 pub struct TypeEntry {
@@ -46,7 +53,7 @@ pub fn half(f: &[u8], at: usize) -> u32
 
 // The type entry that begins at `at`.
 pub fn entry_at(f: &[u8], at: usize) -> TypeEntry
-    requires { ⌜ at + 12 ≤ length (now f) ⌝ }
+    requires { ⌜ at + typeEntryLength ≤ length (now f) ⌝ }
     ensures { λ r. ⌜ entryIs r ≡ typeEntryFrom (now (f .entry)) at ⌝ }
 {
     TypeEntry {
@@ -62,7 +69,7 @@ pub fn entry_at(f: &[u8], at: usize) -> TypeEntry
 
 // The member entry that begins at `at`.
 pub fn member_at(f: &[u8], at: usize) -> MemberEntry
-    requires { ⌜ at + 12 ≤ length (now f) ⌝ }
+    requires { ⌜ at + memberFieldsLength ≤ length (now f) ⌝ }
     ensures { λ r. ⌜ memberIs r ≡ memberEntryFrom (now (f .entry)) at ⌝ }
 {
     MemberEntry {

@@ -1,5 +1,6 @@
 // The layout library: is a file good, and what size, alignment and minimum size has an entry. The check and the four questions of
 // document 01, over the promises of crates/layout_table.
+use file::kinds::RUNTIME;
 use file::trailer::Trailered;
 use file::trailer::check_trailer;
 use layout_table::Checked;
@@ -80,7 +81,7 @@ fn mark(n: u32) -> Maybe
 fn least(l: Value) -> u32
     ensures { λ r. ⌜ ((t : Ty) → l ≡ valueOf (l .reference) t → r ≡ present (minSizeOf t)) ⌝ }
 {
-    if l.kind == 10 {
+    if l.kind == RUNTIME {
         return l.stride;
     }
     l.size

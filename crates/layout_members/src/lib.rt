@@ -1,5 +1,6 @@
 // One member entry of a struct: its flags, tested by masks, and the rules 5 and 6 for it.
 use file::fields::MemberEntry;
+use file::kinds::RUNTIME;
 use layout_values::value::Value;
 use numbers::power::is_power;
 ghost use mathlib.Core.Path.{_≡_};
@@ -54,7 +55,7 @@ pub fn is_allowed(l: Value, last: bool) -> bool
         return true;
     }
     if last {
-        return l.kind == 10;
+        return l.kind == RUNTIME;
     }
     false
 }
@@ -66,7 +67,7 @@ pub fn size_fits(m: MemberEntry, l: Value) -> bool
     if !size_given(m) {
         return true;
     }
-    if l.kind == 10 {
+    if l.kind == RUNTIME {
         return false;
     }
     l.size <= m.size

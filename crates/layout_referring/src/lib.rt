@@ -1,5 +1,15 @@
 // The kinds that refer to one lower entry: 7 to 11. Each is handed that entry's layout.
 use file::fields::TypeEntry;
+use file::kinds::ABSTRACT_INT;
+use file::kinds::ARRAY;
+use file::kinds::ATOMIC;
+use file::kinds::F32;
+use file::kinds::I32;
+use file::kinds::LAST_SCALAR;
+use file::kinds::MATRIX;
+use file::kinds::RUNTIME;
+use file::kinds::U32;
+use file::kinds::VECTOR;
 use layout_values::scalars::scalar_size;
 use layout_values::scalars::unless_absent;
 use layout_values::scalars::vector_align;
@@ -29,7 +39,7 @@ pub fn vector(e: TypeEntry, l: Value) -> Made
     if !zeros(e.columns, e.count, 0, 0) {
         return Made::Rule;
     }
-    if 6 < kind {
+    if LAST_SCALAR < kind {
         return Made::Rule;
     }
     if rows < 2 {
@@ -42,7 +52,7 @@ pub fn vector(e: TypeEntry, l: Value) -> Made
     let align = vector_align(rows, kind);
     let unit = unless_absent(align, 1);
     Made::Laid(Value {
-        kind: 7,
+        kind: VECTOR,
         narrow: l.narrow,
         reference: e.reference,
         count: rows,
@@ -64,13 +74,13 @@ pub fn matrix(e: TypeEntry, l: Value) -> Made
     if !zeros(e.count, 0, 0, 0) {
         return Made::Rule;
     }
-    if kind < 3 {
+    if kind < F32 {
         return Made::Rule;
     }
-    if 6 < kind {
+    if LAST_SCALAR < kind {
         return Made::Rule;
     }
-    if kind == 5 {
+    if kind == ABSTRACT_INT {
         return Made::Rule;
     }
     if columns < 2 {
@@ -88,7 +98,7 @@ pub fn matrix(e: TypeEntry, l: Value) -> Made
     let align = vector_align(rows, kind);
     let unit = unless_absent(align, rows);
     Made::Laid(Value {
-        kind: 8,
+        kind: MATRIX,
         narrow: l.narrow,
         reference: e.reference,
         count: columns,
@@ -119,7 +129,7 @@ pub fn array(e: TypeEntry, l: Value) -> Made
     let unit = words_of(l);
     if align == 0 {
         return Made::Laid(Value {
-            kind: 9,
+            kind: ARRAY,
             narrow: l.narrow,
             reference: e.reference,
             count,
@@ -136,7 +146,7 @@ pub fn array(e: TypeEntry, l: Value) -> Made
         return Made::Large;
     };
     Made::Laid(Value {
-        kind: 9,
+        kind: ARRAY,
         narrow: l.narrow,
         reference: e.reference,
         count,
@@ -166,7 +176,7 @@ pub fn runtime(e: TypeEntry, l: Value) -> Made
         return Made::Large;
     };
     Made::Laid(Value {
-        kind: 10,
+        kind: RUNTIME,
         narrow: l.narrow,
         reference: e.reference,
         count: 0,
@@ -186,14 +196,14 @@ pub fn atomic(e: TypeEntry, l: Value) -> Made
     if !zeros(e.columns, e.rows, e.count, 0) {
         return Made::Rule;
     }
-    if kind < 1 {
+    if kind < I32 {
         return Made::Rule;
     }
-    if 2 < kind {
+    if U32 < kind {
         return Made::Rule;
     }
     Made::Laid(Value {
-        kind: 11,
+        kind: ATOMIC,
         narrow: 4,
         reference: e.reference,
         count: 1,
@@ -210,19 +220,19 @@ pub fn over_entry(e: TypeEntry, l: Value) -> Made
     ensures { λ r. ⌜ ((t : Ty) → l ≡ valueOf (l .reference) t → everywhere isWellFormed t ≡ true → r ≡ madeOf (e .reference) (overMade (some t) (entryIs e))) ⌝ }
 {
     let kind = e.kind;
-    if kind == 7 {
+    if kind == VECTOR {
         return vector(e, l);
     }
-    if kind == 8 {
+    if kind == MATRIX {
         return matrix(e, l);
     }
-    if kind == 9 {
+    if kind == ARRAY {
         return array(e, l);
     }
-    if kind == 10 {
+    if kind == RUNTIME {
         return runtime(e, l);
     }
-    if kind == 11 {
+    if kind == ATOMIC {
         return atomic(e, l);
     }
     Made::Rule

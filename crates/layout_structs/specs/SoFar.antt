@@ -10,9 +10,9 @@ use mathlib.Core.Bool.{Bool, true, false, cond, _&&_}
 use mathlib.Core.List.{List, [], _∷_}
 use mathlib.Core.Option.{Option, some}
 use lib.ListN.{length, take, getElem?}
-use Rattle.wgsl.specs.Types.{Ty, Members, no-more, member, endsInRuntime, everywhere, everyMember}
+use Rattle.wgsl.specs.Types.{Ty, Members, no-more, member, endsInRuntime, everywhere, everyMember, structKind}
 use Rattle.wgsl.specs.Size.{present, membersAlign, membersEnd, offsetsOf, withinLimits}
-use Rattle.wgsl.specs.File.{Trailer, trailerOf, typeEntryLength, memberEntryLength, TypeEntry, MemberEntry, givenSize, givenAlign, restIsZero}
+use Rattle.wgsl.specs.File.{Trailer, trailerOf, typeEntryLength, memberEntryLength, TypeEntry, MemberEntry, givenSize, givenAlign, restIsZero, mostTypes, mostMembers}
 use Rattle.wgsl.specs.Rule.{unused, structMade, countOf, memberAllowed, membersAllowed, givenSizeFits, givenAlignFits, membersGivenFit, isWellFormed}
 use Rattle.layout_values.specs.declared.value.Value.{Value}
 use Rattle.layout_values.specs.declared.value.Made.the-variants as made
@@ -46,12 +46,12 @@ endsOf ms =
 unfoldable pub structOf : TypeEntry → Ends → ℕ → Value
 structOf e p size =
     record {
-      kind = 12;
+      kind = structKind;
       narrow = p .narrow;
       reference = e .reference;
       count = e .count;
       unit = p .words;
-      stride = 12;
+      stride = memberEntryLength 1;
       size = size;
       align = p .align;
     }
@@ -104,7 +104,7 @@ steppedTo last ms t m = cond (restIsZero m && memberAllowed last t) (Next (soFar
 -- all members of a struct, which passed 5
 pub record Complete (ms : Members) : Type 0 where
   pub some-there : 1 ≤ countOf ms
-  pub few : countOf ms ≤ 1024
+  pub few : countOf ms ≤ mostMembers
   pub allowed : membersAllowed ms ≡ true
   pub well-formed : everyMember isWellFormed ms ≡ true
 
@@ -127,7 +127,7 @@ memberPlace f m =
 
 -- the members that a struct's entry names
 pub record Named (e : TypeEntry) (first count : ℕ) : Type 0 where
-  pub kind : e .kind ≡ 12
+  pub kind : e .kind ≡ structKind
   pub zeros : unused (e .columns ∷ e .rows ∷ 0 ∷ 0 ∷ []) ≡ true
   pub first-is : first ≡ e .reference
   pub count-is : count ≡ e .count
@@ -136,7 +136,7 @@ pub record Named (e : TypeEntry) (first count : ℕ) : Type 0 where
 pub record Spans (members : ℕ) (e : TypeEntry) (first count : ℕ) : Type 0 where
   pub within : first + count ≤ members
   pub named : 1 ≤ count → Named e first count
-  pub empty : e .kind ≡ 12 → count ≡ 0 → (f : List ℕ) (ts : List Ty) (k : ℕ) → members ≡ trailerOf f .members → made.Rule ≡ madeOf (e .reference) (structMade f ts k e)
+  pub empty : e .kind ≡ structKind → count ≡ 0 → (f : List ℕ) (ts : List Ty) (k : ℕ) → members ≡ trailerOf f .members → made.Rule ≡ madeOf (e .reference) (structMade f ts k e)
 
 -- the first entries of the table hold the values of these types of a file, which its rules leave
 pub record Holds (f : List ℕ) (table : List (List ℕ)) (ts : List Ty) : Type 0 where
@@ -147,4 +147,4 @@ pub record Holds (f : List ℕ) (table : List (List ℕ)) (ts : List Ty) : Type 
 pub record Lower (f : List ℕ) (table : List (List ℕ)) (k : ℕ) (ts : List Ty) : Type 0 where
   pub holds : Holds f table ts
   pub count : length ts ≡ k
-  pub few : k ≤ 256
+  pub few : k ≤ mostTypes

@@ -1,6 +1,8 @@
 // A struct: its members one after the other.
+use file::fields::MEMBER_ENTRY_STRIDE;
 use file::fields::MemberEntry;
 use file::fields::TypeEntry;
+use file::kinds::STRUCT;
 use layout_members::align_fits;
 use layout_members::align_given;
 use layout_members::is_allowed;
@@ -143,17 +145,17 @@ pub fn step(past: SoFar, l: Value, m: MemberEntry, last: bool) -> Stepped
     }
 }
 
-// A struct's layout. Its member entries are 12 bytes long.
+// A struct's layout. Its stride is how long its member entries are.
 fn struct_of(e: TypeEntry, p: Ends, size: u32) -> Value
     ensures { λ r. ⌜ r ≡ structOf (entryIs e) p size ⌝ }
 {
     Value {
-        kind: 12,
+        kind: STRUCT,
         narrow: p.narrow,
         reference: e.reference,
         count: e.count,
         unit: p.words,
-        stride: 12,
+        stride: MEMBER_ENTRY_STRIDE,
         size,
         align: p.align,
     }
@@ -194,7 +196,7 @@ pub fn finish(e: TypeEntry, past: SoFar, count: usize) -> Made
 pub fn span_of(e: TypeEntry, members: usize) -> Span
     ensures { λ r. ⌜ Spans members (entryIs e) (r .first) (r .count) ⌝ }
 {
-    if e.kind != 12 {
+    if e.kind != STRUCT {
         return Span { first: 0, count: 0 };
     }
     if !zeros(e.columns, e.rows, 0, 0) {

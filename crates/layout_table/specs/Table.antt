@@ -9,7 +9,7 @@ use lib.ListN.{length}
 use Rattle.wgsl.specs.Types.{Ty}
 use Rattle.wgsl.specs.Said.{Said, good, refused, _>>=_}
 use Rattle.wgsl.specs.File as wgsl
-use Rattle.wgsl.specs.File.{trailerOf, TypeEntry, typeEntryAt, memberEntryLength}
+use Rattle.wgsl.specs.File.{trailerOf, TypeEntry, typeEntryAt, memberEntryLength, mostMembers}
 use Rattle.wgsl.specs.Rule.{typesOf}
 use Rattle.wgsl.specs.Call.{entryOf}
 use Rattle.said.specs.Refusal.{numberOf, placeOf}
@@ -84,7 +84,7 @@ pub record Upward (f : List ℕ) (k : ℕ) (e : TypeEntry) (base members : ℕ) 
   pub entry-is : e ≡ typeEntryAt f k
   pub base-is : base ≡ membersStart f
   pub members-is : members ≡ trailerOf f .members
-  pub inside : base + 12 * members ≤ length f
-  pub few : members ≤ 1024
+  pub inside : base + memberEntryLength (trailerOf f .form) * members ≤ length f
+  pub few : members ≤ mostMembers
   pub lower : Lower f table k ts
   pub table-inside : k < length table

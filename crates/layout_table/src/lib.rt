@@ -1,7 +1,11 @@
 // The table of 256 layouts, worked out upward from entry 0.
+use file::fields::MEMBER_ENTRY_LENGTH;
+use file::fields::TYPE_ENTRY_LENGTH;
 use file::fields::TypeEntry;
 use file::fields::entry_at;
 use file::fields::member_at;
+use file::kinds::LAST_SCALAR;
+use file::kinds::STRUCT;
 use file::trailer::Trailer;
 use file::trailer::Trailered;
 use file::trailer::check_trailer;
@@ -24,7 +28,7 @@ use numbers::wide::wide;
 use said::refusal::Refusal;
 ghost use mathlib.Core.Path.{_≡_};
 ghost use mathlib.Core.List.{List};
-ghost use Rattle.wgsl.specs.Types.{Ty};
+ghost use Rattle.wgsl.specs.Types.{Ty, structKind};
 ghost use Rattle.wgsl.specs.Said.{good};
 ghost use Rattle.wgsl.specs.File.{checkTrailer};
 ghost use Rattle.wgsl.specs.Rule.{structMade, typeOfEntry};
@@ -46,16 +50,16 @@ fn struct_entry(
     members: usize,
     table: &[Row],
 ) -> Made
-    requires { ⌜ (e .kind ≡ 12) × ((ts : List Ty) × Upward (now f) k (entryIs e) base members (now table) ts) ⌝ }
+    requires { ⌜ (e .kind ≡ structKind) × ((ts : List Ty) × Upward (now f) k (entryIs e) base members (now table) ts) ⌝ }
     ensures { λ r. ⌜ ((ts : List Ty) → Upward (now (f .entry)) k (entryIs e) base members (now (table .entry)) ts → r ≡ madeOf (e .reference) (structMade (now (f .entry)) ts k (entryIs e))) ⌝ }
 {
     let s = span_of(e, members);
     let count = s.count;
-    let at = base + 12 * s.first;
+    let at = base + MEMBER_ENTRY_LENGTH * s.first;
     let mut past = no_members();
     let mut i: usize = 0;
     while i < count {
-        let m = member_at(f, at + 12 * i);
+        let m = member_at(f, at + MEMBER_ENTRY_LENGTH * i);
         let ty = wide(m.ty);
         if k <= ty {
             return Made::Rule;
@@ -81,10 +85,10 @@ fn entry_made(f: &[u8], e: TypeEntry, k: usize, base: usize, members: usize, tab
     if !zeros(e.zero3, e.zero6, 0, 0) {
         return Made::Rule;
     }
-    if e.kind <= 6 {
+    if e.kind <= LAST_SCALAR {
         return scalar_entry(e);
     }
-    if e.kind == 12 {
+    if e.kind == STRUCT {
         return struct_entry(f, e, k, base, members, table);
     }
     let r = wide(e.reference);
@@ -103,10 +107,10 @@ pub fn fill(f: &[u8], t: Trailer, table: &mut [Row]) -> Checked
     let types = wide(t.types);
     let members = wide(t.members);
     let start = wide(t.start);
-    let base = start + 12 * types;
+    let base = start + TYPE_ENTRY_LENGTH * types;
     let mut k: usize = 0;
     while k < types {
-        let e = entry_at(f, start + 12 * k);
+        let e = entry_at(f, start + TYPE_ENTRY_LENGTH * k);
         match entry_made(f, e, k, base, members, table) {
             Made::Laid(l) => {
                 table[k] = row_of(l);
@@ -163,11 +167,11 @@ pub fn find(f: &[u8], t: Trailer, entry: u32, table: &mut [Row]) -> Grounded
             if t.types <= entry {
                 return Grounded::Refused(Refusal::Missing);
             }
-            let start = wide(t.start) + 12 * wide(t.types);
+            let start = wide(t.start) + TYPE_ENTRY_LENGTH * wide(t.types);
             Grounded::Is(Ground {
                 value: value_at(table, wide(entry)),
                 start,
-                end: start + 12 * wide(t.members),
+                end: start + MEMBER_ENTRY_LENGTH * wide(t.members),
             })
         }
     }

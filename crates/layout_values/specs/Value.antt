@@ -12,7 +12,7 @@ use lib.Dec.{eqb}
 use lib.ListN.{length, getD, replicate}
 use Rattle.wgsl.specs.Types.{Scalar, Ty, scalar, vector, matrix, array, runtime, atomic, struct, Members, no-more, member, everywhere, kindOf, structKind}
 use Rattle.wgsl.specs.Size.{present, widthOf, vectorAlign, sizeOf, alignOf, strideOf, fitsLimit, hasLayout, isStored}
-use Rattle.wgsl.specs.File.{memberEntryLength, typeEntryAt}
+use Rattle.wgsl.specs.File.{memberEntryLength, typeEntryAt, mostTypes}
 use Rattle.wgsl.specs.Rule.{countOf, isAllowed, givenFits, isWellFormed}
 use Rattle.wgsl.specs.Place.{wordCount}
 use Rattle.layout_values.specs.declared.value.Value.{Value}
@@ -107,7 +107,7 @@ valueAt table e =
 
 -- "A table of 256 layouts": before it is filled
 unfoldable pub blankTable : List (List ℕ)
-blankTable = replicate 256 (replicate 8 0)
+blankTable = replicate mostTypes (replicate 8 0)
 
 -- the values of types whose entries are those of a file from entry k on
 unfoldable pub valuesFrom : List ℕ → ℕ → List Ty → List (List ℕ)
@@ -116,7 +116,7 @@ valuesFrom f k (t ∷ ts) = rowOf (valueOf (typeEntryAt f k .reference) t) ∷ v
 
 -- the table of a file with these types: their values, and blanks past them
 unfoldable pub valuesOf : List ℕ → List Ty → List (List ℕ)
-valuesOf f ts = valuesFrom f 0 ts ++ replicate (256 - length ts) (replicate 8 0)
+valuesOf f ts = valuesFrom f 0 ts ++ replicate (mostTypes - length ts) (replicate 8 0)
 
 -- ---- the verdict on an entry's type
 

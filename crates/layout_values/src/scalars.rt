@@ -2,12 +2,16 @@
 use crate::value::Made;
 use crate::value::Value;
 use file::fields::TypeEntry;
+use file::kinds::BOOL;
+use file::kinds::F16;
+use file::kinds::F32;
+use file::kinds::I32;
 ghost use mathlib.Core.Path.{_≡_};
 ghost use mathlib.Core.Bool.{cond};
 ghost use mathlib.Core.List.{[], _∷_};
 ghost use Prim.Native.Nat.{_≤_};
 ghost use lib.Dec.{eqb};
-ghost use Rattle.wgsl.specs.Types.{Scalar, scalarKind};
+ghost use Rattle.wgsl.specs.Types.{Scalar, scalarKind, lastScalarKind};
 ghost use Rattle.wgsl.specs.Size.{present, widthOf, vectorAlign};
 ghost use Rattle.wgsl.specs.Rule.{unused, scalarMade};
 ghost use Rattle.file.specs.Fields.{entryIs};
@@ -31,13 +35,13 @@ pub fn zeros(a: u32, b: u32, c: u32, d: u32) -> bool
 
 // The size of a scalar, and its alignment: 0 where it has none.
 pub fn scalar_size(kind: u32) -> u32
-    requires { ⌜ kind ≤ 6 ⌝ }
+    requires { ⌜ kind ≤ lastScalarKind ⌝ }
     ensures { λ r. ⌜ ((s : Scalar) → scalarKind s ≡ kind → r ≡ present (widthOf s)) × (r ≤ 4) ⌝ }
 {
-    if kind <= 3 {
+    if kind <= F32 {
         return 4;
     }
-    if kind == 4 {
+    if kind == F16 {
         return 2;
     }
     0
@@ -45,10 +49,10 @@ pub fn scalar_size(kind: u32) -> u32
 
 // The bytes of a scalar that may be stored; 0 of any other.
 fn stored_width(kind: u32) -> u32
-    requires { ⌜ kind ≤ 6 ⌝ }
+    requires { ⌜ kind ≤ lastScalarKind ⌝ }
     ensures { λ r. ⌜ ((s : Scalar) → scalarKind s ≡ kind → r ≡ storedWidth s) ⌝ }
 {
-    if kind < 1 {
+    if kind < I32 {
         return 0;
     }
     scalar_size(kind)
@@ -56,14 +60,14 @@ fn stored_width(kind: u32) -> u32
 
 // The alignment of a vector, and of a matrix column: 0 where it has none.
 pub fn vector_align(rows: u32, kind: u32) -> u32
-    requires { ⌜ (rows ≤ 4) × (kind ≤ 6) ⌝ }
+    requires { ⌜ (rows ≤ 4) × (kind ≤ lastScalarKind) ⌝ }
     ensures { λ r. ⌜ ((s : Scalar) → scalarKind s ≡ kind → r ≡ present (vectorAlign rows s)) × (r ≤ 16) ⌝ }
 {
     let w = scalar_size(kind);
     if rows != 3 {
         return rows * w;
     }
-    if kind == 0 {
+    if kind == BOOL {
         return 0;
     }
     4 * w
@@ -78,7 +82,7 @@ pub fn unless_absent(align: u32, unit: u32) -> u32
 
 // A scalar's entry: kinds 0 to 6.
 pub fn scalar_entry(e: TypeEntry) -> Made
-    requires { ⌜ e .kind ≤ 6 ⌝ }
+    requires { ⌜ e .kind ≤ lastScalarKind ⌝ }
     ensures { λ r. ⌜ r ≡ madeOf (e .reference) (scalarMade (entryIs e)) ⌝ }
 {
     let kind = e.kind;

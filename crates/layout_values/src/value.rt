@@ -1,14 +1,33 @@
 // What the table holds of an entry: its value, eight numbers, and their names.
+use file::kinds::STRUCT;
 ghost use mathlib.Core.Path.{_≡_};
 ghost use mathlib.Core.Bool.{true};
 ghost use Prim.Native.Nat.{_<_, _≤_};
 ghost use lib.ListN.{length};
 ghost use Rattle.wgsl.specs.Types.{Ty, everywhere, isOpen};
 ghost use Rattle.wgsl.specs.Rule.{isWellFormed};
+ghost use Rattle.wgsl.specs.Round.{limit};
 ghost use Rattle.layout_values.specs.Value.{valueOf, wordsIn, rowOf, valueAt, blankTable};
 
-// The numbers of a layout, in its order. Without a gap, so that a blank table is cleared at once.
+// The numbers of a value, in its order. Without a gap, so that a blank table is cleared at once.
 pub type Row = [u32; 8];
+
+// Where each stands in a row.
+const KIND: usize = 0;
+
+const NARROW: usize = 1;
+
+const REFERENCE: usize = 2;
+
+const COUNT: usize = 3;
+
+const UNIT: usize = 4;
+
+const STRIDE: usize = 5;
+
+const SIZE: usize = 6;
+
+const ALIGN: usize = 7;
 
 // The layout of a type. A size, an alignment and a stride are above 0, and 0 stands for an absent one. Its parts are a vector's scalars,
 // a matrix's columns, an array's elements; a scalar and an atomic are one part.
@@ -64,14 +83,14 @@ pub fn value_at(table: &[Row], e: usize) -> Value
     ensures { λ r. ⌜ r ≡ valueAt (now (table .entry)) e ⌝ }
 {
     Value {
-        kind: table[e][0],
-        narrow: table[e][1],
-        reference: table[e][2],
-        count: table[e][3],
-        unit: table[e][4],
-        stride: table[e][5],
-        size: table[e][6],
-        align: table[e][7],
+        kind: table[e][KIND],
+        narrow: table[e][NARROW],
+        reference: table[e][REFERENCE],
+        count: table[e][COUNT],
+        unit: table[e][UNIT],
+        stride: table[e][STRIDE],
+        size: table[e][SIZE],
+        align: table[e][ALIGN],
     }
 }
 
@@ -87,10 +106,10 @@ pub fn opens(l: Value) -> bool
 
 // The words of a type, with no element of a runtime array; 0 where it has no layout.
 pub fn words_of(l: Value) -> u32
-    requires { ⌜ wordsIn l ≤ 4294967295 ⌝ }
+    requires { ⌜ wordsIn l ≤ limit ⌝ }
     ensures { λ r. ⌜ r ≡ wordsIn l ⌝ }
 {
-    if l.kind == 12 {
+    if l.kind == STRUCT {
         return l.unit;
     }
     l.count * l.unit

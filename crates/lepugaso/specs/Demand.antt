@@ -9,7 +9,7 @@ use mathlib.Core.Logic.{_⊎_}
 use mathlib.Core.Option.{some}
 use mathlib.Core.Path.{_≡_}
 use lib.ListN.{length, getD, getElem?, take, drop, set}
-use Rattle.wgsl.specs.Types.{Ty, isOpen}
+use Rattle.wgsl.specs.Types.{Ty, isOpen, lastScalarKind}
 use Rattle.wgsl.specs.Place.{extentOf, places, wordCount, wordsRead}
 use Rattle.wgsl.specs.Claim.{Outside, Apart, Uncovered, Stored, CanWrite}
 use Rattle.wgsl.specs.Demand.{Given, Words}
@@ -57,7 +57,7 @@ pub record TwoOnTheCode (f : List ℕ) (e : ℕ) (ws b : List ℕ) : Type 0 wher
 -- `view_at` answers the target t for the path, and t is one scalar
 pub record ToScalar (f : List ℕ) (e : ℕ) (b path : List ℕ) (t : Target) : Type 0 where
   pub views : Views f e path b (To t)
-  pub scalar : t .scalar ≤ 6
+  pub scalar : t .scalar ≤ lastScalarKind
 
 -- ---- set, and read again
 

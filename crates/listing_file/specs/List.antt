@@ -8,10 +8,11 @@ use mathlib.Core.Option.{some}
 use lib.ListN.{length, getElem?}
 use Rattle.wgsl.specs.Types.{Ty, everywhere}
 use Rattle.wgsl.specs.Rule.{isWellFormed}
+use Rattle.wgsl.specs.File.{mostTypes}
 use Rattle.layout_values.specs.Value.{valuesOf}
 
 pub record Entries (f : List ℕ) (table : List (List ℕ)) (types : ℕ) (ts : List Ty) : Type 0 where
   pub table-is : table ≡ valuesOf f ts
   pub count : types ≡ length ts
-  pub few : types ≤ 256
+  pub few : types ≤ mostTypes
   pub well-formed : (k : ℕ) (t : Ty) → getElem? ts k ≡ some t → everywhere isWellFormed t ≡ true

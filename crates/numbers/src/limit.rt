@@ -5,6 +5,9 @@ ghost use Prim.Native.Nat.{_+_, _*_, _<_};
 ghost use Rattle.wgsl.specs.Round.{up};
 ghost use Rattle.numbers.specs.Limit.{limited};
 
+// The most that a number may be, and so the most bytes of a buffer.
+pub const LIMIT: usize = 4294967295;
+
 pub enum Limited {
     Is(u32),
     TooLarge,

@@ -3,6 +3,8 @@ use crate::locate::locate;
 use bits::extract_bits_u32;
 use bits::extract_pattern;
 use bits::insert_bits_u32;
+use file::kinds::I32;
+use file::kinds::U32;
 use numbers::bytes::store_u32;
 use numbers::bytes::u32_at;
 use said::answer::Number;
@@ -23,14 +25,14 @@ ghost use Rattle.said.specs.declared.answer.Number.the-variants.{Is};
 ghost use Rattle.said.specs.Target.{saidWalked, targetIs};
 ghost use Rattle.paths.specs.Field.{foundIn, Integer};
 
-// 14, but for an i32 (kind 1) or a u32 (kind 2).
+// 14, but for an i32 or a u32.
 fn integer_of(t: Target) -> Walked
     ensures { λ r. ⌜ ((u : path.Target) → t ≡ targetIs u → saidWalked r ≡ foundIn (integerOf u)) ⌝ }
 {
-    if t.scalar == 1 {
+    if t.scalar == I32 {
         return Walked::To(t);
     }
-    if t.scalar == 2 {
+    if t.scalar == U32 {
         return Walked::To(t);
     }
     Walked::Refused(Refusal::Count)
@@ -53,7 +55,7 @@ fn field_of(t: Target, offset: u32, count: u32, buf: &[u8]) -> u32
 {
     let at = t.offset;
     let word = u32_at(buf, at);
-    if t.scalar == 1 {
+    if t.scalar == I32 {
         return extract_pattern(word, offset, count);
     }
     extract_bits_u32(word, offset, count)

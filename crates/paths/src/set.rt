@@ -1,5 +1,6 @@
 // `set`: one scalar at a path. Document 01's order is that of a view with 10, then 14, 16.
 use crate::locate::locate;
+use file::kinds::LAST_SCALAR;
 use numbers::bytes::store_u16;
 use numbers::bytes::store_u32;
 use said::answer::Number;
@@ -36,7 +37,7 @@ fn set_scalar(t: Target, word: u32, buf: &mut [u8]) -> Number
     ensures answer { λ r. ⌜ ((u : path.Target) → Roomy t u (length (now (buf .entry))) → saidNumber r ≡ answerOf (setTarget u word (now (buf .entry)))) ⌝ }
     ensures buffer { λ _. ⌜ ((u : path.Target) → Roomy t u (length (now (buf .entry))) → now (buf .exit) ≡ contentsOf (now (buf .entry)) (setTarget u word (now (buf .entry)))) ⌝ }
 {
-    if 6 < t.scalar {
+    if LAST_SCALAR < t.scalar {
         return Number::Refused(Refusal::Count);
     }
     if t.size == 2 {

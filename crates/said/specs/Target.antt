@@ -10,14 +10,18 @@ use Rattle.said.specs.declared.target.Target.{Target}
 use Rattle.said.specs.declared.target.Walked.{Walked}
 use Rattle.said.specs.declared.target.Walked.the-variants.{To, Refused}
 
--- the kind of the one scalar that a shape is; 7 where it is none
+-- what stands for a kind where there is no scalar
+abbrev pub noScalar : ℕ
+noScalar = 7
+
+-- the kind of the one scalar that a shape is
 unfoldable pub kindIn : Shape → ℕ
 kindIn (one s) = scalarKind s
-kindIn (parts n stride x) = 7
-kindIn (field offset x rest) = 7
-kindIn (whole z) = 7
+kindIn (parts n stride x) = noScalar
+kindIn (field offset x rest) = noScalar
+kindIn (whole z) = noScalar
 
--- the offset of a target, its bytes, and the kind of the one scalar that it is (7 where it is none)
+-- the offset of a target, its bytes, and the kind of the one scalar that it is
 abbrev pub targetIs : path.Target → Target
 targetIs t = record { offset = t .offset; size = spanOf (t .shape); scalar = kindIn (t .shape) }
 

@@ -9,7 +9,7 @@ use mathlib.Core.List.{List}
 use lib.Dec.{eqb, leb}
 use lib.ListN.{length}
 use Rattle.wgsl.specs.Round.{withinLimit}
-use Rattle.wgsl.specs.Types.{Ty}
+use Rattle.wgsl.specs.Types.{Ty, runtimeKind}
 use Rattle.wgsl.specs.Size.{hasLayout, isStorable}
 use Rattle.wgsl.specs.Said.{Said, good, refused, _>>_, refuse}
 use Rattle.said.specs.Refusal.{numberOf, placeOf}
@@ -56,14 +56,14 @@ lastSlot ms table l = slotIn ms table (l .stride) (l .reference * l .stride) 0 (
 -- the runtime array that an entry with the layout l is or ends in
 unfoldable pub restFrom : List ℕ → List (List ℕ) → Value → Rest
 restFrom ms table l =
-    cond (eqb (l .kind) 10) (record { value = l; offset = 0; fixed = 0 })
+    cond (eqb (l .kind) runtimeKind) (record { value = l; offset = 0; fixed = 0 })
     (record { value = valueAt table (lastSlot ms table l .ty); offset = lastSlot ms table l .start; fixed = l .unit })
 
 -- what finding it asks
 pub record Findable (ms : List ℕ) (table : List (List ℕ)) (l : Value) : Type 0 where
-  pub some-members : (l .kind ≡ 10 → ⊥) → 1 ≤ l .count
-  pub slots-ask : (l .kind ≡ 10 → ⊥) → SlotsAsk ms table (l .stride) (l .reference * l .stride) 0 (l .count - 1)
-  pub inside : (l .kind ≡ 10 → ⊥) → lastSlot ms table l .ty < length table
+  pub some-members : (l .kind ≡ runtimeKind → ⊥) → 1 ≤ l .count
+  pub slots-ask : (l .kind ≡ runtimeKind → ⊥) → SlotsAsk ms table (l .stride) (l .reference * l .stride) 0 (l .count - 1)
+  pub inside : (l .kind ≡ runtimeKind → ⊥) → lastSlot ms table l .ty < length table
 
 -- so many of its elements
 unfoldable pub openRest : Rest → ℕ → Rest

@@ -1,8 +1,10 @@
 // What reading and writing decide before they store anything.
+use file::kinds::RUNTIME;
 use layout_values::value::Row;
 use layout_values::value::Value;
 use layout_values::value::value_at;
 use layout_values::value::words_of;
+use numbers::limit::LIMIT;
 use numbers::wide::wide;
 use runs::Scan;
 use said::refusal::Refusal;
@@ -12,6 +14,7 @@ ghost use mathlib.Core.Bool.{true};
 ghost use Rattle.wgsl.specs.Types.{Ty, everywhere};
 ghost use Rattle.wgsl.specs.Rule.{isWellFormed};
 ghost use Rattle.wgsl.specs.Call.{allowed};
+ghost use Rattle.wgsl.specs.Round.{limit};
 ghost use Rattle.layout_values.specs.Value.{valueOf};
 ghost use Rattle.runs.specs.Ask.{saidScan};
 ghost use Rattle.walk_trees.specs.Slot.{Counted};
@@ -27,7 +30,7 @@ pub enum Allowed {
 pub fn allow(l: Value, bytes: usize, stored: bool) -> Allowed
     ensures { λ r. ⌜ ((t : Ty) → l ≡ valueOf (l .reference) t → everywhere isWellFormed t ≡ true → saidAllowed r ≡ allowed stored t bytes) ⌝ }
 {
-    if 4294967295 < bytes {
+    if LIMIT < bytes {
         return Allowed::Refused(Refusal::Long);
     }
     // what has an alignment is open or has a size
@@ -61,7 +64,7 @@ pub enum Fits {
 
 // How many elements so many words fill, after the fixed part.
 pub fn elements_for(words: usize, first: usize, unit: u32) -> Fits
-    requires { ⌜ (0 < unit) × (first ≤ 4294967295) ⌝ }
+    requires { ⌜ (0 < unit) × (first ≤ limit) ⌝ }
     ensures { λ r. ⌜ r ≡ elementsOf words first unit ⌝ }
 {
     let each = wide(unit);
@@ -117,7 +120,7 @@ pub fn rest_of(members: &[u8], table: &[Row], l: Value) -> Rest
     requires { ⌜ Findable (now members) (now table) l ⌝ }
     ensures { λ r. ⌜ r ≡ restFrom (now (members .entry)) (now (table .entry)) l ⌝ }
 {
-    if l.kind == 10 {
+    if l.kind == RUNTIME {
         return Rest {
             value: l,
             offset: 0,

@@ -10,7 +10,7 @@ use mathlib.Core.Option.{some}
 use lib.Dec.{eqb}
 use lib.ListN.{getElem?}
 use Rattle.wgsl.specs.Round.{limit}
-use Rattle.wgsl.specs.Types.{Scalar, Ty, scalar}
+use Rattle.wgsl.specs.Types.{Scalar, Ty, scalar, vectorKind, runtimeKind}
 use Rattle.wgsl.specs.Size.{hasLayout}
 use Rattle.wgsl.specs.Said.{good, refused}
 use Rattle.wgsl.specs.Place.{Shape, column, shapeOf, spanOf}
@@ -26,16 +26,16 @@ use Rattle.walk_path.specs.declared.enter.Entered.the-variants.{Into, No
 
 -- the bytes of entry e, which is no open struct
 unfoldable pub sizeAt : List (List ℕ) → ℕ → ℕ → ℕ
-sizeAt table n e = cond (eqb (valueAt table e .kind) 10) (n * valueAt table e .stride) (valueAt table e .size)
+sizeAt table n e = cond (eqb (valueAt table e .kind) runtimeKind) (n * valueAt table e .stride) (valueAt table e .size)
 
 -- the parts of entry e: a vector's scalars, a matrix's columns, an array's elements
 unfoldable pub partsAt : List (List ℕ) → ℕ → ℕ → ℕ
-partsAt table n e = cond (eqb (valueAt table e .kind) 10) n (valueAt table e .count)
+partsAt table n e = cond (eqb (valueAt table e .kind) runtimeKind) n (valueAt table e .count)
 
 -- entry e has parts, number i among them
 pub record Parted (table : List (List ℕ)) (n e i : ℕ) : Type 0 where
-  pub low : 7 ≤ valueAt table e .kind
-  pub high : valueAt table e .kind ≤ 10
+  pub low : vectorKind ≤ valueAt table e .kind
+  pub high : valueAt table e .kind ≤ runtimeKind
   pub inside : i < partsAt table n e
 
 -- ---- a place and its shape

@@ -1,15 +1,22 @@
 // Entering a place by a step.
 use crate::step::Step;
+use file::kinds::ATOMIC;
+use file::kinds::LAST_SCALAR;
+use file::kinds::MATRIX;
+use file::kinds::RUNTIME;
+use file::kinds::STRUCT;
+use file::kinds::VECTOR;
 use layout_values::value::Row;
 use layout_values::value::value_at;
 use numbers::wide::wide;
+use said::target::NO_SCALAR;
 use walk_trees::member_in;
 ghost use mathlib.Core.Path.{_≡_};
 ghost use mathlib.Core.List.{List};
 ghost use Prim.Native.Nat.{ℕ, _*_, _<_, _≤_};
 ghost use lib.ListN.{length};
 ghost use Rattle.wgsl.specs.Round.{limit};
-ghost use Rattle.wgsl.specs.Types.{Ty};
+ghost use Rattle.wgsl.specs.Types.{Ty, runtimeKind};
 ghost use Rattle.wgsl.specs.Place.{Shape};
 ghost use Rattle.wgsl.specs.Path.{index, member};
 ghost use Rattle.layout_values.specs.Value.{valueAt};
@@ -42,11 +49,11 @@ pub enum Entered {
 
 // The bytes of entry `e`, which is no open struct. A runtime array has `n` elements.
 fn size_at(table: &[Row], n: usize, e: usize) -> usize
-    requires { ⌜ (e < length (now table)) × (valueAt (now table) e .kind ≡ 10 → n * valueAt (now table) e .stride ≤ limit) ⌝ }
+    requires { ⌜ (e < length (now table)) × (valueAt (now table) e .kind ≡ runtimeKind → n * valueAt (now table) e .stride ≤ limit) ⌝ }
     ensures { λ r. ⌜ r ≡ sizeAt (now (table .entry)) n e ⌝ }
 {
     let r = value_at(table, e);
-    if r.kind == 10 {
+    if r.kind == RUNTIME {
         return n * wide(r.stride);
     }
     wide(r.size)
@@ -54,7 +61,7 @@ fn size_at(table: &[Row], n: usize, e: usize) -> usize
 
 // Entry `e` as what a step leads to.
 fn into_entry(table: &[Row], n: usize, e: usize, offset: usize) -> Entered
-    requires { ⌜ (e < length (now table)) × (valueAt (now table) e .kind ≡ 10 → n * valueAt (now table) e .stride ≤ limit) ⌝ }
+    requires { ⌜ (e < length (now table)) × (valueAt (now table) e .kind ≡ runtimeKind → n * valueAt (now table) e .stride ≤ limit) ⌝ }
     ensures { λ r. ⌜ r ≡ Into (record { offset = offset; size = sizeAt (now (table .entry)) n e; stand = Entry e }) ⌝ }
 {
     Entered::Into(Inner {
@@ -70,7 +77,7 @@ fn enter_member(members: &[u8], table: &[Row], n: usize, e: usize, number: u32) 
     ensures { λ r. ⌜ ((f : List ℕ) (ts : List Ty) (x : Shape) → Standing f ts (now (members .entry)) (now (table .entry)) n (Entry e) x → Enters ts n r x (member number)) ⌝ }
 {
     let r = value_at(table, e);
-    if r.kind != 12 {
+    if r.kind != STRUCT {
         return Entered::NoMember;
     }
     if r.count <= number {
@@ -86,7 +93,7 @@ fn parts_at(table: &[Row], n: usize, e: usize) -> usize
     ensures { λ r. ⌜ r ≡ partsAt (now (table .entry)) n e ⌝ }
 {
     let r = value_at(table, e);
-    if r.kind == 10 {
+    if r.kind == RUNTIME {
         return n;
     }
     wide(r.count)
@@ -100,7 +107,7 @@ fn enter_part(table: &[Row], n: usize, e: usize, number: u32) -> Entered
     let r = value_at(table, e);
     let offset = wide(number) * wide(r.stride);
     let below = wide(r.reference);
-    if r.kind == 8 {
+    if r.kind == MATRIX {
         return Entered::Into(Inner {
             offset,
             size: wide(r.unit) * wide(value_at(table, below).size),
@@ -116,10 +123,10 @@ fn enter_index(table: &[Row], n: usize, e: usize, number: u32) -> Entered
     ensures { λ r. ⌜ ((f : List ℕ) (ts : List Ty) (ms : List ℕ) (x : Shape) → Standing f ts ms (now (table .entry)) n (Entry e) x → Enters ts n r x (index number)) ⌝ }
 {
     let kind = value_at(table, e).kind;
-    if kind < 7 {
+    if kind < VECTOR {
         return Entered::NoIndex;
     }
-    if 10 < kind {
+    if RUNTIME < kind {
         return Entered::NoIndex;
     }
     if parts_at(table, n, e) <= wide(number) {
@@ -166,7 +173,7 @@ pub fn enter(members: &[u8], table: &[Row], n: usize, p: Stand, s: Step) -> Ente
     }
 }
 
-// The kind of the one scalar that a place is; 7 where it is none.
+// The kind of the one scalar that a place is, or `NO_SCALAR`.
 pub fn kind_in(table: &[Row], p: Stand) -> u32
     requires { ⌜ ((f : List ℕ) × (ts : List Ty) × (ms : List ℕ) × (n : ℕ) × (x : Shape) × Standing f ts ms (now table) n p x) ⌝ }
     ensures { λ r. ⌜ ((f : List ℕ) (ts : List Ty) (ms : List ℕ) (n : ℕ) (x : Shape) → Standing f ts ms (now (table .entry)) n p x → r ≡ kindIn x) ⌝ }
@@ -174,14 +181,14 @@ pub fn kind_in(table: &[Row], p: Stand) -> u32
     match p {
         Stand::Entry(e) => {
             let r = value_at(table, e);
-            if r.kind <= 6 {
+            if r.kind <= LAST_SCALAR {
                 return r.kind;
             }
-            if r.kind == 11 {
+            if r.kind == ATOMIC {
                 return value_at(table, wide(r.reference)).kind;
             }
-            7
+            NO_SCALAR
         }
-        Stand::Column(_, _) => 7,
+        Stand::Column(_, _) => NO_SCALAR,
     }
 }

@@ -10,7 +10,8 @@ use lib.Dec.{eqb, ltb}
 use lib.ListN.{length}
 use Rattle.wgsl.specs.Round.{IsPower, up, limit}
 use Rattle.wgsl.specs.Size.{givenOr, present}
-use Rattle.wgsl.specs.File.{MemberEntry, memberEntryFrom, givenSize, givenAlign}
+use Rattle.wgsl.specs.File.{MemberEntry, memberEntryFrom, givenSize, givenAlign, memberFieldsLength}
+use Rattle.wgsl.specs.Types.{arrayKind, runtimeKind}
 use Rattle.layout_values.specs.declared.value.Value.{Value}
 use Rattle.layout_values.specs.Value.{valueAt, wordsIn}
 use Rattle.walk_trees.specs.declared.Slot.{Slot}
@@ -28,23 +29,23 @@ packedAs l = cond (eqb (l .size) 0) 0 (touching (l .size) (wordsIn l) (l .narrow
 -- the width of the words of each part of a type that is no struct, where they lie one after the other; else 0
 unfoldable pub partWidth : List (List ℕ) → Value → ℕ
 partWidth table l =
-    cond (ltb (l .kind) 9) (l .narrow)
-    (cond (ltb 10 (l .kind)) (l .narrow) (packedAs (valueAt table (l .reference))))
+    cond (ltb (l .kind) arrayKind) (l .narrow)
+    (cond (ltb runtimeKind (l .kind)) (l .narrow) (packedAs (valueAt table (l .reference))))
 
 -- the width of the words of entry e, whatever the number of its elements, where they lie one after the other; else 0
 unfoldable pub runAt : List (List ℕ) → ℕ → ℕ
 runAt table e =
     let l : Value = valueAt table e in
-    cond (eqb (l .kind) 10) (touching (l .stride) (l .unit) (partWidth table l)) (packedAs l)
+    cond (eqb (l .kind) runtimeKind) (touching (l .stride) (l .unit) (partWidth table l)) (packedAs l)
 
 -- the words of a layout are within the limit
 abbrev pub Counted : Value → Type 0
-Counted l = wordsIn l ≤ 4294967295
+Counted l = wordsIn l ≤ limit
 
 -- what an array refers to is there
 pub record Referring (table : List (List ℕ)) (l : Value) : Type 0 where
-  pub inside : 9 ≤ l .kind → l .kind ≤ 10 → l .reference < length table
-  pub counted : 9 ≤ l .kind → l .kind ≤ 10 → Counted (valueAt table (l .reference))
+  pub inside : arrayKind ≤ l .kind → l .kind ≤ runtimeKind → l .reference < length table
+  pub counted : arrayKind ≤ l .kind → l .kind ≤ runtimeKind → Counted (valueAt table (l .reference))
 
 -- what looking for the run of entry e asks
 pub record RunAsks (table : List (List ℕ)) (e : ℕ) : Type 0 where
@@ -97,7 +98,7 @@ slotAt ms table m end =
 
 -- its entry and its type's value are there, and its start is within the limit
 pub record SlotAsks (ms : List ℕ) (table : List (List ℕ)) (m end : ℕ) : Type 0 where
-  pub inside : m + 12 ≤ length ms
+  pub inside : m + memberFieldsLength ≤ length ms
   pub type-inside : memberAt ms m .type < length table
   pub counted : Counted (memberValue ms table m)
   pub power : IsPower (memberAlign ms table m)

@@ -10,6 +10,7 @@ use mathlib.Core.List.{List, [], _∷_}
 use lib.ListN.{length}
 use Rattle.wgsl.specs.Place.{Shape, parts, field, whole, spanOf, Place, placesOf}
 use Rattle.wgsl.specs.Shapes.{shapeWords}
+use Rattle.wgsl.specs.Types.{structKind}
 use Rattle.runs.specs.Run.{runPlaces, partPlaces}
 use Rattle.layout_values.specs.declared.value.Value.{Value}
 use Rattle.layout_values.specs.Value.{valueAt, wordsIn}
@@ -77,8 +78,8 @@ mutual
 
   -- entry e has the shape x
   pub data Tree (ms : List ℕ) (table : List (List ℕ)) : ℕ → Shape → Type 0 where
-    many : {e : ℕ} {x : Shape} → Valued table e x → (valueAt table e .kind ≡ 12 → ⊥) → (partWidth table (valueAt table e) ≡ 0 → valueAt table e .reference < e) → Many ms table (valueAt table e) x → Tree ms table e x
-    members : {e : ℕ} {x : Shape} → Valued table e x → valueAt table e .kind ≡ 12 → Left ms table e (valueAt table e .count) (valueAt table e .reference * valueAt table e .stride) 0 x → Tree ms table e x
+    many : {e : ℕ} {x : Shape} → Valued table e x → (valueAt table e .kind ≡ structKind → ⊥) → (partWidth table (valueAt table e) ≡ 0 → valueAt table e .reference < e) → Many ms table (valueAt table e) x → Tree ms table e x
+    members : {e : ℕ} {x : Shape} → Valued table e x → valueAt table e .kind ≡ structKind → Left ms table e (valueAt table e .count) (valueAt table e .reference * valueAt table e .stride) 0 x → Tree ms table e x
 
 -- ---- room
 

@@ -1,6 +1,8 @@
 // Walking a type's words by the table: where a struct's members lie, and which words lie one after the other.
 use file::fields::MemberEntry;
 use file::fields::member_at;
+use file::kinds::ARRAY;
+use file::kinds::RUNTIME;
 use layout_members::align_given;
 use layout_members::size_given;
 use layout_values::value::Row;
@@ -41,10 +43,10 @@ pub fn part_width(table: &[Row], l: Value) -> u32
     requires { ⌜ Referring (now table) l ⌝ }
     ensures { λ r. ⌜ r ≡ partWidth (now (table .entry)) l ⌝ }
 {
-    if l.kind < 9 {
+    if l.kind < ARRAY {
         return l.narrow;
     }
-    if 10 < l.kind {
+    if RUNTIME < l.kind {
         return l.narrow;
     }
     packed(value_at(table, wide(l.reference)))
@@ -66,7 +68,7 @@ pub fn run_at(table: &[Row], e: usize) -> u32
     ensures { λ r. ⌜ r ≡ runAt (now (table .entry)) e ⌝ }
 {
     let l = value_at(table, e);
-    if l.kind == 10 {
+    if l.kind == RUNTIME {
         return touch(l.stride, l.unit, part_width(table, l));
     }
     packed(l)

@@ -30,6 +30,7 @@ ghost use lib.ListN.{length, drop};
 ghost use Rattle.wgsl.specs.Types.{Ty, isOpen};
 ghost use Rattle.wgsl.specs.Place.{extentOf, places, wordCount, wordsRead};
 ghost use Rattle.wgsl.specs.Call.{answerOf, contentsOf, readCall, readType, readElements};
+ghost use Rattle.wgsl.specs.Round.{limit};
 ghost use Rattle.said.specs.Answer.{saidNumber};
 ghost use Rattle.walk_decide.specs.Whole.{Ready, Tailed, TailedBy, Whole};
 ghost use Rattle.walk_decide.specs.Meant.{Meant};
@@ -76,7 +77,7 @@ fn read_elements(
     buf: &[u8],
     words: &mut [u32],
 ) -> Number
-    requires { ⌜ ((t : Ty) × TailedBy (now members) (now table) e x t × (extentOf n t ≤ length (now buf)) × (length (now buf) ≤ 4294967295)) ⌝ }
+    requires { ⌜ ((t : Ty) × TailedBy (now members) (now table) e x t × (extentOf n t ≤ length (now buf)) × (length (now buf) ≤ limit)) ⌝ }
     ensures answer { λ r. ⌜ ((t : Ty) → TailedBy (now (members .entry)) (now (table .entry)) e x t → saidNumber r ≡ answerOf (readElements n t (now (buf .entry)) (now (words .entry)))) ⌝ }
     ensures words { λ _. ⌜ ((t : Ty) → TailedBy (now (members .entry)) (now (table .entry)) e x t → now (words .exit) ≡ contentsOf (now (words .entry)) (readElements n t (now (buf .entry)) (now (words .entry)))) ⌝ }
 {
@@ -97,7 +98,7 @@ fn read_open(
     buf: &[u8],
     words: &mut [u32],
 ) -> Number
-    requires { ⌜ ((t : Ty) × Tailed (now members) (now table) e l t × (length (now buf) ≤ 4294967295)) ⌝ }
+    requires { ⌜ ((t : Ty) × Tailed (now members) (now table) e l t × (length (now buf) ≤ limit)) ⌝ }
     ensures answer { λ r. ⌜ ((t : Ty) → Tailed (now (members .entry)) (now (table .entry)) e l t → saidNumber r ≡ answerOf (readType t (now (buf .entry)) (now (words .entry)))) ⌝ }
     ensures words { λ _. ⌜ ((t : Ty) → Tailed (now (members .entry)) (now (table .entry)) e l t → now (words .exit) ≡ contentsOf (now (words .entry)) (readType t (now (buf .entry)) (now (words .entry)))) ⌝ }
 {

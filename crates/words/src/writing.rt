@@ -36,6 +36,7 @@ ghost use lib.ListN.{length, drop, replicate};
 ghost use Rattle.wgsl.specs.Types.{Ty, isOpen};
 ghost use Rattle.wgsl.specs.Place.{extentOf, places, wordCount, written, checkWords};
 ghost use Rattle.wgsl.specs.Call.{answerOf, contentsOf, writeCall, writeType, writeElements, writeWords};
+ghost use Rattle.wgsl.specs.Round.{limit};
 ghost use Rattle.said.specs.Answer.{saidNumber};
 ghost use Rattle.runs.specs.Ask.{saidScan};
 ghost use Rattle.walk_trees.specs.Slot.{runAt, RunAsks};
@@ -150,7 +151,7 @@ fn write_elements(
     words: &[u32],
     buf: &mut [u8],
 ) -> Number
-    requires { ⌜ ((t : Ty) × TailedBy (now members) (now table) e x t × (length (now buf) ≤ 4294967295) × (length (now words) ≡ wordCount n t)) ⌝ }
+    requires { ⌜ ((t : Ty) × TailedBy (now members) (now table) e x t × (length (now buf) ≤ limit) × (length (now words) ≡ wordCount n t)) ⌝ }
     ensures answer { λ r. ⌜ ((t : Ty) → TailedBy (now (members .entry)) (now (table .entry)) e x t → length (now (words .entry)) ≡ wordCount n t → saidNumber r ≡ answerOf (writeElements n t (now (words .entry)) (now (buf .entry)))) ⌝ }
     ensures buffer { λ _. ⌜ ((t : Ty) → TailedBy (now (members .entry)) (now (table .entry)) e x t → length (now (words .entry)) ≡ wordCount n t → now (buf .exit) ≡ contentsOf (now (buf .entry)) (writeElements n t (now (words .entry)) (now (buf .entry)))) ⌝ }
 {
@@ -179,7 +180,7 @@ fn write_open(
     words: &[u32],
     buf: &mut [u8],
 ) -> Number
-    requires { ⌜ ((t : Ty) × Tailed (now members) (now table) e l t × (length (now buf) ≤ 4294967295)) ⌝ }
+    requires { ⌜ ((t : Ty) × Tailed (now members) (now table) e l t × (length (now buf) ≤ limit)) ⌝ }
     ensures answer { λ r. ⌜ ((t : Ty) → Tailed (now (members .entry)) (now (table .entry)) e l t → saidNumber r ≡ answerOf (writeType t (now (words .entry)) (now (buf .entry)))) ⌝ }
     ensures buffer { λ _. ⌜ ((t : Ty) → Tailed (now (members .entry)) (now (table .entry)) e l t → now (buf .exit) ≡ contentsOf (now (buf .entry)) (writeType t (now (words .entry)) (now (buf .entry)))) ⌝ }
 {

@@ -1,4 +1,5 @@
 // Reading words by the table: an entry part by part, a struct member by member. Entry numbers fall.
+use file::kinds::STRUCT;
 use layout_values::value::Row;
 use layout_values::value::Value;
 use layout_values::value::value_at;
@@ -14,6 +15,7 @@ ghost use mathlib.Core.Path.{_≡_};
 ghost use Prim.Native.Nat.{_+_};
 ghost use lib.ListN.{length};
 ghost use Rattle.wgsl.specs.Place.{Shape, parts, placesOf};
+ghost use Rattle.wgsl.specs.Types.{structKind};
 ghost use Rattle.runs.specs.Fold.{overPlaces, loading};
 ghost use Rattle.layout_values.specs.Value.{valueAt};
 ghost use Rattle.walk_trees.specs.Slot.{slotAt};
@@ -33,7 +35,7 @@ pub fn read_entry(
     ensures { λ _. ⌜ ((x : Shape) → Tree (now (members .entry)) (now (table .entry)) e x → now (words .exit) ≡ overPlaces (loading (now (buf .entry))) (placesOf x at) k (now (words .entry))) ⌝ }
 {
     let r = value_at(table, e);
-    if r.kind == 12 {
+    if r.kind == STRUCT {
         read_struct(members, table, e, at, buf, k, words);
         return;
     }
@@ -69,7 +71,7 @@ pub fn read_many(
     }
     let element = wide(r.reference);
     let below = value_at(table, element);
-    if below.kind == 12 {
+    if below.kind == STRUCT {
         read_structs(
             members,
             table,
@@ -112,7 +114,7 @@ fn read_structs(
     k: usize,
     words: &mut [u32],
 )
-    requires { ⌜ ((y : Shape) × Tree (now members) (now table) e y × (valueAt (now table) e .kind ≡ 12) × EachRoom y count unit stride at (length (now buf)) k (length (now words))) ⌝ }
+    requires { ⌜ ((y : Shape) × Tree (now members) (now table) e y × (valueAt (now table) e .kind ≡ structKind) × EachRoom y count unit stride at (length (now buf)) k (length (now words))) ⌝ }
     ensures { λ _. ⌜ ((y : Shape) → Tree (now (members .entry)) (now (table .entry)) e y → now (words .exit) ≡ overPlaces (loading (now (buf .entry))) (placesOf (parts count stride y) at) k (now (words .entry))) ⌝ }
 {
     let mut i: usize = 0;
@@ -132,7 +134,7 @@ fn read_struct(
     k: usize,
     words: &mut [u32],
 )
-    requires { ⌜ ((x : Shape) × Tree (now members) (now table) e x × (valueAt (now table) e .kind ≡ 12) × Room x at (length (now buf)) k (length (now words))) ⌝ }
+    requires { ⌜ ((x : Shape) × Tree (now members) (now table) e x × (valueAt (now table) e .kind ≡ structKind) × Room x at (length (now buf)) k (length (now words))) ⌝ }
     ensures { λ _. ⌜ ((x : Shape) → Tree (now (members .entry)) (now (table .entry)) e x → now (words .exit) ≡ overPlaces (loading (now (buf .entry))) (placesOf x at) k (now (words .entry))) ⌝ }
 {
     let r = value_at(table, e);

@@ -9,6 +9,7 @@ ghost use mathlib.Core.Path.{_≡_};
 ghost use Prim.Native.Nat.{_+_, _*_, _<_, _≤_};
 ghost use lib.ListN.{length};
 ghost use Rattle.wgsl.specs.Place.{Shape, repeated};
+ghost use Rattle.wgsl.specs.Types.{structKind};
 ghost use Rattle.runs.specs.Fold.{overPlaces, storing};
 ghost use Rattle.layout_values.specs.Value.{valueAt};
 ghost use Rattle.walk_trees.specs.Tree.{Tree};
@@ -30,7 +31,7 @@ pub fn spots_of(
     structs: usize,
     spots: &mut [usize],
 ) -> usize
-    requires { ⌜ ((y : Shape) × Tree (now members) (now table) e y × (valueAt (now table) e .kind ≡ 12)) × (length (now spots) ≡ 16) ⌝ }
+    requires { ⌜ ((y : Shape) × Tree (now members) (now table) e y × (valueAt (now table) e .kind ≡ structKind)) × (length (now spots) ≡ 16) ⌝ }
     ensures { λ r. ⌜ (0 < r → (y : Shape) → Tree (now (members .entry)) (now (table .entry)) e y → Spotted y r (now (spots .exit))) ⌝ }
 {
     if structs < 2 {

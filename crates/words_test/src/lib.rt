@@ -1,5 +1,6 @@
 // Testing words by the table, before any of them is stored: the lowest that an f16 cannot hold. Entry numbers fall.
 use file::fields::half;
+use file::kinds::STRUCT;
 use layout_values::value::Row;
 use layout_values::value::Value;
 use layout_values::value::value_at;
@@ -12,6 +13,7 @@ ghost use mathlib.Core.Path.{_≡_};
 ghost use lib.ListN.{length};
 ghost use Rattle.wgsl.specs.Said.{good};
 ghost use Rattle.wgsl.specs.Place.{Shape, placesOf};
+ghost use Rattle.wgsl.specs.Types.{structKind};
 ghost use Rattle.runs.specs.Fold.{overPlaces, testing};
 ghost use Rattle.runs.specs.Ask.{saidScan};
 ghost use Rattle.layout_values.specs.Value.{valueAt};
@@ -26,7 +28,7 @@ pub fn scan_entry(members: &[u8], table: &[Row], e: usize, words: &[u32], k: usi
     if r.narrow != 2 {
         return Scan::Fine;
     }
-    if r.kind == 12 {
+    if r.kind == STRUCT {
         return scan_struct(members, table, e, words, k);
     }
     scan_many(members, table, r, words, k)
@@ -61,7 +63,7 @@ pub fn scan_many(members: &[u8], table: &[Row], r: Value, words: &[u32], k: usiz
 
 // Tests a struct member by member.
 fn scan_struct(members: &[u8], table: &[Row], e: usize, words: &[u32], k: usize) -> Scan
-    requires { ⌜ ((x : Shape) × Tree (now members) (now table) e x × (valueAt (now table) e .kind ≡ 12) × WordRoom x k (length (now words))) ⌝ }
+    requires { ⌜ ((x : Shape) × Tree (now members) (now table) e x × (valueAt (now table) e .kind ≡ structKind) × WordRoom x k (length (now words))) ⌝ }
     ensures { λ r. ⌜ ((x : Shape) → Tree (now (members .entry)) (now (table .entry)) e x → saidScan r ≡ overPlaces (testing (now (words .entry))) (placesOf x 0) k (good tt)) ⌝ }
 {
     let r = value_at(table, e);

@@ -1,4 +1,5 @@
 // Writing words by the table: an entry part by part, a struct member by member. Entry numbers fall.
+use file::kinds::STRUCT;
 use layout_values::value::Row;
 use layout_values::value::Value;
 use layout_values::value::value_at;
@@ -18,6 +19,7 @@ ghost use mathlib.Core.Path.{_≡_};
 ghost use Prim.Native.Nat.{_+_};
 ghost use lib.ListN.{length};
 ghost use Rattle.wgsl.specs.Place.{Shape, parts, placesOf};
+ghost use Rattle.wgsl.specs.Types.{structKind};
 ghost use Rattle.runs.specs.Fold.{overPlaces, storing};
 ghost use Rattle.layout_values.specs.Value.{valueAt};
 ghost use Rattle.walk_trees.specs.Slot.{slotAt};
@@ -37,7 +39,7 @@ pub fn write_entry(
     ensures { λ _. ⌜ ((x : Shape) → Tree (now (members .entry)) (now (table .entry)) e x → now (buf .exit) ≡ overPlaces (storing (now (words .entry))) (placesOf x at) k (now (buf .entry))) ⌝ }
 {
     let r = value_at(table, e);
-    if r.kind == 12 {
+    if r.kind == STRUCT {
         write_structs(
             members,
             table,
@@ -84,7 +86,7 @@ pub fn write_many(
     }
     let element = wide(r.reference);
     let below = value_at(table, element);
-    if below.kind == 12 {
+    if below.kind == STRUCT {
         write_structs(
             members,
             table,
@@ -127,7 +129,7 @@ fn write_structs(
     k: usize,
     buf: &mut [u8],
 )
-    requires { ⌜ ((y : Shape) × Tree (now members) (now table) e y × (valueAt (now table) e .kind ≡ 12) × EachRoom y count unit stride at (length (now buf)) k (length (now words))) ⌝ }
+    requires { ⌜ ((y : Shape) × Tree (now members) (now table) e y × (valueAt (now table) e .kind ≡ structKind) × EachRoom y count unit stride at (length (now buf)) k (length (now words))) ⌝ }
     ensures { λ _. ⌜ ((y : Shape) → Tree (now (members .entry)) (now (table .entry)) e y → now (buf .exit) ≡ overPlaces (storing (now (words .entry))) (placesOf (parts count stride y) at) k (now (buf .entry))) ⌝ }
 {
     let mut spots = no_spots();
@@ -153,7 +155,7 @@ fn write_struct(
     k: usize,
     buf: &mut [u8],
 )
-    requires { ⌜ ((x : Shape) × Tree (now members) (now table) e x × (valueAt (now table) e .kind ≡ 12) × Room x at (length (now buf)) k (length (now words))) ⌝ }
+    requires { ⌜ ((x : Shape) × Tree (now members) (now table) e x × (valueAt (now table) e .kind ≡ structKind) × Room x at (length (now buf)) k (length (now words))) ⌝ }
     ensures { λ _. ⌜ ((x : Shape) → Tree (now (members .entry)) (now (table .entry)) e x → now (buf .exit) ≡ overPlaces (storing (now (words .entry))) (placesOf x at) k (now (buf .entry))) ⌝ }
 {
     let r = value_at(table, e);
