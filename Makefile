@@ -19,7 +19,6 @@ run:
 # Everything that must hold. The last line is that of `rt ci`.
 test:
 	@rt fmt --check
-	@tools/examples
 	@tools/believed --check
 	@tools/gate
 

@@ -1,2 +1,2 @@
-pub mod Signs
-pub mod Words
+pub mod PatternOf
+pub mod FieldAt

@@ -1,2 +1,2 @@
-pub mod Folds
-pub mod Named
+pub mod CommonOfAll
+pub mod PairNamed

@@ -1,5 +1,5 @@
-pub mod Entries
-pub mod Outlines
-pub mod Pairs
-pub mod Scalars
-pub mod Shapes
+pub mod EntryKinds
+pub mod RankOf
+pub mod PairRank
+pub mod ScalarRank
+pub mod OverScalar

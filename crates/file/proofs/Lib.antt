@@ -1,2 +1,2 @@
-pub mod Entries
-pub mod Trailers
+pub mod FieldsAt
+pub mod CheckTrailer

@@ -11,6 +11,7 @@ ghost use Rattle.wgsl.specs.File.{sizeIsGiven, alignIsGiven, givenSize, givenAl
 ghost use Rattle.wgsl.specs.Rule.{memberAllowed, givenSizeFits, givenAlignFits, isWellFormed};
 ghost use Rattle.file.specs.Fields.{memberIs};
 ghost use Rattle.layout_values.specs.Value.{valueOf};
+ghost use Rattle.layout_members.specs.Given.{orOwn};
 
 // "Flag bit 0 says a size is given"
 pub fn size_given(m: MemberEntry) -> bool
@@ -85,4 +86,24 @@ pub fn align_fits(m: MemberEntry, l: Value) -> bool
         return false;
     }
     m.align % l.align == 0
+}
+
+// The align that a member has: the one given, or else its type's own.
+pub fn given_align(m: MemberEntry, own: u32) -> u32
+    ensures { λ r. ⌜ r ≡ orOwn (givenAlign (memberIs m)) own ⌝ }
+{
+    if align_given(m) {
+        return m.align;
+    }
+    own
+}
+
+// The size that it has, likewise.
+pub fn given_size(m: MemberEntry, own: u32) -> u32
+    ensures { λ r. ⌜ r ≡ orOwn (givenSize (memberIs m)) own ⌝ }
+{
+    if size_given(m) {
+        return m.size;
+    }
+    own
 }

@@ -1,7 +1,7 @@
-pub mod Limits
-pub mod Vectors
-pub mod Matrices
-pub mod Atomics
-pub mod Arrays
-pub mod Runtimes
-pub mod Referring
+pub mod Limited
+pub mod VectorMade
+pub mod MatrixMade
+pub mod AtomicMade
+pub mod ArrayMade
+pub mod RuntimeMade
+pub mod OverMade

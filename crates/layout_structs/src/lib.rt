@@ -4,11 +4,11 @@ use file::fields::MemberEntry;
 use file::fields::TypeEntry;
 use file::kinds::STRUCT;
 use layout_members::align_fits;
-use layout_members::align_given;
+use layout_members::given_align;
+use layout_members::given_size;
 use layout_members::is_allowed;
 use layout_members::rest_is_zero;
 use layout_members::size_fits;
-use layout_members::size_given;
 use layout_values::scalars::zeros;
 use layout_values::value::Made;
 use layout_values::value::Value;
@@ -19,7 +19,6 @@ use numbers::limit::round_up;
 use numbers::limit::sum;
 use numbers::wide::wide;
 ghost use mathlib.Core.Path.{_≡_};
-ghost use mathlib.Core.Bool.{cond};
 ghost use Prim.Native.Nat.{ℕ, _≤_, max, min};
 ghost use Rattle.wgsl.specs.Types.{Ty, Members, no-more, struct};
 ghost use Rattle.wgsl.specs.Rule.{countOf};
@@ -62,13 +61,6 @@ fn larger(a: u32, b: u32) -> u32
     if a < b { b } else { a }
 }
 
-// What is given, or else the type's own.
-fn chosen(given: bool, a: u32, own: u32) -> u32
-    ensures { λ r. ⌜ r ≡ cond given a own ⌝ }
-{
-    if given { a } else { own }
-}
-
 fn smaller(a: u32, b: u32) -> u32
     ensures { λ r. ⌜ r ≡ min a b ⌝ }
 {
@@ -80,8 +72,8 @@ fn join(p: Ends, l: Value, m: MemberEntry) -> SoFar
     requires { ⌜ ((ms : Members) × (t : Ty) × Joins p l (memberIs m) ms t) ⌝ }
     ensures { λ r. ⌜ ((ms : Members) (t : Ty) → Joins p l (memberIs m) ms t → r ≡ soFar (followed ms t (memberIs m))) ⌝ }
 {
-    let align = chosen(align_given(m), m.align, l.align);
-    let size = chosen(size_given(m), m.size, l.size);
+    let align = given_align(m, l.align);
+    let size = given_size(m, l.size);
     let Limited::Is(start) = round_up(align, p.end) else {
         return SoFar::TooLarge;
     };

@@ -1,6 +1,6 @@
-pub mod Judging
-pub mod Members
-pub mod Fills
-pub mod Taken
-pub mod Grounds
+pub mod Judged
+pub mod Upward
+pub mod TableOf
+pub mod SaidTable
+pub mod GroundIn
 pub mod Single

@@ -1,7 +1,7 @@
-pub mod Zero
-pub mod Verdict
-pub mod Scalar
-pub mod Align
-pub mod Presence
-pub mod Narrow
-pub mod Values
+pub mod Unused
+pub mod VerdictOn
+pub mod ScalarMade
+pub mod VectorAlign
+pub mod ValueOf
+pub mod NarrowOf
+pub mod ValuesOf

@@ -27,7 +27,7 @@ use Rattle.said.specs.Answer.{saidNumber}
 use Rattle.said.proofs.Single.{single-number}
 use Rattle.said.specs.declared.target.Target.{Target}
 use Rattle.said.specs.Target.{targetIs, reached}
-use Rattle.paths.proofs.Settings.{scalar-shape}
+use Rattle.paths.proofs.SetTarget.{scalar-shape}
 use Rattle.lepugaso.specs.Claim.{Writes, Reads, Sets}
 use Rattle.lepugaso.specs.Demand.{Filled, TwoOnTheCode, ToScalar, IsSet, OneReplaced, ThreeOnTheCode}
 

@@ -1,6 +1,6 @@
 // The public calls, in one place. None has a `requires`: any bytes of any length and any numbers are answered. Each answers a number or a
-// refusal (`layout_ask::Number`), but for `layout`, which answers all three numbers of an entry (`layout_ask::Answer`), `view_at`, which
-// answers a target (`walk_path::walk::Walked`), the two views, which hand back a part of the buffer that they were lent, and the four calls on
+// refusal (`said::answer::Number`), but for `layout`, which answers all three numbers of an entry (`said::answer::Answer`), `view_at`, which
+// answers a target (`said::target::Walked`), the two views, which hand back a part of the buffer that they were lent, and the four calls on
 // numbers alone, which answer a number.
 
 // How many entries an accepted file has; else 1 to 7.

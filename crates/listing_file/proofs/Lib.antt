@@ -1,2 +1,2 @@
-pub mod Lengths
-pub mod Listings
+pub mod ListingLength
+pub mod ListingOf

@@ -11,7 +11,7 @@ use lib.ListN.{length}
 use Rattle.wgsl.specs.File.{between}
 use Rattle.wgsl.specs.Listing.{refusedText, atText, newline, dash, decimal, orDash, refusedLine}
 use Rattle.listing_text.specs.Put.{marked}
-use Rattle.listing_text.proofs.Decimals.{decimal-length}
+use Rattle.listing_text.proofs.Decimal.{decimal-length}
 
 pub marked-absent : (n : ℕ) → n ≡ 0 → marked n ≡ dash
 unfolding marked orDash

@@ -1,4 +1,4 @@
-pub mod Stores
-pub mod Limits
-pub mod One
-pub mod Masks
+pub mod Store
+pub mod Limited
+pub mod OneBit
+pub mod Mask

@@ -8,8 +8,7 @@ ghost use mathlib.Core.Path.{_≡_};
 ghost use mathlib.Core.Logic.{_⊎_};
 ghost use Prim.Native.Nat.{_+_, _*_, _≤_};
 ghost use lib.ListN.{length};
-ghost use Rattle.wgsl.specs.Said.{good};
-ghost use Rattle.runs.specs.Fold.{overPlaces, storing, loading, testing};
+ghost use Rattle.runs.specs.Fold.{Stores, Loads, Tests};
 ghost use Rattle.runs.specs.Run.{runPlaces, partPlaces};
 ghost use Rattle.runs.specs.Ask.{PartsRoom, saidScan};
 
@@ -30,7 +29,7 @@ pub enum Scan {
 // At most four words of four bytes: a vector or a column. Too short for a loop that is worth its start.
 pub fn write_few(words: &[u32], k: usize, n: usize, buf: &mut [u8], at: usize)
     requires { ⌜ (n ≤ 4) × (k + n ≤ length (now words)) × (at + n * 4 ≤ length (now buf)) ⌝ }
-    ensures { λ _. ⌜ now (buf .exit) ≡ overPlaces (storing (now (words .entry))) (runPlaces n 4 at) k (now (buf .entry)) ⌝ }
+    ensures { λ _. ⌜ Stores (now (words .entry)) (runPlaces n 4 at) k (now (buf .entry)) (now (buf .exit)) ⌝ }
 {
     if n == 0 {
         return;
@@ -53,7 +52,7 @@ pub fn write_few(words: &[u32], k: usize, n: usize, buf: &mut [u8], at: usize)
 // Stores `n` words, from word `k` on, in the bytes from `at` on, four each. Every other byte stays.
 fn write_four(words: &[u32], k: usize, n: usize, buf: &mut [u8], at: usize)
     requires { ⌜ (k + n ≤ length (now words)) × (at + n * 4 ≤ length (now buf)) ⌝ }
-    ensures { λ _. ⌜ now (buf .exit) ≡ overPlaces (storing (now (words .entry))) (runPlaces n 4 at) k (now (buf .entry)) ⌝ }
+    ensures { λ _. ⌜ Stores (now (words .entry)) (runPlaces n 4 at) k (now (buf .entry)) (now (buf .exit)) ⌝ }
 {
     let mut i: usize = 0;
     while i < n {
@@ -65,7 +64,7 @@ fn write_four(words: &[u32], k: usize, n: usize, buf: &mut [u8], at: usize)
 // Stores `n` words, from word `k` on, in the bytes from `at` on, the two lowest bytes of each.
 fn write_two(words: &[u32], k: usize, n: usize, buf: &mut [u8], at: usize)
     requires { ⌜ (k + n ≤ length (now words)) × (at + n * 2 ≤ length (now buf)) ⌝ }
-    ensures { λ _. ⌜ now (buf .exit) ≡ overPlaces (storing (now (words .entry))) (runPlaces n 2 at) k (now (buf .entry)) ⌝ }
+    ensures { λ _. ⌜ Stores (now (words .entry)) (runPlaces n 2 at) k (now (buf .entry)) (now (buf .exit)) ⌝ }
 {
     let mut i: usize = 0;
     while i < n {
@@ -77,7 +76,7 @@ fn write_two(words: &[u32], k: usize, n: usize, buf: &mut [u8], at: usize)
 // Stores `n` words, from word `k` on, in the bytes from `at` on, `width` each.
 fn write_run(words: &[u32], k: usize, n: usize, width: usize, buf: &mut [u8], at: usize)
     requires { ⌜ ((width ≡ 2) ⊎ (width ≡ 4)) × (k + n ≤ length (now words)) × (at + n * width ≤ length (now buf)) ⌝ }
-    ensures { λ _. ⌜ now (buf .exit) ≡ overPlaces (storing (now (words .entry))) (runPlaces n width at) k (now (buf .entry)) ⌝ }
+    ensures { λ _. ⌜ Stores (now (words .entry)) (runPlaces n width at) k (now (buf .entry)) (now (buf .exit)) ⌝ }
 {
     if width == 2 {
         write_two(words, k, n, buf, at);
@@ -93,7 +92,7 @@ fn write_run(words: &[u32], k: usize, n: usize, width: usize, buf: &mut [u8], at
 // Stores the words from `k` on in parts from byte `at` on. Every byte that no word takes stays.
 pub fn write_parts(words: &[u32], k: usize, p: Parts, buf: &mut [u8], at: usize)
     requires { ⌜ PartsRoom p at (length (now buf)) k (length (now words)) ⌝ }
-    ensures { λ _. ⌜ now (buf .exit) ≡ overPlaces (storing (now (words .entry))) (partPlaces (p .count) (p .unit) (p .width) (p .stride) at) k (now (buf .entry)) ⌝ }
+    ensures { λ _. ⌜ Stores (now (words .entry)) (partPlaces (p .count) (p .unit) (p .width) (p .stride) at) k (now (buf .entry)) (now (buf .exit)) ⌝ }
 {
     if p.stride == p.unit * p.width {
         write_run(words, k, p.count * p.unit, p.width, buf, at);
@@ -116,7 +115,7 @@ pub fn write_parts(words: &[u32], k: usize, p: Parts, buf: &mut [u8], at: usize)
 // At most four words of four bytes.
 pub fn read_few(buf: &[u8], at: usize, n: usize, words: &mut [u32], k: usize)
     requires { ⌜ (n ≤ 4) × (at + n * 4 ≤ length (now buf)) × (k + n ≤ length (now words)) ⌝ }
-    ensures { λ _. ⌜ now (words .exit) ≡ overPlaces (loading (now (buf .entry))) (runPlaces n 4 at) k (now (words .entry)) ⌝ }
+    ensures { λ _. ⌜ Loads (now (buf .entry)) (runPlaces n 4 at) k (now (words .entry)) (now (words .exit)) ⌝ }
 {
     if n == 0 {
         return;
@@ -139,7 +138,7 @@ pub fn read_few(buf: &[u8], at: usize, n: usize, words: &mut [u32], k: usize)
 // Puts `n` words of four bytes each, from byte `at` on, into the words from `k` on. Every other word stays.
 fn read_four(buf: &[u8], at: usize, n: usize, words: &mut [u32], k: usize)
     requires { ⌜ (at + n * 4 ≤ length (now buf)) × (k + n ≤ length (now words)) ⌝ }
-    ensures { λ _. ⌜ now (words .exit) ≡ overPlaces (loading (now (buf .entry))) (runPlaces n 4 at) k (now (words .entry)) ⌝ }
+    ensures { λ _. ⌜ Loads (now (buf .entry)) (runPlaces n 4 at) k (now (words .entry)) (now (words .exit)) ⌝ }
 {
     let mut i: usize = 0;
     while i < n {
@@ -151,7 +150,7 @@ fn read_four(buf: &[u8], at: usize, n: usize, words: &mut [u32], k: usize)
 // Puts `n` words of two bytes each, from byte `at` on, into the words from `k` on. Every other word stays.
 fn read_two(buf: &[u8], at: usize, n: usize, words: &mut [u32], k: usize)
     requires { ⌜ (at + n * 2 ≤ length (now buf)) × (k + n ≤ length (now words)) ⌝ }
-    ensures { λ _. ⌜ now (words .exit) ≡ overPlaces (loading (now (buf .entry))) (runPlaces n 2 at) k (now (words .entry)) ⌝ }
+    ensures { λ _. ⌜ Loads (now (buf .entry)) (runPlaces n 2 at) k (now (words .entry)) (now (words .exit)) ⌝ }
 {
     let mut i: usize = 0;
     while i < n {
@@ -163,7 +162,7 @@ fn read_two(buf: &[u8], at: usize, n: usize, words: &mut [u32], k: usize)
 // Puts `n` words of `width` bytes each, from byte `at` on, into the words from `k` on.
 fn read_run(buf: &[u8], at: usize, n: usize, width: usize, words: &mut [u32], k: usize)
     requires { ⌜ ((width ≡ 2) ⊎ (width ≡ 4)) × (at + n * width ≤ length (now buf)) × (k + n ≤ length (now words)) ⌝ }
-    ensures { λ _. ⌜ now (words .exit) ≡ overPlaces (loading (now (buf .entry))) (runPlaces n width at) k (now (words .entry)) ⌝ }
+    ensures { λ _. ⌜ Loads (now (buf .entry)) (runPlaces n width at) k (now (words .entry)) (now (words .exit)) ⌝ }
 {
     if width == 2 {
         read_two(buf, at, n, words, k);
@@ -179,7 +178,7 @@ fn read_run(buf: &[u8], at: usize, n: usize, width: usize, words: &mut [u32], k:
 // Puts the words of parts from byte `at` on into the words from `k` on. Every other word stays.
 pub fn read_parts(buf: &[u8], at: usize, p: Parts, words: &mut [u32], k: usize)
     requires { ⌜ PartsRoom p at (length (now buf)) k (length (now words)) ⌝ }
-    ensures { λ _. ⌜ now (words .exit) ≡ overPlaces (loading (now (buf .entry))) (partPlaces (p .count) (p .unit) (p .width) (p .stride) at) k (now (words .entry)) ⌝ }
+    ensures { λ _. ⌜ Loads (now (buf .entry)) (partPlaces (p .count) (p .unit) (p .width) (p .stride) at) k (now (words .entry)) (now (words .exit)) ⌝ }
 {
     if p.stride == p.unit * p.width {
         read_run(buf, at, p.count * p.unit, p.width, words, k);
@@ -202,7 +201,7 @@ pub fn read_parts(buf: &[u8], at: usize, p: Parts, words: &mut [u32], k: usize)
 // Whether `n` words from word `k` on fit into two bytes each.
 pub fn scan_two(words: &[u32], k: usize, n: usize) -> Scan
     requires { ⌜ k + n ≤ length (now words) ⌝ }
-    ensures { λ r. ⌜ saidScan r ≡ overPlaces (testing (now (words .entry))) (runPlaces n 2 0) k (good tt) ⌝ }
+    ensures { λ r. ⌜ Tests (now (words .entry)) (runPlaces n 2 0) k (saidScan r) ⌝ }
 {
     let mut i: usize = 0;
     while i < n {

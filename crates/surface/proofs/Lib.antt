@@ -1,2 +1,2 @@
 -- What is claimed of the exports together.
-pub mod Places
+pub mod AllCross

@@ -15,8 +15,8 @@ use Rattle.wgsl.specs.Call.{allowed}
 use Rattle.wgsl.proofs.Absent.{some-present}
 use Rattle.layout_values.specs.declared.value.Value.{Value}
 use Rattle.layout_values.specs.Value.{narrowOf, valueOf}
-use Rattle.layout_values.proofs.Presence.{unaligned, element}
-use Rattle.layout_values.proofs.Narrow.{plain-is}
+use Rattle.layout_values.proofs.ValueOf.{unaligned, element}
+use Rattle.layout_values.proofs.NarrowOf.{plain-is}
 
 pub too-long : (stored : Bool) (t : Ty) (bytes : ℕ) → limit < bytes → allowed stored t bytes ≡ refused 17 0
 unfolding allowed withinLimit _>>_ refuse

@@ -1,8 +1,8 @@
-pub mod Counts
+pub mod ElementsOf
 pub mod AllowedBy
-pub mod Wholes
-pub mod Bounds
-pub mod Calls
+pub mod Whole
+pub mod ReadyBounds
+pub mod CallSteps
 pub mod EntryFor
-pub mod Tails
-pub mod Entries
+pub mod Tailed
+pub mod Meant

@@ -1,4 +1,4 @@
--- Where a walk stands, and what a step leads to, by the table of an accepted file (crates/shapes, specs/Basis).
+-- Where a walk stands, and what a step leads to, by the table of an accepted file (crates/walk_shapes, specs/Basis).
 --
 -- In order: what a layout says; a place and its shape; what a step leads to.
 -- Definitions only. Assumes nothing.

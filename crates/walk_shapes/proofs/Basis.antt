@@ -13,7 +13,7 @@ use Rattle.wgsl.specs.Rule.{isWellFormed}
 use Rattle.wgsl.proofs.Accepted.{accepted, accepted-well-formed}
 use Rattle.wgsl.proofs.AtEntry.{getElem-low, Refers, refers}
 use Rattle.layout_values.specs.Value.{valueAt, valueOf}
-use Rattle.layout_values.proofs.Values.{length-table, table-at}
+use Rattle.layout_values.proofs.ValuesOf.{length-table, table-at}
 use Rattle.walk_shapes.specs.Basis.{Basis}
 
 module _ {f : List ℕ} {ts : List Ty} {ms : List ℕ} {table : List (List ℕ)} (s : Basis f ts ms table) where

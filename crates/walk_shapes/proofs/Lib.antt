@@ -1,10 +1,10 @@
 pub mod Basis
-pub mod Narrow
+pub mod Widths
 pub mod Counted
 pub mod MemberBytes
 pub mod MemberRead
 pub mod Kept
 pub mod MembersLeft
-pub mod Lasts
-pub mod Parts
-pub mod Trees
+pub mod LastMember
+pub mod PartRun
+pub mod TreesOf

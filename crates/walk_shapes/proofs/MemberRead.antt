@@ -12,6 +12,7 @@ use native.Mathlib.Omega.{arith}
 use borrow.Author.Tests.{leb-true}
 use lib.Dec.{leb}
 use lib.ListN.{length, take, getElem?}
+use Rattle.layout_members.specs.Given.{orOwn}
 use Rattle.wgsl.specs.Round.{up, limit, withinLimit}
 use Rattle.wgsl.specs.Types.{Ty, struct, Members, no-more, member, everywhere, everyMember}
 use Rattle.wgsl.specs.Size.{both, isPresent, present, givenOr, startAfter, endAfter, sizeOf, alignOf, minSizeOf, offsetsOf, innerNumbersOf, numbersOf, withinLimits, fitsLimit, memberStart, memberEnd}
@@ -27,8 +28,8 @@ use Rattle.wgsl.proofs.AtEntry.{getElem-first}
 use Rattle.file.specs.Members.{memberBytes}
 use Rattle.layout_values.specs.declared.value.Value.{Value}
 use Rattle.layout_values.specs.Value.{valueOf}
-use Rattle.layout_values.proofs.Presence.{value-words}
-use Rattle.walk_trees.specs.Slot.{Counted, memberAt, memberValue, orOwn, memberAlign, memberSize, slotAt, SlotAsks}
+use Rattle.layout_values.proofs.ValueOf.{value-words}
+use Rattle.walk_trees.specs.Slot.{Counted, memberAt, memberValue, memberAlign, memberSize, slotAt, SlotAsks}
 use Rattle.walk_shapes.specs.Basis.{Basis}
 use Rattle.walk_shapes.proofs.Basis.{basis-inside, basis-layout}
 use Rattle.walk_shapes.proofs.Counted.{fixed-counted}

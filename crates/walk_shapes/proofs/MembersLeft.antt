@@ -1,4 +1,4 @@
--- The members of a storable struct, as the walks ask for them (crates/trees, specs/Tree).
+-- The members of a storable struct, as the walks ask for them (crates/walk_trees, specs/Tree).
 --
 -- In order: one member and those after it; all of them.
 -- Assumes nothing.

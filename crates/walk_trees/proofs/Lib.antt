@@ -1,4 +1,4 @@
-pub mod Places
-pub mod Further
-pub mod Unique
-pub mod Steps
+pub mod SlotAt
+pub mod SlotIn
+pub mod TreeOne
+pub mod TreeSteps

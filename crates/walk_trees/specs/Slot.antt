@@ -8,8 +8,8 @@ use mathlib.Core.List.{List}
 use mathlib.Core.Option.{Option, some}
 use lib.Dec.{eqb, ltb}
 use lib.ListN.{length}
+use Rattle.layout_members.specs.Given.{orOwn}
 use Rattle.wgsl.specs.Round.{IsPower, up, limit}
-use Rattle.wgsl.specs.Size.{givenOr, present}
 use Rattle.wgsl.specs.File.{MemberEntry, memberEntryFrom, givenSize, givenAlign, memberFieldsLength}
 use Rattle.wgsl.specs.Types.{arrayKind, runtimeKind}
 use Rattle.layout_values.specs.declared.value.Value.{Value}
@@ -75,10 +75,6 @@ memberAt ms m = memberEntryFrom ms m
 -- the layout of a member's type
 abbrev pub memberValue : List ℕ → List (List ℕ) → ℕ → Value
 memberValue ms table m = valueAt table (memberAt ms m .type)
-
--- the number that the file gives, else the type's own
-unfoldable pub orOwn : Option ℕ → ℕ → ℕ
-orOwn given own = present (givenOr given (some own))
 
 abbrev pub memberAlign : List ℕ → List (List ℕ) → ℕ → ℕ
 memberAlign ms table m = orOwn (givenAlign (memberAt ms m)) (memberValue ms table m .align)

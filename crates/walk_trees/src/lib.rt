@@ -1,10 +1,9 @@
 // Walking a type's words by the table: where a struct's members lie, and which words lie one after the other.
-use file::fields::MemberEntry;
 use file::fields::member_at;
 use file::kinds::ARRAY;
 use file::kinds::RUNTIME;
-use layout_members::align_given;
-use layout_members::size_given;
+use layout_members::given_align;
+use layout_members::given_size;
 use layout_values::value::Row;
 use layout_values::value::Value;
 use layout_values::value::value_at;
@@ -15,9 +14,7 @@ ghost use mathlib.Core.Path.{_≡_};
 ghost use Prim.Native.Nat.{_+_, _*_, _<_, _≤_};
 ghost use lib.ListN.{length};
 ghost use Rattle.wgsl.specs.Round.{IsPower, up, limit};
-ghost use Rattle.wgsl.specs.File.{givenSize, givenAlign};
-ghost use Rattle.file.specs.Fields.{memberIs};
-ghost use Rattle.walk_trees.specs.Slot.{packedAs, partWidth, touching, runAt, Counted, Referring, RunAsks, orOwn, slotAt, SlotAsks, slotIn, SlotsAsk};
+ghost use Rattle.walk_trees.specs.Slot.{packedAs, partWidth, touching, runAt, Counted, Referring, RunAsks, slotAt, SlotAsks, slotIn, SlotsAsk};
 
 // Where a member lies in its struct.
 pub struct Slot {
@@ -72,24 +69,6 @@ pub fn run_at(table: &[Row], e: usize) -> u32
         return touch(l.stride, l.unit, part_width(table, l));
     }
     packed(l)
-}
-
-fn given_align(m: MemberEntry, own: u32) -> u32
-    ensures { λ r. ⌜ r ≡ orOwn (givenAlign (memberIs m)) own ⌝ }
-{
-    if align_given(m) {
-        return m.align;
-    }
-    own
-}
-
-fn given_size(m: MemberEntry, own: u32) -> u32
-    ensures { λ r. ⌜ r ≡ orOwn (givenSize (memberIs m)) own ⌝ }
-{
-    if size_given(m) {
-        return m.size;
-    }
-    own
 }
 
 // A member of this alignment and size, where the one before it ended at `end`.

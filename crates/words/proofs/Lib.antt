@@ -1,4 +1,4 @@
 pub mod Zeros
-pub mod Parts
-pub mod Readings
-pub mod Writings
+pub mod MeantReady
+pub mod ReadType
+pub mod WriteType

@@ -16,7 +16,7 @@ ghost use Prim.Native.Nat.{_+_};
 ghost use lib.ListN.{length};
 ghost use Rattle.wgsl.specs.Place.{Shape, parts, placesOf};
 ghost use Rattle.wgsl.specs.Types.{structKind};
-ghost use Rattle.runs.specs.Fold.{overPlaces, loading};
+ghost use Rattle.runs.specs.Fold.{Loads};
 ghost use Rattle.layout_values.specs.Value.{valueAt};
 ghost use Rattle.walk_trees.specs.Slot.{slotAt};
 ghost use Rattle.walk_trees.specs.Tree.{Many, Tree, Room, EachRoom, MemberRoom};
@@ -32,7 +32,7 @@ pub fn read_entry(
     words: &mut [u32],
 )
     requires { ⌜ ((x : Shape) × Tree (now members) (now table) e x × Room x at (length (now buf)) k (length (now words))) ⌝ }
-    ensures { λ _. ⌜ ((x : Shape) → Tree (now (members .entry)) (now (table .entry)) e x → now (words .exit) ≡ overPlaces (loading (now (buf .entry))) (placesOf x at) k (now (words .entry))) ⌝ }
+    ensures { λ _. ⌜ ((x : Shape) → Tree (now (members .entry)) (now (table .entry)) e x → Loads (now (buf .entry)) (placesOf x at) k (now (words .entry)) (now (words .exit))) ⌝ }
 {
     let r = value_at(table, e);
     if r.kind == STRUCT {
@@ -53,7 +53,7 @@ pub fn read_many(
     words: &mut [u32],
 )
     requires { ⌜ ((x : Shape) × Many (now members) (now table) r x × Room x at (length (now buf)) k (length (now words))) ⌝ }
-    ensures { λ _. ⌜ ((x : Shape) → Many (now (members .entry)) (now (table .entry)) r x → now (words .exit) ≡ overPlaces (loading (now (buf .entry))) (placesOf x at) k (now (words .entry))) ⌝ }
+    ensures { λ _. ⌜ ((x : Shape) → Many (now (members .entry)) (now (table .entry)) r x → Loads (now (buf .entry)) (placesOf x at) k (now (words .entry)) (now (words .exit))) ⌝ }
 {
     let count = wide(r.count);
     let unit = wide(r.unit);
@@ -115,7 +115,7 @@ fn read_structs(
     words: &mut [u32],
 )
     requires { ⌜ ((y : Shape) × Tree (now members) (now table) e y × (valueAt (now table) e .kind ≡ structKind) × EachRoom y count unit stride at (length (now buf)) k (length (now words))) ⌝ }
-    ensures { λ _. ⌜ ((y : Shape) → Tree (now (members .entry)) (now (table .entry)) e y → now (words .exit) ≡ overPlaces (loading (now (buf .entry))) (placesOf (parts count stride y) at) k (now (words .entry))) ⌝ }
+    ensures { λ _. ⌜ ((y : Shape) → Tree (now (members .entry)) (now (table .entry)) e y → Loads (now (buf .entry)) (placesOf (parts count stride y) at) k (now (words .entry)) (now (words .exit))) ⌝ }
 {
     let mut i: usize = 0;
     while i < count {
@@ -135,7 +135,7 @@ fn read_struct(
     words: &mut [u32],
 )
     requires { ⌜ ((x : Shape) × Tree (now members) (now table) e x × (valueAt (now table) e .kind ≡ structKind) × Room x at (length (now buf)) k (length (now words))) ⌝ }
-    ensures { λ _. ⌜ ((x : Shape) → Tree (now (members .entry)) (now (table .entry)) e x → now (words .exit) ≡ overPlaces (loading (now (buf .entry))) (placesOf x at) k (now (words .entry))) ⌝ }
+    ensures { λ _. ⌜ ((x : Shape) → Tree (now (members .entry)) (now (table .entry)) e x → Loads (now (buf .entry)) (placesOf x at) k (now (words .entry)) (now (words .exit))) ⌝ }
 {
     let r = value_at(table, e);
     let length = wide(r.stride);
@@ -165,7 +165,7 @@ fn read_member(
 ) -> Slot
     requires { ⌜ ((y : Shape) × MemberRoom (now members) (now table) m end y at (length (now buf)) k (length (now words))) ⌝ }
     ensures placed { λ r. ⌜ r ≡ slotAt (now (members .entry)) (now (table .entry)) m end ⌝ }
-    ensures filled { λ _. ⌜ ((y : Shape) → Tree (now (members .entry)) (now (table .entry)) (slotAt (now (members .entry)) (now (table .entry)) m end .ty) y → now (words .exit) ≡ overPlaces (loading (now (buf .entry))) (placesOf y (at + slotAt (now (members .entry)) (now (table .entry)) m end .start)) k (now (words .entry))) ⌝ }
+    ensures filled { λ _. ⌜ ((y : Shape) → Tree (now (members .entry)) (now (table .entry)) (slotAt (now (members .entry)) (now (table .entry)) m end .ty) y → Loads (now (buf .entry)) (placesOf y (at + slotAt (now (members .entry)) (now (table .entry)) m end .start)) k (now (words .entry)) (now (words .exit))) ⌝ }
 {
     let p = slot_after(members, table, m, end);
     let r = value_at(table, p.ty);

@@ -1,1 +1,1 @@
-pub mod Spots
+pub mod Spotted

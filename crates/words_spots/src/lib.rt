@@ -10,7 +10,7 @@ ghost use Prim.Native.Nat.{_+_, _*_, _<_, _≤_};
 ghost use lib.ListN.{length};
 ghost use Rattle.wgsl.specs.Place.{Shape, repeated};
 ghost use Rattle.wgsl.specs.Types.{structKind};
-ghost use Rattle.runs.specs.Fold.{overPlaces, storing};
+ghost use Rattle.runs.specs.Fold.{Stores};
 ghost use Rattle.layout_values.specs.Value.{valueAt};
 ghost use Rattle.walk_trees.specs.Tree.{Tree};
 ghost use Rattle.words_spots.specs.Spot.{spotPlaces, SpotsFit, Spotted, EachFits};
@@ -66,7 +66,7 @@ pub fn spots_of(
 // Writes the struct that begins at `at`, from word `k` on.
 fn write_spots(spots: &[usize], count: usize, at: usize, words: &[u32], k: usize, buf: &mut [u8])
     requires { ⌜ SpotsFit count (now spots) 0 at (length (now buf)) k (length (now words)) × (2 * count ≤ length (now spots)) ⌝ }
-    ensures { λ _. ⌜ now (buf .exit) ≡ overPlaces (storing (now (words .entry))) (spotPlaces count (now (spots .entry)) 0 at) k (now (buf .entry)) ⌝ }
+    ensures { λ _. ⌜ Stores (now (words .entry)) (spotPlaces count (now (spots .entry)) 0 at) k (now (buf .entry)) (now (buf .exit)) ⌝ }
 {
     let mut next = k;
     let mut j: usize = 0;
@@ -91,7 +91,7 @@ pub fn write_each(
     buf: &mut [u8],
 )
     requires { ⌜ EachFits few (now spots) count unit stride at (length (now buf)) k (length (now words)) ⌝ }
-    ensures { λ _. ⌜ now (buf .exit) ≡ overPlaces (storing (now (words .entry))) (repeated count stride (λ p. spotPlaces few (now (spots .entry)) 0 p) at) k (now (buf .entry)) ⌝ }
+    ensures { λ _. ⌜ Stores (now (words .entry)) (repeated count stride (λ p. spotPlaces few (now (spots .entry)) 0 p) at) k (now (buf .entry)) (now (buf .exit)) ⌝ }
 {
     let mut i: usize = 0;
     while i < count {

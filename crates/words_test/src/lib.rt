@@ -11,10 +11,9 @@ use runs::scan_two;
 use walk_trees::part_width;
 ghost use mathlib.Core.Path.{_≡_};
 ghost use lib.ListN.{length};
-ghost use Rattle.wgsl.specs.Said.{good};
 ghost use Rattle.wgsl.specs.Place.{Shape, placesOf};
 ghost use Rattle.wgsl.specs.Types.{structKind};
-ghost use Rattle.runs.specs.Fold.{overPlaces, testing};
+ghost use Rattle.runs.specs.Fold.{Tests};
 ghost use Rattle.runs.specs.Ask.{saidScan};
 ghost use Rattle.layout_values.specs.Value.{valueAt};
 ghost use Rattle.walk_trees.specs.Tree.{Many, Tree, WordRoom};
@@ -22,7 +21,7 @@ ghost use Rattle.walk_trees.specs.Tree.{Many, Tree, WordRoom};
 // Tests the words of entry `e`, from word `k` on. Only what holds an f16 is looked at.
 pub fn scan_entry(members: &[u8], table: &[Row], e: usize, words: &[u32], k: usize) -> Scan
     requires { ⌜ ((x : Shape) × Tree (now members) (now table) e x × WordRoom x k (length (now words))) ⌝ }
-    ensures { λ r. ⌜ ((x : Shape) → Tree (now (members .entry)) (now (table .entry)) e x → saidScan r ≡ overPlaces (testing (now (words .entry))) (placesOf x 0) k (good tt)) ⌝ }
+    ensures { λ r. ⌜ ((x : Shape) → Tree (now (members .entry)) (now (table .entry)) e x → Tests (now (words .entry)) (placesOf x 0) k (saidScan r)) ⌝ }
 {
     let r = value_at(table, e);
     if r.narrow != 2 {
@@ -37,7 +36,7 @@ pub fn scan_entry(members: &[u8], table: &[Row], e: usize, words: &[u32], k: usi
 // Tests parts as the layout `r` says.
 pub fn scan_many(members: &[u8], table: &[Row], r: Value, words: &[u32], k: usize) -> Scan
     requires { ⌜ ((x : Shape) × Many (now members) (now table) r x × WordRoom x k (length (now words))) ⌝ }
-    ensures { λ s. ⌜ ((x : Shape) → Many (now (members .entry)) (now (table .entry)) r x → saidScan s ≡ overPlaces (testing (now (words .entry))) (placesOf x 0) k (good tt)) ⌝ }
+    ensures { λ s. ⌜ ((x : Shape) → Many (now (members .entry)) (now (table .entry)) r x → Tests (now (words .entry)) (placesOf x 0) k (saidScan s)) ⌝ }
 {
     if r.narrow != 2 {
         return Scan::Fine;
@@ -64,7 +63,7 @@ pub fn scan_many(members: &[u8], table: &[Row], r: Value, words: &[u32], k: usiz
 // Tests a struct member by member.
 fn scan_struct(members: &[u8], table: &[Row], e: usize, words: &[u32], k: usize) -> Scan
     requires { ⌜ ((x : Shape) × Tree (now members) (now table) e x × (valueAt (now table) e .kind ≡ structKind) × WordRoom x k (length (now words))) ⌝ }
-    ensures { λ r. ⌜ ((x : Shape) → Tree (now (members .entry)) (now (table .entry)) e x → saidScan r ≡ overPlaces (testing (now (words .entry))) (placesOf x 0) k (good tt)) ⌝ }
+    ensures { λ r. ⌜ ((x : Shape) → Tree (now (members .entry)) (now (table .entry)) e x → Tests (now (words .entry)) (placesOf x 0) k (saidScan r)) ⌝ }
 {
     let r = value_at(table, e);
     let length = wide(r.stride);

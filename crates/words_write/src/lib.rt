@@ -20,7 +20,7 @@ ghost use Prim.Native.Nat.{_+_};
 ghost use lib.ListN.{length};
 ghost use Rattle.wgsl.specs.Place.{Shape, parts, placesOf};
 ghost use Rattle.wgsl.specs.Types.{structKind};
-ghost use Rattle.runs.specs.Fold.{overPlaces, storing};
+ghost use Rattle.runs.specs.Fold.{Stores};
 ghost use Rattle.layout_values.specs.Value.{valueAt};
 ghost use Rattle.walk_trees.specs.Slot.{slotAt};
 ghost use Rattle.walk_trees.specs.Tree.{Many, Tree, Room, EachRoom, MemberRoom};
@@ -36,7 +36,7 @@ pub fn write_entry(
     buf: &mut [u8],
 )
     requires { ⌜ ((x : Shape) × Tree (now members) (now table) e x × Room x at (length (now buf)) k (length (now words))) ⌝ }
-    ensures { λ _. ⌜ ((x : Shape) → Tree (now (members .entry)) (now (table .entry)) e x → now (buf .exit) ≡ overPlaces (storing (now (words .entry))) (placesOf x at) k (now (buf .entry))) ⌝ }
+    ensures { λ _. ⌜ ((x : Shape) → Tree (now (members .entry)) (now (table .entry)) e x → Stores (now (words .entry)) (placesOf x at) k (now (buf .entry)) (now (buf .exit))) ⌝ }
 {
     let r = value_at(table, e);
     if r.kind == STRUCT {
@@ -68,7 +68,7 @@ pub fn write_many(
     buf: &mut [u8],
 )
     requires { ⌜ ((x : Shape) × Many (now members) (now table) r x × Room x at (length (now buf)) k (length (now words))) ⌝ }
-    ensures { λ _. ⌜ ((x : Shape) → Many (now (members .entry)) (now (table .entry)) r x → now (buf .exit) ≡ overPlaces (storing (now (words .entry))) (placesOf x at) k (now (buf .entry))) ⌝ }
+    ensures { λ _. ⌜ ((x : Shape) → Many (now (members .entry)) (now (table .entry)) r x → Stores (now (words .entry)) (placesOf x at) k (now (buf .entry)) (now (buf .exit))) ⌝ }
 {
     let count = wide(r.count);
     let unit = wide(r.unit);
@@ -130,7 +130,7 @@ fn write_structs(
     buf: &mut [u8],
 )
     requires { ⌜ ((y : Shape) × Tree (now members) (now table) e y × (valueAt (now table) e .kind ≡ structKind) × EachRoom y count unit stride at (length (now buf)) k (length (now words))) ⌝ }
-    ensures { λ _. ⌜ ((y : Shape) → Tree (now (members .entry)) (now (table .entry)) e y → now (buf .exit) ≡ overPlaces (storing (now (words .entry))) (placesOf (parts count stride y) at) k (now (buf .entry))) ⌝ }
+    ensures { λ _. ⌜ ((y : Shape) → Tree (now (members .entry)) (now (table .entry)) e y → Stores (now (words .entry)) (placesOf (parts count stride y) at) k (now (buf .entry)) (now (buf .exit))) ⌝ }
 {
     let mut spots = no_spots();
     let few = spots_of(members, table, e, count, &mut spots);
@@ -156,7 +156,7 @@ fn write_struct(
     buf: &mut [u8],
 )
     requires { ⌜ ((x : Shape) × Tree (now members) (now table) e x × (valueAt (now table) e .kind ≡ structKind) × Room x at (length (now buf)) k (length (now words))) ⌝ }
-    ensures { λ _. ⌜ ((x : Shape) → Tree (now (members .entry)) (now (table .entry)) e x → now (buf .exit) ≡ overPlaces (storing (now (words .entry))) (placesOf x at) k (now (buf .entry))) ⌝ }
+    ensures { λ _. ⌜ ((x : Shape) → Tree (now (members .entry)) (now (table .entry)) e x → Stores (now (words .entry)) (placesOf x at) k (now (buf .entry)) (now (buf .exit))) ⌝ }
 {
     let r = value_at(table, e);
     let length = wide(r.stride);
@@ -186,7 +186,7 @@ fn write_member(
 ) -> Slot
     requires { ⌜ ((y : Shape) × MemberRoom (now members) (now table) m end y at (length (now buf)) k (length (now words))) ⌝ }
     ensures placed { λ r. ⌜ r ≡ slotAt (now (members .entry)) (now (table .entry)) m end ⌝ }
-    ensures written { λ _. ⌜ ((y : Shape) → Tree (now (members .entry)) (now (table .entry)) (slotAt (now (members .entry)) (now (table .entry)) m end .ty) y → now (buf .exit) ≡ overPlaces (storing (now (words .entry))) (placesOf y (at + slotAt (now (members .entry)) (now (table .entry)) m end .start)) k (now (buf .entry))) ⌝ }
+    ensures written { λ _. ⌜ ((y : Shape) → Tree (now (members .entry)) (now (table .entry)) (slotAt (now (members .entry)) (now (table .entry)) m end .ty) y → Stores (now (words .entry)) (placesOf y (at + slotAt (now (members .entry)) (now (table .entry)) m end .start)) k (now (buf .entry)) (now (buf .exit))) ⌝ }
 {
     let p = slot_after(members, table, m, end);
     let r = value_at(table, p.ty);

@@ -3,7 +3,7 @@ use Prim.Native.Nat.{_+_, _≤_}
 use native.Mathlib.Omega.{arith}
 use Rattle.wgsl.specs.BitField.{inserted}
 use Rattle.wgsl.proofs.BitField.{field-within}
-use Rattle.bits.proofs.Words.{Put, put-sum}
+use Rattle.bits.proofs.FieldAt.{Put, put-sum}
 use borrow.Author.Needs.{needs}
 use Rattle.bits.proofs.insert_bits_u32.Statement.{statement}
 use Rattle.bits.proofs.insert_bits_u32.Tie as tie

@@ -3,7 +3,7 @@ use mathlib.Core.Path.{ap, sym}
 use native.Mathlib.Omega.{arith}
 use mir.Facts.{toZ-ofZ}
 use Rattle.wgsl.specs.BitField.{patternOf}
-use Rattle.bits.proofs.Signs.{Low, low, High, high}
+use Rattle.bits.proofs.PatternOf.{Low, low, High, high}
 use Rattle.bits.proofs.pattern.Statement.{statement}
 use Rattle.bits.proofs.pattern.Tie as tie
 

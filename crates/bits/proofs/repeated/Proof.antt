@@ -1,6 +1,6 @@
 -- The top bit is repeated by a sum and a difference (`Words`).
 use Rattle.wgsl.proofs.BitField.{repeated-word}
-use Rattle.bits.proofs.Words.{repeated-sum}
+use Rattle.bits.proofs.FieldAt.{repeated-sum}
 use borrow.Author.Needs.{needs}
 use mathlib.Core.Path.{refl}
 use Rattle.bits.proofs.repeated.Statement.{statement}

@@ -7,7 +7,7 @@ use mir.Val.{SFits}
 use mir.Facts.{toZ-ofZ}
 use lib.IntN.{negsuc}
 use Rattle.wgsl.specs.BitField.{signedOf}
-use Rattle.bits.proofs.Signs.{flipped}
+use Rattle.bits.proofs.PatternOf.{flipped}
 use borrow.Author.Needs.{needs}
 use Rattle.bits.proofs.signed.Statement.{statement}
 use Rattle.bits.proofs.signed.Tie as tie

@@ -1,11 +1,11 @@
--- Each answer is a law of `Questions`, over what `accept`, `all_below` and `common_of_all` ensure.
+-- Each answer is a law of `Calls`, over what `accept`, `all_below` and `common_of_all` ensure.
 use mathlib.Core.Path.{ap, sym, _∙_}
 use native.Mathlib.Omega.{arith}
 use borrow.Author.Tests.{not-true, not-false}
 use Rattle.wgsl.specs.Said.{orRefuse}
 use Rattle.convert_common.specs.Chosen.{chosenIs}
-use Rattle.layout_table.proofs.Taken.{Taken, told}
-use Rattle.convert_ask.proofs.Questions.{common-refused, common-past, common-empty, list-there, common-is}
+use Rattle.layout_table.proofs.SaidTable.{Taken, told}
+use Rattle.convert_ask.proofs.Calls.{common-refused, common-past, common-empty, list-there, common-is}
 use borrow.Author.Needs.{needs}
 use Rattle.convert_ask.proofs.common.Statement.{statement}
 use Rattle.convert_ask.proofs.common.Tie as tie

@@ -1,10 +1,10 @@
--- Each answer is a law of `Questions`, over what `accept` and `entry_rank` ensure.
+-- Each answer is a law of `Calls`, over what `accept` and `entry_rank` ensure.
 use mathlib.Core.Path.{ap}
 use native.Mathlib.Omega.{arith}
 use Rattle.wgsl.specs.Said.{orRefuse}
 use Rattle.convert_rank.specs.Ranked.{rankIs}
-use Rattle.layout_table.proofs.Taken.{Taken, told}
-use Rattle.convert_ask.proofs.Questions.{rank-refused, rank-past, rank-past-second, pair-there, rank-is}
+use Rattle.layout_table.proofs.SaidTable.{Taken, told}
+use Rattle.convert_ask.proofs.Calls.{rank-refused, rank-past, rank-past-second, pair-there, rank-is}
 use borrow.Author.Needs.{needs}
 use Rattle.convert_ask.proofs.rank.Statement.{statement}
 use Rattle.convert_ask.proofs.rank.Tie as tie

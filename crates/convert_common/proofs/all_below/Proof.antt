@@ -5,7 +5,7 @@ use native.Mathlib.Omega.{arith}
 use borrow.Author.Needs.{needs}
 use lib.ListN.{length, drop}
 use Rattle.convert_common.specs.Chosen.{allBelow}
-use Rattle.convert_common.proofs.Folds.{all-below-end, all-below-step, all-below-bad}
+use Rattle.convert_common.proofs.CommonOfAll.{all-below-end, all-below-step, all-below-bad}
 use Rattle.convert_common.proofs.all_below.Statement.{statement}
 use Rattle.convert_common.proofs.all_below.Tie as tie
 

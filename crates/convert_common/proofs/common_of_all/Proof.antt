@@ -7,7 +7,7 @@ use borrow.Author.Needs.{needs}
 use lib.ListN.{length}
 use Rattle.wgsl.specs.Types.{Ty}
 use Rattle.convert_common.specs.Chosen.{chosenIs, Listed}
-use Rattle.convert_common.proofs.Folds.{Folded, folded-start, folded-end, folded-pair, folded-step, folded-none}
+use Rattle.convert_common.proofs.CommonOfAll.{Folded, folded-start, folded-end, folded-pair, folded-step, folded-none}
 use Rattle.convert_common.proofs.common_of_all.Statement.{statement}
 use Rattle.convert_common.proofs.common_of_all.Tie as tie
 

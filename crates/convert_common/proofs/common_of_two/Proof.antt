@@ -2,8 +2,8 @@
 use mathlib.Core.Path.{ap}
 use Rattle.convert_rank.specs.Ranked.{rankIs}
 use borrow.Author.Needs.{needs}
-use Rattle.convert_common.proofs.Named.{swapped, renamed, rank-named}
-use Rattle.convert_common.proofs.Folds.{common-second, common-first, common-none}
+use Rattle.convert_common.proofs.PairNamed.{swapped, renamed, rank-named}
+use Rattle.convert_common.proofs.CommonOfAll.{common-second, common-first, common-none}
 use Rattle.convert_common.proofs.common_of_two.Statement.{statement}
 use Rattle.convert_common.proofs.common_of_two.Tie as tie
 

@@ -1,4 +1,4 @@
--- Each answer is a law of `Pairs`, at the fields that were read. The measure is the number of the first entry, which falls since an entry refers to lower ones only.
+-- Each answer is a law of `PairRank`, at the fields that were read. The measure is the number of the first entry, which falls since an entry refers to lower ones only.
 use Prim.Native.Nat.{ℕ, _<_}
 use mathlib.Core.List.{List}
 use mathlib.Core.Option.{some}
@@ -13,7 +13,7 @@ use Rattle.wgsl.specs.Rule.{typesOf}
 use Rattle.file.specs.Fields.{entryIs}
 use Rattle.convert_rank.specs.Ranked.{Pair}
 use Rattle.wgsl.proofs.AtEntry.{getElem-getD}
-use Rattle.convert_rank.proofs.Pairs.{first-inside, second-inside, Two, lower-pair, scalars-rank, scalar-other, kinds-other, structs-same, structs-other, arrays-other, arrays-rank, runtimes-rank, over-scalars-rank}
+use Rattle.convert_rank.proofs.PairRank.{first-inside, second-inside, Two, lower-pair, scalars-rank, scalar-other, kinds-other, structs-same, structs-other, arrays-other, arrays-rank, runtimes-rank, over-scalars-rank}
 use borrow.Fn.Kinds.{In}
 use borrow.Fn.PlainCycle.{Measures, is, falls, and}
 use Rattle.convert_rank.proofs.entry_rank.Reads as entry-rank

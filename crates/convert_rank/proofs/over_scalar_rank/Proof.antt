@@ -1,7 +1,7 @@
--- Each answer is a law of `Shapes`, by what was tested.
+-- Each answer is a law of `OverScalar`, by what was tested.
 use mathlib.Core.Path.{sym, _∙_}
 use borrow.Author.Needs.{needs}
-use Rattle.convert_rank.proofs.Shapes.{vectors-rank, vectors-other, matrices-rank, columns-other, rows-other, atomics-same, atomics-other}
+use Rattle.convert_rank.proofs.OverScalar.{vectors-rank, vectors-other, matrices-rank, columns-other, rows-other, atomics-same, atomics-other}
 use Rattle.convert_rank.proofs.over_scalar_rank.Statement.{statement}
 use Rattle.convert_rank.proofs.over_scalar_rank.Tie as tie
 

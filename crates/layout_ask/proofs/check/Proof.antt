@@ -1,5 +1,5 @@
--- Each answer is a law of `Asks`, over what `accept` ensures.
-use Rattle.layout_ask.proofs.Asks.{check-types, check-refused}
+-- Each answer is a law of `Calls`, over what `accept` ensures.
+use Rattle.layout_ask.proofs.Calls.{check-types, check-refused}
 use borrow.Author.Needs.{needs}
 use Rattle.layout_ask.proofs.check.Statement.{statement}
 use Rattle.layout_ask.proofs.check.Tie as tie

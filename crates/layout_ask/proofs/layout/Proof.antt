@@ -1,6 +1,6 @@
--- Each answer is a law of `Asks`, over what `layout_of`, `mark` and `least` ensure.
+-- Each answer is a law of `Calls`, over what `layout_of`, `mark` and `least` ensure.
 use Rattle.wgsl.specs.Call.{layoutCall}
-use Rattle.layout_ask.proofs.Asks.{ask-refused, ask-layout}
+use Rattle.layout_ask.proofs.Calls.{ask-refused, ask-layout}
 use borrow.Author.Needs.{needs}
 use Rattle.layout_ask.proofs.layout.Statement.{statement}
 use Rattle.layout_ask.proofs.layout.Tie as tie

@@ -1,5 +1,5 @@
--- Each answer is a law of `Asks`: kind 10 is a runtime array's.
-use Rattle.layout_ask.proofs.Asks.{least-stride, least-size}
+-- Each answer is a law of `Calls`: kind 10 is a runtime array's.
+use Rattle.layout_ask.proofs.Calls.{least-stride, least-size}
 use Rattle.layout_ask.proofs.least.Statement.{statement}
 use Rattle.layout_ask.proofs.least.Tie as tie
 

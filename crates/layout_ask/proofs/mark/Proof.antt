@@ -1,6 +1,6 @@
 -- 0 is no number of a type: `marked` tells it from one.
 use mathlib.Core.Path.{sym}
-use Rattle.layout_ask.proofs.Asks.{marked-zero, marked-other}
+use Rattle.layout_ask.proofs.Calls.{marked-zero, marked-other}
 use Rattle.layout_ask.proofs.mark.Statement.{statement}
 use Rattle.layout_ask.proofs.mark.Tie as tie
 

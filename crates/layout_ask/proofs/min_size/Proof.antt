@@ -1,6 +1,6 @@
--- Each answer is a law of `Asks`, over what `layout_of`, `least` and `alone` ensure.
+-- Each answer is a law of `Calls`, over what `layout_of`, `least` and `alone` ensure.
 use Rattle.wgsl.specs.Call.{minSizeCall}
-use Rattle.layout_ask.proofs.Asks.{ask-refused, ask-min-size}
+use Rattle.layout_ask.proofs.Calls.{ask-refused, ask-min-size}
 use borrow.Author.Needs.{needs}
 use Rattle.layout_ask.proofs.min_size.Statement.{statement}
 use Rattle.layout_ask.proofs.min_size.Tie as tie

@@ -1,6 +1,6 @@
--- Each answer is a law of `Asks`, over what `layout_of` and `alone` ensure.
+-- Each answer is a law of `Calls`, over what `layout_of` and `alone` ensure.
 use Rattle.wgsl.specs.Call.{sizeCall}
-use Rattle.layout_ask.proofs.Asks.{ask-refused, ask-size}
+use Rattle.layout_ask.proofs.Calls.{ask-refused, ask-size}
 use borrow.Author.Needs.{needs}
 use Rattle.layout_ask.proofs.size.Statement.{statement}
 use Rattle.layout_ask.proofs.size.Tie as tie

@@ -1,8 +1,8 @@
--- A refusal of the trailer is the file's; otherwise `find` says which layout the entry has, or that it has none (proofs/Asks).
+-- A refusal of the trailer is the file's; otherwise `find` says which layout the entry has, or that it has none (proofs/Calls).
 use mathlib.Core.Path.{sym, ap, _∙_}
 use borrow.Author.Needs.{needs}
 use Rattle.file.specs.Fields.{saidTrailer}
-use Rattle.layout_ask.proofs.Asks.{found-no-trailer, found-ground, found-no-ground}
+use Rattle.layout_ask.proofs.Calls.{found-no-trailer, found-ground, found-no-ground}
 use Rattle.layout_ask.proofs.value_of.Statement.{statement}
 use Rattle.layout_ask.proofs.value_of.Tie as tie
 

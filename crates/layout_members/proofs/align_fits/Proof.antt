@@ -1,8 +1,8 @@
--- Each answer is a law of `Fitting`.
+-- Each answer is a law of `GivenFits`.
 use mathlib.Core.Path.{sym, _∙_}
 use borrow.Author.Needs.{needs}
 use borrow.Author.Tests.{not-true, not-false}
-use Rattle.layout_members.proofs.Fitting.{align-not-given, align-no-power, align-multiple}
+use Rattle.layout_members.proofs.GivenFits.{align-not-given, align-no-power, align-multiple}
 use Rattle.layout_members.proofs.align_fits.Statement.{statement}
 use Rattle.layout_members.proofs.align_fits.Tie as tie
 

@@ -1,6 +1,6 @@
--- Each answer is a law of `Fitting`: a layout has 0 where a type's number is absent.
+-- Each answer is a law of `GivenFits`: a layout has 0 where a type's number is absent.
 use mathlib.Core.Path.{sym}
-use Rattle.layout_members.proofs.Fitting.{unaligned-not-allowed, sized-allowed, last-allowed, not-last-allowed}
+use Rattle.layout_members.proofs.GivenFits.{unaligned-not-allowed, sized-allowed, last-allowed, not-last-allowed}
 use Rattle.layout_members.proofs.is_allowed.Statement.{statement}
 use Rattle.layout_members.proofs.is_allowed.Tie as tie
 

@@ -1,8 +1,8 @@
--- Each answer is a law of `Fitting`.
+-- Each answer is a law of `GivenFits`.
 use mathlib.Core.Path.{sym, _∙_}
 use borrow.Author.Needs.{needs}
 use borrow.Author.Tests.{not-true, not-false}
-use Rattle.layout_members.proofs.Fitting.{size-not-given, size-not-on-runtime, size-at-least}
+use Rattle.layout_members.proofs.GivenFits.{size-not-given, size-not-on-runtime, size-at-least}
 use Rattle.layout_members.proofs.size_fits.Statement.{statement}
 use Rattle.layout_members.proofs.size_fits.Tie as tie
 

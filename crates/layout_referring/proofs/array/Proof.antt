@@ -1,4 +1,4 @@
--- Each answer is a law of `Arrays`, at the element's numbers (`element` of `Presence`); its words fit by what is required of l.
+-- Each answer is a law of `ArrayMade`, at the element's numbers (`element` of `Presence`); its words fit by what is required of l.
 use mathlib.Core.Bool.{true, false}
 use mathlib.Core.List.{[], _∷_}
 use mathlib.Core.Path.{_≡_, sym, _∙_}
@@ -6,9 +6,9 @@ use native.Mathlib.Omega.{arith}
 use Rattle.wgsl.specs.Types.{Ty, isOpen, everywhere}
 use Rattle.wgsl.specs.Rule.{unused, isWellFormed}
 use Rattle.layout_values.specs.Value.{valueOf}
-use Rattle.layout_values.proofs.Zero.{unused-two, denied, granted}
-use Rattle.layout_values.proofs.Presence.{unaligned, Element, element}
-use Rattle.layout_referring.proofs.Arrays.{array-used, array-empty, array-open, array-unaligned, array-large, array-apart, array-words, array-laid}
+use Rattle.layout_values.proofs.Unused.{unused-two, denied, granted}
+use Rattle.layout_values.proofs.ValueOf.{unaligned, Element, element}
+use Rattle.layout_referring.proofs.ArrayMade.{array-used, array-empty, array-open, array-unaligned, array-large, array-apart, array-words, array-laid}
 use borrow.Author.Needs.{needs}
 use Rattle.layout_referring.proofs.array.Statement.{statement}
 use Rattle.layout_referring.proofs.array.Tie as tie

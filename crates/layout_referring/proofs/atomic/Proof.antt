@@ -1,8 +1,8 @@
--- Each answer is a law of `Atomics`.
+-- Each answer is a law of `AtomicMade`.
 use mathlib.Core.Path.{sym}
 use native.Mathlib.Omega.{arith}
-use Rattle.layout_values.proofs.Zero.{unused-three, denied, granted}
-use Rattle.layout_referring.proofs.Atomics.{atomic-used, atomic-low, atomic-high, atomic-laid}
+use Rattle.layout_values.proofs.Unused.{unused-three, denied, granted}
+use Rattle.layout_referring.proofs.AtomicMade.{atomic-used, atomic-low, atomic-high, atomic-laid}
 use borrow.Author.Needs.{needs}
 use Rattle.layout_referring.proofs.atomic.Statement.{statement}
 use Rattle.layout_referring.proofs.atomic.Tie as tie

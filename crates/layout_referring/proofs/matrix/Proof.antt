@@ -1,9 +1,9 @@
--- Each answer is a law of `Matrices`, over what `vector_align` and `unless_absent` ensure.
+-- Each answer is a law of `MatrixMade`, over what `vector_align` and `unless_absent` ensure.
 use mathlib.Core.Path.{sym}
 use native.Mathlib.Omega.{arith}
-use Rattle.layout_values.proofs.Zero.{unused-one, denied, granted}
-use Rattle.layout_values.proofs.Align.{times-fits}
-use Rattle.layout_referring.proofs.Matrices.{matrix-used, matrix-low, matrix-over, matrix-int, columns-low, columns-high, rows-low, rows-high, matrix-laid}
+use Rattle.layout_values.proofs.Unused.{unused-one, denied, granted}
+use Rattle.layout_values.proofs.VectorAlign.{times-fits}
+use Rattle.layout_referring.proofs.MatrixMade.{matrix-used, matrix-low, matrix-over, matrix-int, columns-low, columns-high, rows-low, rows-high, matrix-laid}
 use borrow.Author.Needs.{needs}
 use Rattle.layout_referring.proofs.matrix.Statement.{statement}
 use Rattle.layout_referring.proofs.matrix.Tie as tie

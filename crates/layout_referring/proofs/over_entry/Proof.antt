@@ -1,7 +1,7 @@
--- Each answer is what the kind's own function ensures, and a law of `Referring` for the kind.
+-- Each answer is what the kind's own function ensures, and a law of `OverMade` for the kind.
 use mathlib.Core.Path.{sym, _∙_}
 use native.Mathlib.Omega.{arith}
-use Rattle.layout_referring.proofs.Referring.{over-vector, over-matrix, over-array, over-runtime, over-atomic, over-none}
+use Rattle.layout_referring.proofs.OverMade.{over-vector, over-matrix, over-array, over-runtime, over-atomic, over-none}
 use borrow.Author.Needs.{needs}
 use Rattle.layout_referring.proofs.over_entry.Statement.{statement}
 use Rattle.layout_referring.proofs.over_entry.Tie as tie

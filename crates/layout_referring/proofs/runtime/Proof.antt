@@ -1,4 +1,4 @@
--- Each answer is a law of `Runtimes`, at the element's numbers (`element` of `Presence`); its words fit by what is required of l.
+-- Each answer is a law of `RuntimeMade`, at the element's numbers (`element` of `Presence`); its words fit by what is required of l.
 use mathlib.Core.Bool.{true}
 use mathlib.Core.List.{[], _∷_}
 use mathlib.Core.Path.{_≡_, sym, _∙_}
@@ -6,9 +6,9 @@ use native.Mathlib.Omega.{arith}
 use Rattle.wgsl.specs.Types.{Ty, everywhere}
 use Rattle.wgsl.specs.Rule.{unused, isWellFormed}
 use Rattle.layout_values.specs.Value.{valueOf}
-use Rattle.layout_values.proofs.Zero.{unused-three, denied, granted}
-use Rattle.layout_values.proofs.Presence.{unaligned, Element, element, words-within}
-use Rattle.layout_referring.proofs.Runtimes.{runtime-used, runtime-open, runtime-unaligned, runtime-apart, runtime-laid}
+use Rattle.layout_values.proofs.Unused.{unused-three, denied, granted}
+use Rattle.layout_values.proofs.ValueOf.{unaligned, Element, element, words-within}
+use Rattle.layout_referring.proofs.RuntimeMade.{runtime-used, runtime-open, runtime-unaligned, runtime-apart, runtime-laid}
 use borrow.Author.Needs.{needs}
 use Rattle.layout_referring.proofs.runtime.Statement.{statement}
 use Rattle.layout_referring.proofs.runtime.Tie as tie

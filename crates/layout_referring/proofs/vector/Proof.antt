@@ -1,9 +1,9 @@
--- Each answer is a law of `Vectors`, over what `scalar_size`, `vector_align` and `unless_absent` ensure.
+-- Each answer is a law of `VectorMade`, over what `scalar_size`, `vector_align` and `unless_absent` ensure.
 use mathlib.Core.Path.{sym}
 use native.Mathlib.Omega.{arith}
-use Rattle.layout_values.proofs.Zero.{unused-two, denied, granted}
-use Rattle.layout_values.proofs.Align.{times-fits}
-use Rattle.layout_referring.proofs.Vectors.{vector-used, vector-over, vector-low, vector-high, vector-laid}
+use Rattle.layout_values.proofs.Unused.{unused-two, denied, granted}
+use Rattle.layout_values.proofs.VectorAlign.{times-fits}
+use Rattle.layout_referring.proofs.VectorMade.{vector-used, vector-over, vector-low, vector-high, vector-laid}
 use borrow.Author.Needs.{needs}
 use Rattle.layout_referring.proofs.vector.Statement.{statement}
 use Rattle.layout_referring.proofs.vector.Tie as tie

@@ -1,11 +1,11 @@
--- Each verdict on the members is one law of `Wholes`.
+-- Each verdict on the members is one law of `Ended`.
 use mathlib.Core.Path.{_≡_, refl, sym, subst}
 use native.Mathlib.Omega.{arith}
 use borrow.Author.Needs.{needs}
 use Rattle.wgsl.specs.Types.{Members}
 use Rattle.layout_structs.specs.declared.SoFar.{SoFar}
 use Rattle.layout_structs.specs.SoFar.{Closes}
-use Rattle.layout_structs.proofs.Wholes.{closes-placed, closes-unfit, closes-past}
+use Rattle.layout_structs.proofs.Ended.{closes-placed, closes-unfit, closes-past}
 use Rattle.layout_structs.proofs.finish.Statement.{statement}
 use Rattle.layout_structs.proofs.finish.Tie as tie
 

@@ -1,5 +1,5 @@
--- The verdict on no members is a law of `Turns`.
-use Rattle.layout_structs.proofs.Turns.{no-members}
+-- The verdict on no members is a law of `Reached`.
+use Rattle.layout_structs.proofs.Reached.{no-members}
 use Rattle.layout_structs.proofs.no_members.Statement.{statement}
 use Rattle.layout_structs.proofs.no_members.Tie as tie
 

@@ -1,8 +1,8 @@
--- Each test is one law of `Structs`.
+-- Each test is one law of `StructMade`.
 use native.Mathlib.Omega.{arith}
 use borrow.Author.Needs.{needs}
-use Rattle.layout_values.proofs.Zero.{denied, granted}
-use Rattle.layout_structs.proofs.Structs.{struct-used, struct-past, struct-empty}
+use Rattle.layout_values.proofs.Unused.{denied, granted}
+use Rattle.layout_structs.proofs.StructMade.{struct-used, struct-past, struct-empty}
 use Rattle.layout_structs.proofs.span_of.Statement.{statement}
 use Rattle.layout_structs.proofs.span_of.Tie as tie
 

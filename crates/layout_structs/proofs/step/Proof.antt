@@ -1,4 +1,4 @@
--- Each answer is a law of `Steps`, at what the tests before it said.
+-- Each answer is a law of `Meets`, at what the tests before it said.
 use mathlib.Core.Bool.{true}
 use mathlib.Core.Path.{_≡_, sym, _∙_}
 use borrow.Author.Tests.{not-true, not-false}
@@ -7,7 +7,7 @@ use Rattle.wgsl.specs.File.{givenSize, givenAlign, restIsZero}
 use Rattle.wgsl.specs.Rule.{memberAllowed, givenSizeFits, givenAlignFits, isWellFormed}
 use Rattle.file.specs.Fields.{memberIs}
 use Rattle.layout_values.specs.Value.{valueOf}
-use Rattle.layout_structs.proofs.Steps.{layout-aligned, steps-rest, steps-not-allowed, steps-next, steps-size, steps-align, steps-unfit, steps-joins, steps-large}
+use Rattle.layout_structs.proofs.Meets.{layout-aligned, steps-rest, steps-not-allowed, steps-next, steps-size, steps-align, steps-unfit, steps-joins, steps-large}
 use borrow.Author.Needs.{needs}
 use Rattle.layout_structs.proofs.step.Statement.{statement}
 use Rattle.layout_structs.proofs.step.Tie as tie

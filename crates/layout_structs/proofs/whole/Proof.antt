@@ -1,7 +1,7 @@
--- Each way out is one law of `Wholes`; the alignment of complete members is above 0.
+-- Each way out is one law of `Ended`; the alignment of complete members is above 0.
 use mathlib.Core.Path.{sym, _∙_}
 use borrow.Author.Needs.{needs}
-use Rattle.layout_structs.proofs.Wholes.{ended-positive, ended-opens, ended-closes, ended-past}
+use Rattle.layout_structs.proofs.Ended.{ended-positive, ended-opens, ended-closes, ended-past}
 use Rattle.layout_structs.proofs.whole.Statement.{statement}
 use Rattle.layout_structs.proofs.whole.Tie as tie
 

@@ -2,7 +2,7 @@
 use mathlib.Core.Path.{sym, ap, _∙_}
 use borrow.Author.Needs.{needs}
 use Rattle.file.specs.Fields.{saidTrailer}
-use Rattle.layout_table.proofs.Taken.{trailer-refused, accepted-refused, table-trailer}
+use Rattle.layout_table.proofs.SaidTable.{trailer-refused, accepted-refused, table-trailer}
 use Rattle.layout_table.proofs.accept.Statement.{statement}
 use Rattle.layout_table.proofs.accept.Tie as tie
 

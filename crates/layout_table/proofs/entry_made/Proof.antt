@@ -1,4 +1,4 @@
--- Each kind of entry makes what the function for it says (proofs/Judging); over a reference that is not lower nothing is made.
+-- Each kind of entry makes what the function for it says (proofs/Judged); over a reference that is not lower nothing is made.
 use mathlib.Core.Bool.{true}
 use mathlib.Core.List.{List, [], _∷_}
 use mathlib.Core.Path.{_≡_, _∙_}
@@ -7,10 +7,10 @@ use borrow.Author.Needs.{needs}
 use denote.Ref.{now}
 use Rattle.wgsl.specs.Types.{Ty}
 use Rattle.wgsl.specs.Rule.{unused}
-use Rattle.layout_values.proofs.Zero.{unused-two, denied, granted}
+use Rattle.layout_values.proofs.Unused.{unused-two, denied, granted}
 use Rattle.layout_structs.specs.SoFar.{Lower}
-use Rattle.layout_structs.proofs.Froms.{LowerFound, lower-found, lower-past}
-use Rattle.layout_table.proofs.Judging.{entry-used, entry-scalar, entry-struct, entry-over, entry-missing}
+use Rattle.layout_structs.proofs.MembersFrom.{LowerFound, lower-found, lower-past}
+use Rattle.layout_table.proofs.Judged.{entry-used, entry-scalar, entry-struct, entry-over, entry-missing}
 use Rattle.layout_table.proofs.entry_made.Statement.{statement}
 use Rattle.layout_table.proofs.entry_made.Tie as tie
 

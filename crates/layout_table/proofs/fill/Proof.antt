@@ -1,4 +1,4 @@
--- The invariant is `Filled` (proofs/Fills): the types below k are good, the table holds their values and is blank past them.
+-- The invariant is `Filled` (proofs/TableOf): the types below k are good, the table holds their values and is blank past them.
 use Prim.Native.Nat.{ℕ, _+_, _-_, _*_, _<_}
 use mathlib.Core.List.{List}
 use mathlib.Core.Path.{_≡_, refl, sym, ap, _∙_}
@@ -9,8 +9,8 @@ use Rattle.wgsl.specs.Rule.{typeOfEntry}
 use Rattle.file.specs.Fields.{trailerIs, entryIs}
 use Rattle.layout_values.specs.Value.{madeOf}
 use Rattle.layout_table.specs.Table.{Upward}
-use Rattle.layout_table.proofs.Judging.{says}
-use Rattle.layout_table.proofs.Fills.{Filled, blank-length, filled-none, filled-upward, filled-more, filled-refused, filled-table}
+use Rattle.layout_table.proofs.Judged.{says}
+use Rattle.layout_table.proofs.TableOf.{Filled, blank-length, filled-none, filled-upward, filled-more, filled-refused, filled-table}
 use Rattle.layout_table.proofs.fill.Statement.{statement}
 use Rattle.layout_table.proofs.fill.Tie as tie
 

@@ -1,13 +1,13 @@
--- What `fill` says of the file, number 8, and the entry's value in the table that it left (proofs/Grounds).
+-- What `fill` says of the file, number 8, and the entry's value in the table that it left (proofs/GroundIn).
 use mathlib.Core.Path.{_≡_, ap, _∙_}
 use native.Mathlib.Omega.{arith}
 use borrow.Author.Needs.{needs}
 use lib.ListN.{length}
 use denote.Ref.{now}
 use Rattle.layout_values.specs.Value.{valuesOf}
-use Rattle.layout_values.proofs.Values.{length-table}
-use Rattle.layout_table.proofs.Taken.{Taken, table-told, table-refused}
-use Rattle.layout_table.proofs.Grounds.{ground-refused, ground-missing, ground-is}
+use Rattle.layout_values.proofs.ValuesOf.{length-table}
+use Rattle.layout_table.proofs.SaidTable.{Taken, table-told, table-refused}
+use Rattle.layout_table.proofs.GroundIn.{ground-refused, ground-missing, ground-is}
 use Rattle.layout_table.proofs.find.Statement.{statement}
 use Rattle.layout_table.proofs.find.Tie as tie
 

@@ -1,4 +1,4 @@
--- The members one after the other: after each turn the loop knows what those so far come to (`Reached` of crates/structs), whatever the
+-- The members one after the other: after each turn the loop knows what those so far come to (`Reached` of crates/layout_structs), whatever the
 -- types of the lower entries are.
 use Prim.Native.Nat.{_+_, _*_, _-_, _≤_}
 use mathlib.Core.List.{List}
@@ -11,8 +11,8 @@ use denote.Ref.{now}
 use Rattle.wgsl.specs.Types.{Ty}
 use Rattle.file.specs.Fields.{memberIs}
 use Rattle.layout_structs.specs.SoFar.{Lower, steppedTo}
-use Rattle.layout_structs.proofs.Turns.{Reached, Coming, reached-none, coming, reached-meets, reached-next}
-use Rattle.layout_table.proofs.Members.{members-past, members-rule, members-close, members-made}
+use Rattle.layout_structs.proofs.Reached.{Reached, Coming, reached-none, coming, reached-meets, reached-next}
+use Rattle.layout_table.proofs.Upward.{members-past, members-rule, members-close, members-made}
 use Rattle.layout_table.proofs.struct_entry.Statement.{statement}
 use Rattle.layout_table.proofs.struct_entry.Tie as tie
 

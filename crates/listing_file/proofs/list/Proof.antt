@@ -1,4 +1,4 @@
--- Each answer is a law of `Listings`, over what `check_trailer` and `fill` ensure.
+-- Each answer is a law of `ListingOf`, over what `check_trailer` and `fill` ensure.
 use mathlib.Core.Path.{_≡_, sym, ap, _∙_}
 use borrow.Author.Needs.{needs}
 use denote.Ref.{now}
@@ -6,8 +6,8 @@ use Rattle.wgsl.specs.Said.{good}
 use Rattle.wgsl.specs.File.{checkTrailer}
 use Rattle.file.specs.Fields.{trailerIs, saidTrailer}
 use Rattle.layout_values.specs.Value.{valuesOf}
-use Rattle.layout_table.proofs.Taken.{Taken, trailer-refused, table-told, table-refused}
-use Rattle.listing_file.proofs.Listings.{listing-long, listing-types, listing-refused}
+use Rattle.layout_table.proofs.SaidTable.{Taken, trailer-refused, table-told, table-refused}
+use Rattle.listing_file.proofs.ListingOf.{listing-long, listing-types, listing-refused}
 use Rattle.listing_file.proofs.list.Statement.{statement}
 use Rattle.listing_file.proofs.list.Tie as tie
 

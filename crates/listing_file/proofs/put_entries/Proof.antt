@@ -1,12 +1,12 @@
--- The invariant is `Going` (proofs/Listings): the lines that are left, put from here, give what all give from the start.
+-- The invariant is `Going` (proofs/ListingOf): the lines that are left, put from here, give what all give from the start.
 use Prim.Native.Nat.{_-_, _≤_}
 use denote.Ref.{now}
 use mathlib.Core.Path.{_≡_, ap, _∙_}
 use native.Mathlib.Omega.{arith}
 use lib.ListN.{length}
 use borrow.Author.Needs.{needs}
-use Rattle.layout_values.proofs.Values.{length-table}
-use Rattle.listing_file.proofs.Listings.{Going, going-none, going-more, going-all}
+use Rattle.layout_values.proofs.ValuesOf.{length-table}
+use Rattle.listing_file.proofs.ListingOf.{Going, going-none, going-more, going-all}
 use Rattle.listing_file.proofs.put_entries.Statement.{statement}
 use Rattle.listing_file.proofs.put_entries.Tie as tie
 

@@ -6,7 +6,7 @@ use lib.ListN.{length, drop, length-set}
 use lib.Seq.{sets}
 use denote.Ref.{now}
 use borrow.Author.Needs.{needs}
-use Rattle.listing_text.proofs.Puts.{left-all, left-more, left-none}
+use Rattle.listing_text.proofs.PutLaws.{left-all, left-more, left-none}
 use Rattle.listing_text.proofs.put.Statement.{statement}
 use Rattle.listing_text.proofs.put.Tie as tie
 

@@ -4,9 +4,9 @@ use lib.ListN.{length}
 use native.Mathlib.Omega.{arith}
 use Rattle.wgsl.specs.Listing.{space, newline}
 use Rattle.listing_text.specs.Put.{line}
-use Rattle.listing_text.proofs.Decimals.{decimal-length}
+use Rattle.listing_text.proofs.Decimal.{decimal-length}
 use Rattle.listing_text.proofs.Lines.{marked-length}
-use Rattle.listing_text.proofs.Puts.{put-then}
+use Rattle.listing_text.proofs.PutLaws.{put-then}
 use borrow.Author.Needs.{needs}
 use Rattle.listing_text.proofs.put_line.Statement.{statement}
 use Rattle.listing_text.proofs.put_line.Tie as tie

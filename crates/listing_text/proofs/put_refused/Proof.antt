@@ -3,9 +3,9 @@ use Prim.Native.Nat.{_+_, _≤_}
 use lib.ListN.{length}
 use native.Mathlib.Omega.{arith}
 use Rattle.wgsl.specs.Listing.{refusedText, atText, newline}
-use Rattle.listing_text.proofs.Decimals.{decimal-length}
+use Rattle.listing_text.proofs.Decimal.{decimal-length}
 use Rattle.listing_text.proofs.Lines.{refusedLine-low, refusedLine-high, refusedLine-place}
-use Rattle.listing_text.proofs.Puts.{put-then}
+use Rattle.listing_text.proofs.PutLaws.{put-then}
 use borrow.Author.Needs.{needs}
 use Rattle.listing_text.proofs.put_refused.Statement.{statement}
 use Rattle.listing_text.proofs.put_refused.Tie as tie

@@ -10,7 +10,7 @@ use lib.ListN.{set, length-set}
 use Rattle.runs.specs.Fold.{overPlaces, loading}
 use Rattle.runs.specs.Run.{runPlaces}
 use Rattle.wgsl.specs.Place.{repeated}
-use Rattle.runs.proofs.Runs.{run-more}
+use Rattle.runs.proofs.RunPlaces.{run-more}
 use Rattle.runs.proofs.read_few.Statement.{statement}
 use Rattle.runs.proofs.read_few.Tie as tie
 

@@ -8,8 +8,8 @@ use denote.Ref.{now}
 use Rattle.wgsl.specs.Said.{good}
 use Rattle.runs.specs.Fold.{overPlaces, testing}
 use Rattle.runs.specs.Run.{runPlaces}
-use Rattle.runs.proofs.Folds.{tested-refused}
-use Rattle.runs.proofs.Runs.{run-all, run-next, run-none, test-fits, test-past}
+use Rattle.runs.proofs.OverPlaces.{tested-refused}
+use Rattle.runs.proofs.RunPlaces.{run-all, run-next, run-none, test-fits, test-past}
 use Rattle.runs.proofs.scan_two.Statement.{statement}
 use Rattle.runs.proofs.scan_two.Tie as tie
 

@@ -9,7 +9,7 @@ use denote.Ref.{now}
 use Rattle.runs.specs.Fold.{overPlaces, storing}
 use Rattle.runs.specs.Run.{runPlaces}
 use Rattle.wgsl.specs.Place.{repeated}
-use Rattle.runs.proofs.Runs.{run-more}
+use Rattle.runs.proofs.RunPlaces.{run-more}
 use Rattle.runs.proofs.write_few.Statement.{statement}
 use Rattle.runs.proofs.write_few.Tie as tie
 

@@ -1,10 +1,10 @@
--- Each answer is a law of `Counts`.
+-- Each answer is a law of `ElementsOf`.
 use Prim.Native.Nat.{ℕ, _-_, _*_, _/_, _≤_}
 use mathlib.Core.Path.{sym}
 use native.Mathlib.Omega.{arith}
 use native.Mathlib.Nat.{div-mul-le-self}
 use borrow.Author.Needs.{needs}
-use Rattle.walk_decide.proofs.Counts.{elements-few, elements-right, elements-wrong}
+use Rattle.walk_decide.proofs.ElementsOf.{elements-few, elements-right, elements-wrong}
 use Rattle.walk_decide.proofs.elements_for.Statement.{statement}
 use Rattle.walk_decide.proofs.elements_for.Tie as tie
 

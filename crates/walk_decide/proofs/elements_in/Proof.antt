@@ -1,8 +1,8 @@
--- Each answer is a law of `Counts`.
+-- Each answer is a law of `ElementsOf`.
 use mathlib.Core.Path.{sym}
 use native.Mathlib.Omega.{arith}
 use borrow.Author.Needs.{needs}
-use Rattle.walk_decide.proofs.Counts.{found-none, found-before, found-some}
+use Rattle.walk_decide.proofs.ElementsOf.{found-none, found-before, found-some}
 use Rattle.walk_decide.proofs.elements_in.Statement.{statement}
 use Rattle.walk_decide.proofs.elements_in.Tie as tie
 

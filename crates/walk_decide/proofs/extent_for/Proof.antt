@@ -1,8 +1,8 @@
--- Each answer is a law of `Counts`.
+-- Each answer is a law of `ElementsOf`.
 use mathlib.Core.Path.{sym}
 use native.Mathlib.Omega.{arith}
 use borrow.Author.Needs.{needs}
-use Rattle.walk_decide.proofs.Counts.{extent-before, extent-past, extent-inside, extent-right}
+use Rattle.walk_decide.proofs.ElementsOf.{extent-before, extent-past, extent-inside, extent-right}
 use Rattle.walk_decide.proofs.extent_for.Statement.{statement}
 use Rattle.walk_decide.proofs.extent_for.Tie as tie
 

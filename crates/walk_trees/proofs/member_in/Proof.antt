@@ -5,7 +5,7 @@ use native.Mathlib.Nat.{mul-le-mul}
 use Prim.Native.Nat.{_≤_}
 use borrow.Author.Needs.{needs}
 use Rattle.walk_trees.specs.Slot.{slotIn, SlotsAsk}
-use Rattle.walk_trees.proofs.Further.{next-placeable, rest-placeables, rest-placed}
+use Rattle.walk_trees.proofs.SlotIn.{next-placeable, rest-placeables, rest-placed}
 use Rattle.walk_trees.proofs.member_in.Statement.{statement}
 use Rattle.walk_trees.proofs.member_in.Tie as tie
 

@@ -1,11 +1,11 @@
--- The laws of `Places`, over what the entry and the layout are found to be.
+-- The laws of `SlotAt`, over what the entry and the layout are found to be.
 use mathlib.Core.Path.{ap}
 use native.Mathlib.Omega.{arith}
 use borrow.Author.Needs.{needs}
 use denote.Ref.{now}
 use Rattle.wgsl.specs.File.{MemberEntry}
 use Rattle.file.specs.Fields.{memberIs}
-use Rattle.walk_trees.proofs.Places.{MemberFound, given-align, given-size, own-align, own-size, placed-is, counted, may-place}
+use Rattle.walk_trees.proofs.SlotAt.{MemberFound, given-align, given-size, own-align, own-size, placed-is, counted, may-place}
 use Rattle.walk_trees.proofs.slot_after.Statement.{statement}
 use Rattle.walk_trees.proofs.slot_after.Tie as tie
 

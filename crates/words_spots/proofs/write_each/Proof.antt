@@ -9,7 +9,7 @@ use denote.Ref.{now}
 use lib.ListN.{length}
 use Rattle.wgsl.specs.Place.{Place, repeated}
 use Rattle.runs.specs.Fold.{overPlaces, storing}
-use Rattle.runs.proofs.Folds.{over-all, over-next, over-none}
+use Rattle.runs.proofs.OverPlaces.{over-all, over-next, over-none}
 use Rattle.words_spots.specs.Spot.{spotPlaces}
 use Rattle.words_spots.proofs.write_each.Statement.{statement}
 use Rattle.words_spots.proofs.write_each.Tie as tie

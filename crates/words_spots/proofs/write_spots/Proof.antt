@@ -8,7 +8,7 @@ use denote.Ref.{now}
 use lib.ListN.{length}
 use Rattle.runs.specs.Fold.{overPlaces, storing}
 use Rattle.words_spots.specs.Spot.{spotPlaces, SpotsFit}
-use Rattle.words_spots.proofs.Spots.{spots-next, spots-none, spots-fit}
+use Rattle.words_spots.proofs.Spotted.{spots-next, spots-none, spots-fit}
 use Rattle.words_spots.proofs.write_spots.Statement.{statement}
 use Rattle.words_spots.proofs.write_spots.Tie as tie
 

@@ -1,4 +1,4 @@
--- Entries, parts and members are tested as the table says; each law is one of proofs/Scans.
+-- Entries, parts and members are tested as the table says; each law is one of proofs/TestSteps.
 -- The measures: an entry goes down to a struct or to parts, those to entries below. Assumes nothing.
 use Prim.Native.Nat.{ℕ, _+_, _*_, _-_, _≤_, _<_}
 use mathlib.Core.Logic.{⊎-elim}
@@ -17,8 +17,8 @@ use Rattle.layout_values.specs.declared.value.Value.{Value}
 use Rattle.layout_values.specs.Value.{valueAt, wordsIn}
 use Rattle.walk_trees.specs.Slot.{partWidth}
 use Rattle.walk_trees.specs.Tree.{Tree, Room}
-use Rattle.walk_trees.proofs.Steps.{tree-valued, tree-many, many-referring, depth, depth-below, Each, each-room, walk-first}
-use Rattle.words_test.proofs.Scans.{Says, entry-fine, many-fine, runs-room, says-two, each-there, Turns, turns-start, turns-fine, turns-bad, turns-none, Scanned, scanned-start, scanned-inside, scanned-lower, scanned-tree, scanned-there, scanned-words, scanned-next, scanned-bad, scanned-none}
+use Rattle.walk_trees.proofs.TreeSteps.{tree-valued, tree-many, many-referring, depth, depth-below, Each, each-room, walk-first}
+use Rattle.words_test.proofs.TestSteps.{Says, entry-fine, many-fine, runs-room, says-two, each-there, Turns, turns-start, turns-fine, turns-bad, turns-none, Scanned, scanned-start, scanned-inside, scanned-lower, scanned-tree, scanned-there, scanned-words, scanned-next, scanned-bad, scanned-none}
 use Rattle.words_test.proofs.scan_entry.Reads as entry
 use Rattle.words_test.proofs.scan_entry.Kinds as entry-kinds
 use Rattle.words_test.proofs.+scan_entry+scan_many+scan_struct.Lts-scan_entry as entry-lts

@@ -1,7 +1,7 @@
--- The cycle of the writer meets its contracts: each function does a pass over the places of what it is handed (crates/trees, specs/Tree).
+-- The cycle of the writer meets its contracts: each function does a pass over the places of what it is handed (crates/walk_trees, specs/Tree).
 --
 -- A walk goes down from an entry to the entries below it, which have lower numbers: that is the measure.
--- The loops' invariants are `Turn` and `Walk` of crates/trees, proofs/Steps: what is left, from here on, is the whole, from the start on.
+-- The loops' invariants are `Turn` and `Walk` of crates/walk_trees, proofs/TreeSteps: what is left, from here on, is the whole, from the start on.
 -- Assumes nothing.
 use Prim.Native.Nat.{ℕ, _+_, _*_, _-_, _<_, _≤_}
 use mathlib.Core.Path.{_≡_, refl, sym, _∙_}
@@ -11,8 +11,8 @@ use borrow.Author.Needs.{needs}
 use lib.ListN.{length}
 use Rattle.runs.specs.Fold.{storing}
 use Rattle.walk_trees.specs.Slot.{memberAt}
-use Rattle.walk_trees.proofs.Steps.{tree-valued, tree-many, many-referring, many-runs, depth, depth-below, one-room, one-places, each-entry, each-room, type-is, type-inside, type-tree, member-room, run-places, run-room, Each, Turn, turn-start, turn-next, turn-none, Walk, walk-start, walk-first, walk-room, walk-words, walk-next, walk-none}
-use Rattle.words_spots.proofs.Spots.{spotted-each, spotted-parts}
+use Rattle.walk_trees.proofs.TreeSteps.{tree-valued, tree-many, many-referring, many-runs, depth, depth-below, one-room, one-places, each-entry, each-room, type-is, type-inside, type-tree, member-room, run-places, run-room, Each, Turn, turn-start, turn-next, turn-none, Walk, walk-start, walk-first, walk-room, walk-words, walk-next, walk-none}
+use Rattle.words_spots.proofs.Spotted.{spotted-each, spotted-parts}
 use borrow.Fn.Kinds.{In}
 use borrow.Fn.PlainCycle.{Measures, is, falls, and}
 use Rattle.words_write.proofs.write_entry.Reads as write-entry

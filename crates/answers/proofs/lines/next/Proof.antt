@@ -1,5 +1,5 @@
 -- A plain loop; where it stops is within the text, and so a count of its front.
-use Rattle.answers.proofs.Counts.{counted}
+use Rattle.answers.proofs.Counted.{counted}
 use Prim.Native.Nat.{_-_, _≤_}
 use native.Mathlib.Omega.{arith}
 use borrow.Author.Needs.{needs}

@@ -1,5 +1,5 @@
--- Each answer is a law of `Scalars`, by the kind that was tested.
-use Rattle.convert_rank.proofs.Scalars.{float-f32, float-f16, float-none}
+-- Each answer is a law of `ScalarRank`, by the kind that was tested.
+use Rattle.convert_rank.proofs.ScalarRank.{float-f32, float-f16, float-none}
 use Rattle.convert_rank.proofs.scalar.from_abstract_float.Statement.{statement}
 use Rattle.convert_rank.proofs.scalar.from_abstract_float.Tie as tie
 

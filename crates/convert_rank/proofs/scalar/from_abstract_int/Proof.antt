@@ -1,5 +1,5 @@
--- Each answer is a law of `Scalars`, by the kind that was tested.
-use Rattle.convert_rank.proofs.Scalars.{int-i32, int-u32, int-float, int-f32, int-f16, int-none}
+-- Each answer is a law of `ScalarRank`, by the kind that was tested.
+use Rattle.convert_rank.proofs.ScalarRank.{int-i32, int-u32, int-float, int-f32, int-f16, int-none}
 use Rattle.convert_rank.proofs.scalar.from_abstract_int.Statement.{statement}
 use Rattle.convert_rank.proofs.scalar.from_abstract_int.Tie as tie
 

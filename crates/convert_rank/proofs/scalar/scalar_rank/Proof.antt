@@ -1,7 +1,7 @@
--- Each answer is a law of `Scalars`; that the second kind is not the first is what the two callees ask of theirs.
+-- Each answer is a law of `ScalarRank`; that the second kind is not the first is what the two callees ask of theirs.
 use mathlib.Core.Path.{_∙_, sym}
 use borrow.Author.Needs.{needs}
-use Rattle.convert_rank.proofs.Scalars.{scalar-same, scalar-int, scalar-float, scalar-none}
+use Rattle.convert_rank.proofs.ScalarRank.{scalar-same, scalar-int, scalar-float, scalar-none}
 use Rattle.convert_rank.proofs.scalar.scalar_rank.Statement.{statement}
 use Rattle.convert_rank.proofs.scalar.scalar_rank.Tie as tie
 

@@ -1,5 +1,5 @@
 -- Each field is the one that `typeEntryFrom` names; the reads stay inside, since twelve bytes are there.
-use Rattle.file.proofs.Entries.{typeEntry-is}
+use Rattle.file.proofs.FieldsAt.{typeEntry-is}
 use denote.Ref.{now}
 use borrow.Author.Needs.{needs}
 use Rattle.file.proofs.fields.entry_at.Statement.{statement}

@@ -1,5 +1,5 @@
 -- Each field is the one that `memberEntryFrom` names; the reads stay inside, since twelve bytes are there.
-use Rattle.file.proofs.Entries.{memberEntry-is}
+use Rattle.file.proofs.FieldsAt.{memberEntry-is}
 use denote.Ref.{now}
 use borrow.Author.Needs.{needs}
 use Rattle.file.proofs.fields.member_at.Statement.{statement}

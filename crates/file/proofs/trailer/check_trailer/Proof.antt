@@ -1,7 +1,7 @@
--- Each answer is a law of `Trailers`, at the trailer that was read.
+-- Each answer is a law of `CheckTrailer`, at the trailer that was read.
 use mathlib.Core.Path.{sym}
 use native.Mathlib.Omega.{arith}
-use Rattle.file.proofs.Trailers.{checked-short, checked-form, checked-none, checked-types, checked-members, checked-length, checked-good}
+use Rattle.file.proofs.CheckTrailer.{checked-short, checked-form, checked-none, checked-types, checked-members, checked-length, checked-good}
 use borrow.Author.Needs.{needs}
 use Rattle.file.proofs.trailer.check_trailer.Statement.{statement}
 use Rattle.file.proofs.trailer.check_trailer.Tie as tie

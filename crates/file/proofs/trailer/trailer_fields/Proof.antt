@@ -1,5 +1,5 @@
 -- Each field is the one that `trailerOf` names, in the last ten bytes.
-use Rattle.file.proofs.Entries.{trailer-is}
+use Rattle.file.proofs.FieldsAt.{trailer-is}
 use denote.Ref.{now}
 use borrow.Author.Needs.{needs}
 use Rattle.file.proofs.trailer.trailer_fields.Statement.{statement}

@@ -1,8 +1,8 @@
--- Each answer is a law of `Scalar`, over what `scalar_size`, `stored_width` and `unless_absent` ensure.
+-- Each answer is a law of `ScalarMade`, over what `scalar_size`, `stored_width` and `unless_absent` ensure.
 use mathlib.Core.Path.{sym}
 use native.Mathlib.Omega.{arith}
-use Rattle.layout_values.proofs.Zero.{denied, granted}
-use Rattle.layout_values.proofs.Scalar.{scalar-used, scalar-laid}
+use Rattle.layout_values.proofs.Unused.{denied, granted}
+use Rattle.layout_values.proofs.ScalarMade.{scalar-used, scalar-laid}
 use borrow.Author.Needs.{needs}
 use Rattle.layout_values.proofs.scalars.scalar_entry.Statement.{statement}
 use Rattle.layout_values.proofs.scalars.scalar_entry.Tie as tie

@@ -1,7 +1,7 @@
--- Each answer is a law of `Scalar`.
+-- Each answer is a law of `ScalarMade`.
 use mathlib.Core.Path.{sym}
 use native.Mathlib.Omega.{arith}
-use Rattle.layout_values.proofs.Scalar.{width-four, width-two, width-none}
+use Rattle.layout_values.proofs.ScalarMade.{width-four, width-two, width-none}
 use Rattle.layout_values.proofs.scalars.scalar_size.Statement.{statement}
 use Rattle.layout_values.proofs.scalars.scalar_size.Tie as tie
 

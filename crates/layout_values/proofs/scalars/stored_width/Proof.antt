@@ -1,8 +1,8 @@
--- Each answer is a law of `Scalar`.
+-- Each answer is a law of `ScalarMade`.
 use mathlib.Core.Path.{sym, _∙_}
 use native.Mathlib.Omega.{arith}
 use borrow.Author.Needs.{needs}
-use Rattle.layout_values.proofs.Scalar.{stored-bool, stored-number}
+use Rattle.layout_values.proofs.ScalarMade.{stored-bool, stored-number}
 use Rattle.layout_values.proofs.scalars.stored_width.Statement.{statement}
 use Rattle.layout_values.proofs.scalars.stored_width.Tie as tie
 

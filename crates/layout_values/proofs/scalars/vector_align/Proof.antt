@@ -1,8 +1,8 @@
--- Each answer is a law of `Align`, over the width that `scalar_size` ensures.
+-- Each answer is a law of `VectorAlign`, over the width that `scalar_size` ensures.
 use mathlib.Core.Path.{sym}
 use native.Mathlib.Omega.{arith}
 use borrow.Author.Needs.{needs}
-use Rattle.layout_values.proofs.Align.{align-even, align-bool, align-number, times-bounded, times-fits}
+use Rattle.layout_values.proofs.VectorAlign.{align-even, align-bool, align-number, times-bounded, times-fits}
 use Rattle.layout_values.proofs.scalars.vector_align.Statement.{statement}
 use Rattle.layout_values.proofs.scalars.vector_align.Tie as tie
 

@@ -1,6 +1,6 @@
 -- Each test is one field's (`Zero`).
 use mathlib.Core.Path.{sym}
-use Rattle.layout_values.proofs.Zero.{unused-first, unused-second, unused-third, unused-fourth}
+use Rattle.layout_values.proofs.Unused.{unused-first, unused-second, unused-third, unused-fourth}
 use Rattle.layout_values.proofs.scalars.zeros.Statement.{statement}
 use Rattle.layout_values.proofs.scalars.zeros.Tie as tie
 

@@ -1,6 +1,6 @@
 -- What is open has an alignment and no size (`Presence`).
 use mathlib.Core.Path.{sym}
-use Rattle.layout_values.proofs.Presence.{size-closed, open-told}
+use Rattle.layout_values.proofs.ValueOf.{size-closed, open-told}
 use Rattle.layout_values.proofs.value.opens.Statement.{statement}
 use Rattle.layout_values.proofs.value.opens.Tie as tie
 

@@ -2,7 +2,7 @@
 use native.Mathlib.Omega.{arith}
 use lib.ListN.{length-set}
 use denote.Ref.{now}
-use Rattle.numbers.proofs.Stores.{stores-two}
+use Rattle.numbers.proofs.Store.{stores-two}
 use borrow.Author.Needs.{needs}
 use Rattle.numbers.proofs.bytes.store_u16.Statement.{statement}
 use Rattle.numbers.proofs.bytes.store_u16.Tie as tie

@@ -2,7 +2,7 @@
 use native.Mathlib.Omega.{arith}
 use lib.ListN.{length-set}
 use denote.Ref.{now}
-use Rattle.numbers.proofs.Stores.{stores-four}
+use Rattle.numbers.proofs.Store.{stores-four}
 use borrow.Author.Needs.{needs}
 use Rattle.numbers.proofs.bytes.store_u32.Statement.{statement}
 use Rattle.numbers.proofs.bytes.store_u32.Tie as tie

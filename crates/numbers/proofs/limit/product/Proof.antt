@@ -2,7 +2,7 @@
 use mathlib.Core.Path.{ap₂, ap, _∙_}
 use Prim.Native.Nat.{_*_}
 use Rattle.numbers.specs.Limit.{limited}
-use Rattle.numbers.proofs.Limits.{product-fits}
+use Rattle.numbers.proofs.Limited.{product-fits}
 use borrow.Author.Needs.{needs}
 use Rattle.numbers.proofs.limit.product.Statement.{statement}
 use Rattle.numbers.proofs.limit.product.Tie as tie

@@ -3,7 +3,7 @@ use mathlib.Core.Path.{ap₂, ap, _∙_}
 use native.Mathlib.Omega.{arith}
 use Rattle.wgsl.specs.Round.{up}
 use Rattle.numbers.specs.Limit.{limited}
-use Rattle.numbers.proofs.Limits.{floor-fits}
+use Rattle.numbers.proofs.Limited.{floor-fits}
 use borrow.Author.Needs.{needs}
 use Rattle.numbers.proofs.limit.round_up.Statement.{statement}
 use Rattle.numbers.proofs.limit.round_up.Tie as tie

@@ -1,6 +1,6 @@
 -- The test is the definition's.
 use mathlib.Core.Path.{sym}
-use Rattle.numbers.proofs.Limits.{limited-within, limited-past}
+use Rattle.numbers.proofs.Limited.{limited-within, limited-past}
 use borrow.Author.Needs.{needs}
 use Rattle.numbers.proofs.limit.within.Statement.{statement}
 use Rattle.numbers.proofs.limit.within.Tie as tie

@@ -1,5 +1,5 @@
 -- One bit is set of powers of two alone (`One`).
-use Rattle.numbers.proofs.One.{one-is-power}
+use Rattle.numbers.proofs.OneBit.{one-is-power}
 use Rattle.numbers.proofs.power.is_power.Statement.{statement}
 use Rattle.numbers.proofs.power.is_power.Tie as tie
 

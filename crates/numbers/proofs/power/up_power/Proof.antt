@@ -4,7 +4,7 @@ use mathlib.Core.Path.{_≡_, sym, subst}
 use lib.Bits.{bitAnd}
 use Rattle.wgsl.specs.Round.{up, limit}
 use Rattle.wgsl.proofs.Power.{power-positive, exponent-small}
-use Rattle.numbers.proofs.Masks.{cleared}
+use Rattle.numbers.proofs.Mask.{cleared}
 use Rattle.numbers.proofs.power.up_power.Statement.{statement}
 use Rattle.numbers.proofs.power.up_power.Tie as tie
 

@@ -1,4 +1,4 @@
--- What `integer_at` finds lies inside the buffer (proofs/Integers); its field is the answer. Assumes nothing.
+-- What `integer_at` finds lies inside the buffer (proofs/IntegerOf); its field is the answer. Assumes nothing.
 use mathlib.Core.Path.{_≡_, refl, ap, sym, _∙_}
 use denote.Ref.{now}
 use borrow.Author.Needs.{needs}
@@ -6,7 +6,7 @@ use lib.ListN.{length}
 use Rattle.wgsl.specs.Said.{good}
 use Rattle.wgsl.specs.BitFieldCall.{FoundInteger, integerAt}
 use Rattle.paths.specs.Field.{Integer}
-use Rattle.paths.proofs.Integers.{integer-there, extract-refused, extract-found}
+use Rattle.paths.proofs.IntegerOf.{integer-there, extract-refused, extract-found}
 use Rattle.paths.proofs.field.extract_bits.Statement.{statement}
 use Rattle.paths.proofs.field.extract_bits.Tie as tie
 

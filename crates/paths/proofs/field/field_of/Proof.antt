@@ -1,10 +1,10 @@
--- The field of an i32 is signed, that of a u32 is not (proofs/Integers). Assumes nothing.
+-- The field of an i32 is signed, that of a u32 is not (proofs/IntegerOf). Assumes nothing.
 use Prim.Native.Nat.{ℕ}
 use mathlib.Core.Path.{ap, sym, _∙_}
 use native.Mathlib.Omega.{arith}
 use borrow.Author.Needs.{needs}
 use Rattle.wgsl.specs.BitField.{extractedU32, extractedI32}
-use Rattle.paths.proofs.Integers.{at-offset, word-at, field-signed, field-plain}
+use Rattle.paths.proofs.IntegerOf.{at-offset, word-at, field-signed, field-plain}
 use Rattle.paths.proofs.field.field_of.Statement.{statement}
 use Rattle.paths.proofs.field.field_of.Tie as tie
 

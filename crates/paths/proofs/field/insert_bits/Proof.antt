@@ -1,4 +1,4 @@
--- What `integer_at` finds lies inside the buffer (proofs/Integers); its word gets the field. Assumes nothing.
+-- What `integer_at` finds lies inside the buffer (proofs/IntegerOf); its word gets the field. Assumes nothing.
 use mathlib.Core.Path.{_≡_, refl, ap, sym, _∙_}
 use denote.Ref.{now}
 use borrow.Author.Needs.{needs}
@@ -9,7 +9,7 @@ use Rattle.wgsl.specs.BitFieldCall.{FoundInteger, integerAt, insertCall}
 use Rattle.said.specs.Refusal.{numberOf, placeOf}
 use Rattle.said.specs.Answer.{saidNumber}
 use Rattle.paths.specs.Field.{Integer}
-use Rattle.paths.proofs.Integers.{at-offset, integer-there, insert-refused, insert-found}
+use Rattle.paths.proofs.IntegerOf.{at-offset, integer-there, insert-refused, insert-found}
 use Rattle.paths.proofs.field.insert_bits.Statement.{statement}
 use Rattle.paths.proofs.field.insert_bits.Tie as tie
 

@@ -1,4 +1,4 @@
--- An i32, a u32 or neither, by the kind (proofs/Integers). Assumes nothing.
+-- An i32, a u32 or neither, by the kind (proofs/IntegerOf). Assumes nothing.
 use mathlib.Core.Logic.{inl, inr}
 use mathlib.Core.Path.{_≡_, ap, sym, _∙_}
 use Rattle.wgsl.specs.Said.{good}
@@ -6,7 +6,7 @@ use Rattle.wgsl.specs.Path as path
 use Rattle.said.specs.declared.target.Target.{Target}
 use Rattle.said.specs.Target.{targetIs}
 use Rattle.paths.specs.Field.{foundIn}
-use Rattle.paths.proofs.Integers.{found-integer, found-none}
+use Rattle.paths.proofs.IntegerOf.{found-integer, found-none}
 use Rattle.paths.proofs.field.integer_of.Statement.{statement}
 use Rattle.paths.proofs.field.integer_of.Tie as tie
 

@@ -1,4 +1,4 @@
--- The scalar's word, with the field put into it, in its four bytes (proofs/Integers). Assumes nothing.
+-- The scalar's word, with the field put into it, in its four bytes (proofs/IntegerOf). Assumes nothing.
 use Prim.Native.Nat.{ℕ}
 use mathlib.Core.Path.{refl, ap, sym, _∙_}
 use native.Mathlib.Omega.{arith}
@@ -7,7 +7,7 @@ use borrow.Author.Needs.{needs}
 use Rattle.wgsl.specs.Number.{store}
 use Rattle.wgsl.specs.Round.{limit}
 use Rattle.wgsl.specs.BitField.{inserted}
-use Rattle.paths.proofs.Integers.{at-offset, word-at, stored-four}
+use Rattle.paths.proofs.IntegerOf.{at-offset, word-at, stored-four}
 use Rattle.paths.proofs.field.put_field.Statement.{statement}
 use Rattle.paths.proofs.field.put_field.Tie as tie
 

@@ -1,8 +1,8 @@
--- By the laws of `Holds`. Assumes nothing.
+-- By the laws of `HeldOf`. Assumes nothing.
 use mathlib.Core.Path.{sym, _∙_}
 use native.Mathlib.Omega.{arith}
 use borrow.Author.Needs.{needs}
-use Rattle.paths.proofs.Holds.{viewable-value, viewable-well-formed, closed-short, closed-there, open-findable, open-opening}
+use Rattle.paths.proofs.HeldOf.{viewable-value, viewable-well-formed, closed-short, closed-there, open-findable, open-opening}
 use Rattle.paths.proofs.locate.held_of.Statement.{statement}
 use Rattle.paths.proofs.locate.held_of.Tie as tie
 

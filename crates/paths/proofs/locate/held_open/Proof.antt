@@ -1,4 +1,4 @@
--- By the elements that are found (proofs/Holds). Assumes nothing.
+-- By the elements that are found (proofs/HeldOf). Assumes nothing.
 use Prim.Native.Nat.{_+_, _*_, _≤_}
 use mathlib.Core.Path.{_≡_, sym, _∙_}
 use native.Mathlib.Omega.{arith}
@@ -6,8 +6,8 @@ use borrow.Author.Needs.{needs}
 use Rattle.wgsl.specs.Round.{limit}
 use Rattle.walk_decide.specs.declared.Fits.the-variants.{Is}
 use Rattle.walk_decide.specs.Decide.{elementsFound}
-use Rattle.walk_decide.proofs.Calls.{found-inside}
-use Rattle.paths.proofs.Holds.{stride-above, open-short, open-there}
+use Rattle.walk_decide.proofs.CallSteps.{found-inside}
+use Rattle.paths.proofs.HeldOf.{stride-above, open-short, open-there}
 use Rattle.paths.proofs.locate.held_open.Statement.{statement}
 use Rattle.paths.proofs.locate.held_open.Tie as tie
 

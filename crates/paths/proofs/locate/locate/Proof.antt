@@ -1,4 +1,4 @@
--- The entry that `find` finds, or its refusal, or the trailer's (crates/decide, proofs/Entries). Assumes nothing.
+-- The entry that `find` finds, or its refusal, or the trailer's (crates/walk_decide, proofs/Meant). Assumes nothing.
 use mathlib.Core.Path.{ap, sym, _∙_}
 use denote.Ref.{now}
 use borrow.Author.Needs.{needs}
@@ -6,8 +6,8 @@ use Rattle.wgsl.specs.Types.{Ty}
 use Rattle.file.specs.Fields.{saidTrailer}
 use Rattle.said.specs.Target.{reached}
 use Rattle.walk_decide.specs.Meant.{Meant}
-use Rattle.walk_decide.proofs.Entries.{entry-found, entry-missing, trailer-refused}
-use Rattle.paths.proofs.Plants.{target-missing}
+use Rattle.walk_decide.proofs.Meant.{entry-found, entry-missing, trailer-refused}
+use Rattle.paths.proofs.TargetCall.{target-missing}
 use Rattle.paths.proofs.locate.locate.Statement.{statement}
 use Rattle.paths.proofs.locate.locate.Tie as tie
 

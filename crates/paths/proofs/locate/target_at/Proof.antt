@@ -1,4 +1,4 @@
--- What `allow` says decides (crates/walk_decide, proofs/EntryFor); the entry has what its walk asks (proofs/Plants). Assumes nothing.
+-- What `allow` says decides (crates/walk_decide, proofs/EntryFor); the entry has what its walk asks (proofs/TargetCall). Assumes nothing.
 use mathlib.Core.Path.{_≡_, ap, sym, _∙_}
 use denote.Ref.{now}
 use borrow.Author.Needs.{needs}
@@ -8,9 +8,9 @@ use Rattle.wgsl.specs.Call.{allowed}
 use Rattle.said.specs.Refusal.{numberOf, placeOf}
 use Rattle.said.specs.Target.{reached}
 use Rattle.walk_decide.specs.Meant.{Meant}
-use Rattle.walk_decide.proofs.Entries.{entry-value, entry-well-formed}
+use Rattle.walk_decide.proofs.Meant.{entry-value, entry-well-formed}
 use Rattle.walk_decide.proofs.EntryFor.{allowed-laid, for-refused, for-allowed}
-use Rattle.paths.proofs.Plants.{entry-viewable, target-refused, target-allowed}
+use Rattle.paths.proofs.TargetCall.{entry-viewable, target-refused, target-allowed}
 use Rattle.paths.proofs.locate.target_at.Statement.{statement}
 use Rattle.paths.proofs.locate.target_at.Tie as tie
 

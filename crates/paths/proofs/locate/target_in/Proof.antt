@@ -1,4 +1,4 @@
--- By what is held (proofs/Holds); the walk begins at the entry (proofs/Targets). Assumes nothing.
+-- By what is held (proofs/HeldOf); the walk begins at the entry (proofs/Begins). Assumes nothing.
 use Prim.Native.Nat.{ℕ}
 use mathlib.Core.Path.{_≡_, ap, sym, _∙_}
 use mathlib.Core.List.{List}
@@ -10,8 +10,8 @@ use Rattle.wgsl.specs.Types.{Ty}
 use Rattle.wgsl.specs.Place.{shapeOf}
 use Rattle.said.specs.Target.{reached}
 use Rattle.paths.specs.Locate.{Viewable}
-use Rattle.paths.proofs.Holds.{There, target-short, target-there}
-use Rattle.paths.proofs.Targets.{begins}
+use Rattle.paths.proofs.HeldOf.{There, target-short, target-there}
+use Rattle.paths.proofs.Begins.{begins}
 use Rattle.paths.proofs.locate.target_in.Statement.{statement}
 use Rattle.paths.proofs.locate.target_in.Tie as tie
 

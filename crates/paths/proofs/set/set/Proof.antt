@@ -1,4 +1,4 @@
--- The target that `locate` finds has room for a scalar (proofs/Rooms); what is left of the call (proofs/Settings). Assumes nothing.
+-- The target that `locate` finds has room for a scalar (proofs/Roomy); what is left of the call (proofs/SetTarget). Assumes nothing.
 use mathlib.Core.Path.{_≡_, refl, ap, sym, _∙_}
 use mathlib.Core.Bool.{true}
 use denote.Ref.{now}
@@ -9,8 +9,8 @@ use Rattle.wgsl.specs.Path as path
 use Rattle.wgsl.specs.Call.{answerOf, contentsOf, setCall, targetCall}
 use Rattle.said.specs.Refusal.{numberOf, placeOf}
 use Rattle.paths.specs.Set.{Roomy}
-use Rattle.paths.proofs.Rooms.{reached-refused, roomy}
-use Rattle.paths.proofs.Settings.{set-refused, set-found}
+use Rattle.paths.proofs.Roomy.{reached-refused, roomy}
+use Rattle.paths.proofs.SetTarget.{set-refused, set-found}
 use Rattle.paths.proofs.set.set.Statement.{statement}
 use Rattle.paths.proofs.set.set.Tie as tie
 

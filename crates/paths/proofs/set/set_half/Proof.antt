@@ -1,10 +1,10 @@
--- The word fits or it does not (proofs/Settings). Assumes nothing.
+-- The word fits or it does not (proofs/SetTarget). Assumes nothing.
 use mathlib.Core.Path.{ap, sym, _∙_}
 use native.Mathlib.Omega.{arith}
 use borrow.Author.Needs.{needs}
 use Rattle.wgsl.specs.Round.{limit}
 use Rattle.wgsl.specs.Call.{answerOf, contentsOf}
-use Rattle.paths.proofs.Settings.{stored-large, stored-narrow}
+use Rattle.paths.proofs.SetTarget.{stored-large, stored-narrow}
 use Rattle.paths.proofs.set.set_half.Statement.{statement}
 use Rattle.paths.proofs.set.set_half.Tie as tie
 

@@ -1,11 +1,11 @@
--- One scalar or none, of two bytes or of four (proofs/Settings). Assumes nothing.
+-- One scalar or none, of two bytes or of four (proofs/SetTarget). Assumes nothing.
 use mathlib.Core.Path.{ap, sym, _∙_}
 use native.Mathlib.Omega.{arith}
 use borrow.Author.Needs.{needs}
 use Rattle.wgsl.specs.Round.{limit}
 use Rattle.wgsl.specs.Call.{answerOf, contentsOf}
-use Rattle.paths.proofs.Settings.{set-none, one-scalar, set-one, narrow, wide, set-four}
-use Rattle.paths.proofs.Rooms.{room}
+use Rattle.paths.proofs.SetTarget.{set-none, one-scalar, set-one, narrow, wide, set-four}
+use Rattle.paths.proofs.Roomy.{room}
 use Rattle.paths.proofs.set.set_scalar.Statement.{statement}
 use Rattle.paths.proofs.set.set_scalar.Tie as tie
 

@@ -2,7 +2,7 @@
 use borrow.Author.Needs.{needs}
 use Rattle.walk_path.specs.Step.{stepIs}
 use Rattle.walk_path.specs.Way.{Enters}
-use Rattle.walk_path.proofs.Parts.{column-no-member}
+use Rattle.walk_path.proofs.IndexStep.{column-no-member}
 use Rattle.walk_path.proofs.enter.enter.Statement.{statement}
 use Rattle.walk_path.proofs.enter.enter.Tie as tie
 

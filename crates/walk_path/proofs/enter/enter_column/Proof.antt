@@ -3,7 +3,7 @@ use native.Mathlib.Omega.{arith}
 use borrow.Author.Needs.{needs}
 use Rattle.wgsl.specs.Round.{limit}
 use Rattle.walk_path.specs.Way.{Enters}
-use Rattle.walk_path.proofs.Parts.{column-inside, column-past, scalar-offset, scalar-enters}
+use Rattle.walk_path.proofs.IndexStep.{column-inside, column-past, scalar-offset, scalar-enters}
 use Rattle.walk_path.proofs.enter.enter_column.Statement.{statement}
 use Rattle.walk_path.proofs.enter.enter_column.Tie as tie
 

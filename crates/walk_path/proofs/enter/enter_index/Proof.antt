@@ -2,7 +2,7 @@
 use native.Mathlib.Omega.{arith}
 use borrow.Author.Needs.{needs}
 use Rattle.walk_path.specs.Way.{Parted, Enters}
-use Rattle.walk_path.proofs.Parts.{entry-inside, entry-found, no-index, past-end}
+use Rattle.walk_path.proofs.IndexStep.{entry-inside, entry-found, no-index, past-end}
 use Rattle.walk_path.proofs.enter.enter_index.Statement.{statement}
 use Rattle.walk_path.proofs.enter.enter_index.Tie as tie
 

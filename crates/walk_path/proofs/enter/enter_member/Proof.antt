@@ -6,9 +6,9 @@ use Rattle.wgsl.specs.Types.{Ty}
 use Rattle.wgsl.specs.Place.{Shape}
 use Rattle.walk_path.specs.declared.enter.Stand.the-variants.{Entry}
 use Rattle.walk_path.specs.Way.{Standing, Enters}
-use Rattle.walk_path.proofs.Sizes.{size-within}
-use Rattle.walk_path.proofs.Parts.{entry-inside}
-use Rattle.walk_path.proofs.Members.{MemberFound, member-outside, member-past, member-found, found-inside, found-within, found-enters}
+use Rattle.walk_path.proofs.SizeAt.{size-within}
+use Rattle.walk_path.proofs.IndexStep.{entry-inside}
+use Rattle.walk_path.proofs.MemberStep.{MemberFound, member-outside, member-past, member-found, found-inside, found-within, found-enters}
 use Rattle.walk_path.proofs.enter.enter_member.Statement.{statement}
 use Rattle.walk_path.proofs.enter.enter_member.Tie as tie
 

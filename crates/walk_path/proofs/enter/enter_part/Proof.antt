@@ -2,7 +2,7 @@
 use native.Mathlib.Omega.{arith}
 use borrow.Author.Needs.{needs}
 use Rattle.wgsl.specs.Round.{limit}
-use Rattle.walk_path.proofs.Parts.{entry-inside, part-inside, part-offset, column-size, part-size, column-enters, part-enters}
+use Rattle.walk_path.proofs.IndexStep.{entry-inside, part-inside, part-offset, column-size, part-size, column-enters, part-enters}
 use Rattle.walk_path.proofs.enter.enter_part.Statement.{statement}
 use Rattle.walk_path.proofs.enter.enter_part.Tie as tie
 

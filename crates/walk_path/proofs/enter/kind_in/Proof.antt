@@ -1,7 +1,7 @@
 -- A scalar's layout says its kind; an atomic's refers to it; nothing else is one scalar.
 use mathlib.Core.Path.{sym}
 use borrow.Author.Needs.{needs}
-use Rattle.walk_path.proofs.Parts.{entry-inside, entry-found, column-no-scalar, no-scalar, its-scalar, atomic-scalar}
+use Rattle.walk_path.proofs.IndexStep.{entry-inside, entry-found, column-no-scalar, no-scalar, its-scalar, atomic-scalar}
 use Rattle.walk_path.proofs.enter.kind_in.Statement.{statement}
 use Rattle.walk_path.proofs.enter.kind_in.Tie as tie
 

@@ -14,7 +14,7 @@ use Rattle.wgsl.specs.Path as path
 use Rattle.wgsl.specs.Path.{stepOf, enter}
 use Rattle.walk_path.specs.Way.{Standing, Enters}
 use Rattle.said.specs.Target.{reached}
-use Rattle.walk_path.proofs.Ways.{Next, next, walk-end, walk-on, walk-refused}
+use Rattle.walk_path.proofs.Enters.{Next, next, walk-end, walk-on, walk-refused}
 use borrow.Fn.Kinds.{In}
 use borrow.Fn.PlainCycle.{Measures, is, falls, and}
 use Rattle.walk_path.proofs.walk.walk.Reads as walk

@@ -1,8 +1,8 @@
--- The fixed part and the tail are loaded one after the other, which is the whole (crates/decide, proofs/Wholes).
+-- The fixed part and the tail are loaded one after the other, which is the whole (crates/walk_decide, proofs/Whole).
 -- Assumes nothing.
 use mathlib.Core.Path.{_∙_}
 use Rattle.wgsl.specs.Place.{shapeOf}
-use Rattle.walk_decide.proofs.Wholes.{fixed-room, rest-room, loaded-whole}
+use Rattle.walk_decide.proofs.Whole.{fixed-room, rest-room, loaded-whole}
 use borrow.Author.Needs.{needs}
 use Rattle.words.proofs.reading.load.Statement.{statement}
 use Rattle.words.proofs.reading.load.Tie as tie

@@ -1,4 +1,4 @@
--- By what is found (proofs/Readings). Assumes nothing.
+-- By what is found (proofs/ReadType). Assumes nothing.
 use Prim.Native.Nat.{_≤_}
 use mathlib.Core.Path.{ap, sym, _∙_}
 use native.Mathlib.Omega.{arith}
@@ -8,9 +8,9 @@ use Rattle.wgsl.specs.Said.{good}
 use Rattle.wgsl.specs.Call.{answerOf, contentsOf}
 use Rattle.wgsl.proofs.Tail.{closed-extent}
 use Rattle.layout_values.specs.Value.{wordsIn}
-use Rattle.walk_decide.proofs.Wholes.{ready-words, closed-whole}
-use Rattle.walk_decide.proofs.Bounds.{size-is}
-use Rattle.words.proofs.Readings.{few-bytes, few-words, all-read}
+use Rattle.walk_decide.proofs.Whole.{ready-words, closed-whole}
+use Rattle.walk_decide.proofs.ReadyBounds.{size-is}
+use Rattle.words.proofs.ReadType.{few-bytes, few-words, all-read}
 use borrow.Author.Needs.{needs}
 use Rattle.words.proofs.reading.read_closed.Statement.{statement}
 use Rattle.words.proofs.reading.read_closed.Tie as tie

@@ -1,4 +1,4 @@
--- The words counted are the type's, and few (crates/decide, proofs/Bounds). Assumes nothing.
+-- The words counted are the type's, and few (crates/walk_decide, proofs/ReadyBounds). Assumes nothing.
 use Prim.Native.Nat.{_+_, _*_, _≤_}
 use mathlib.Core.Path.{_≡_, ap, sym, _∙_}
 use native.Mathlib.Omega.{arith}
@@ -9,9 +9,9 @@ use Rattle.wgsl.specs.Said.{good}
 use Rattle.wgsl.specs.Place.{wordCount}
 use Rattle.wgsl.specs.Call.{answerOf, contentsOf}
 use Rattle.walk_decide.specs.Whole.{TailedBy, Whole}
-use Rattle.walk_decide.proofs.Wholes.{open-whole}
-use Rattle.walk_decide.proofs.Bounds.{words-few, tailed-words, elements-few}
-use Rattle.walk_decide.proofs.Calls.{loaded-few, loaded-done}
+use Rattle.walk_decide.proofs.Whole.{open-whole}
+use Rattle.walk_decide.proofs.ReadyBounds.{words-few, tailed-words, elements-few}
+use Rattle.walk_decide.proofs.CallSteps.{loaded-few, loaded-done}
 use borrow.Author.Needs.{needs}
 use Rattle.words.proofs.reading.read_elements.Statement.{statement}
 use Rattle.words.proofs.reading.read_elements.Tie as tie

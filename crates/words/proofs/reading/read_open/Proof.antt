@@ -1,11 +1,11 @@
--- By the elements that are found (proofs/Readings). Assumes nothing.
+-- By the elements that are found (proofs/ReadType). Assumes nothing.
 use mathlib.Core.Path.{ap, sym, _∙_}
 use denote.Ref.{now}
 use Rattle.wgsl.specs.Types.{Ty}
 use Rattle.wgsl.specs.Call.{answerOf, contentsOf}
 use Rattle.walk_decide.specs.Whole.{Tailed, TailedBy}
-use Rattle.walk_decide.proofs.Bounds.{stride-above}
-use Rattle.words.proofs.Readings.{no-elements, some-elements}
+use Rattle.walk_decide.proofs.ReadyBounds.{stride-above}
+use Rattle.words.proofs.ReadType.{no-elements, some-elements}
 use borrow.Author.Needs.{needs}
 use Rattle.words.proofs.reading.read_open.Statement.{statement}
 use Rattle.words.proofs.reading.read_open.Tie as tie

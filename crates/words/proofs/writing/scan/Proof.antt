@@ -1,10 +1,10 @@
--- Words that the fixed part refuses are refused; else the tail decides (crates/decide, proofs/Wholes). Where the tail begins does not
+-- Words that the fixed part refuses are refused; else the tail decides (crates/walk_decide, proofs/Whole). Where the tail begins does not
 -- matter for the test.
 use mathlib.Core.Path.{_∙_}
 use native.Mathlib.Omega.{arith}
-use Rattle.walk_decide.proofs.Wholes.{fixed-words, whole-words, tested-bad, tested-good}
-use Rattle.runs.proofs.Folds.{tested-widths}
-use Rattle.words_test.proofs.Scans.{places-moved}
+use Rattle.walk_decide.proofs.Whole.{fixed-words, whole-words, tested-bad, tested-good}
+use Rattle.runs.proofs.OverPlaces.{tested-widths}
+use Rattle.words_test.proofs.TestSteps.{places-moved}
 use borrow.Author.Needs.{needs}
 use Rattle.words.proofs.writing.scan.Statement.{statement}
 use Rattle.words.proofs.writing.scan.Tie as tie

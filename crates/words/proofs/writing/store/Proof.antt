@@ -1,9 +1,9 @@
--- The fixed part and the tail are stored one after the other, which is the whole (proofs/Writings).
+-- The fixed part and the tail are stored one after the other, which is the whole (proofs/WriteType).
 use mathlib.Core.Path.{_∙_}
 use native.Mathlib.Omega.{arith}
 use Rattle.wgsl.specs.Place.{shapeOf}
-use Rattle.walk_decide.proofs.Wholes.{fixed-room, rest-room}
-use Rattle.words.proofs.Writings.{stored-either}
+use Rattle.walk_decide.proofs.Whole.{fixed-room, rest-room}
+use Rattle.words.proofs.WriteType.{stored-either}
 use borrow.Author.Needs.{needs}
 use Rattle.words.proofs.writing.store.Statement.{statement}
 use Rattle.words.proofs.writing.store.Tie as tie

@@ -1,12 +1,12 @@
--- The entry that `find` finds, or its refusal, or the trailer's (crates/decide, proofs/Entries). Assumes nothing.
+-- The entry that `find` finds, or its refusal, or the trailer's (crates/walk_decide, proofs/Meant). Assumes nothing.
 use mathlib.Core.Path.{ap, sym}
 use denote.Ref.{now}
 use Rattle.wgsl.specs.Types.{Ty}
 use Rattle.wgsl.specs.Call.{answerOf, contentsOf}
 use Rattle.walk_decide.specs.Meant.{Meant}
-use Rattle.walk_decide.proofs.Entries.{entry-found, entry-missing, trailer-refused}
+use Rattle.walk_decide.proofs.Meant.{entry-found, entry-missing, trailer-refused}
 use Rattle.walk_decide.proofs.EntryFor.{for-missing}
-use Rattle.words.proofs.Writings.{write-refused}
+use Rattle.words.proofs.WriteType.{write-refused}
 use borrow.Author.Needs.{needs}
 use Rattle.words.proofs.writing.write.Statement.{statement}
 use Rattle.words.proofs.writing.write.Tie as tie

@@ -1,10 +1,10 @@
--- By what is found (proofs/Writings).
+-- By what is found (proofs/WriteType).
 use mathlib.Core.Path.{_≡_, ap, sym, _∙_}
 use native.Mathlib.Omega.{arith}
 use Rattle.wgsl.specs.Call.{answerOf, contentsOf}
 use Rattle.layout_values.specs.Value.{wordsIn}
-use Rattle.walk_decide.proofs.Wholes.{ready-words, closed-whole}
-use Rattle.words.proofs.Writings.{wrong-words, fixed-extent, few-bytes, all-there}
+use Rattle.walk_decide.proofs.Whole.{ready-words, closed-whole}
+use Rattle.words.proofs.WriteType.{wrong-words, fixed-extent, few-bytes, all-there}
 use borrow.Author.Needs.{needs}
 use Rattle.words.proofs.writing.write_closed.Statement.{statement}
 use Rattle.words.proofs.writing.write_closed.Tie as tie

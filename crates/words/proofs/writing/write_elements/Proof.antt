@@ -1,4 +1,4 @@
--- By where the elements end (proofs/Writings).
+-- By where the elements end (proofs/WriteType).
 use Prim.Native.Nat.{_≤_}
 use mathlib.Core.Path.{_≡_, ap, sym, _∙_}
 use native.Mathlib.Omega.{arith}
@@ -8,9 +8,9 @@ use Rattle.wgsl.specs.Types.{Ty}
 use Rattle.wgsl.specs.Place.{extentOf}
 use Rattle.wgsl.specs.Call.{answerOf, contentsOf}
 use Rattle.walk_decide.specs.Whole.{TailedBy, Whole}
-use Rattle.walk_decide.proofs.Wholes.{open-whole}
-use Rattle.walk_decide.proofs.Bounds.{stride-above, elements-few}
-use Rattle.words.proofs.Writings.{no-room, room}
+use Rattle.walk_decide.proofs.Whole.{open-whole}
+use Rattle.walk_decide.proofs.ReadyBounds.{stride-above, elements-few}
+use Rattle.words.proofs.WriteType.{no-room, room}
 use borrow.Author.Needs.{needs}
 use Rattle.words.proofs.writing.write_elements.Statement.{statement}
 use Rattle.words.proofs.writing.write_elements.Tie as tie

@@ -1,11 +1,11 @@
--- By the elements that the words fill (proofs/Writings).
+-- By the elements that the words fill (proofs/WriteType).
 use mathlib.Core.Path.{ap, sym, _∙_}
 use denote.Ref.{now}
 use Rattle.wgsl.specs.Types.{Ty}
 use Rattle.wgsl.specs.Call.{answerOf, contentsOf}
 use Rattle.walk_decide.specs.Whole.{Tailed, TailedBy}
-use Rattle.walk_decide.proofs.Bounds.{fixed-few}
-use Rattle.words.proofs.Writings.{no-elements, some-elements}
+use Rattle.walk_decide.proofs.ReadyBounds.{fixed-few}
+use Rattle.words.proofs.WriteType.{no-elements, some-elements}
 use borrow.Author.Needs.{needs}
 use Rattle.words.proofs.writing.write_open.Statement.{statement}
 use Rattle.words.proofs.writing.write_open.Tie as tie

@@ -1,9 +1,9 @@
--- By what the scan says (crates/decide, proofs/Calls).
+-- By what the scan says (crates/walk_decide, proofs/CallSteps).
 use mathlib.Core.Path.{ap, sym, _∙_}
 use native.Mathlib.Omega.{arith}
 use Rattle.wgsl.specs.Said.{good}
 use Rattle.wgsl.specs.Call.{answerOf, contentsOf}
-use Rattle.walk_decide.proofs.Calls.{stored-bad, stored-done}
+use Rattle.walk_decide.proofs.CallSteps.{stored-bad, stored-done}
 use borrow.Author.Needs.{needs}
 use Rattle.words.proofs.writing.write_whole.Statement.{statement}
 use Rattle.words.proofs.writing.write_whole.Tie as tie

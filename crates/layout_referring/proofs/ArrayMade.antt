@@ -1,0 +1,131 @@
+-- What becomes of an array's entry (crates/wgsl, specs/Rule, specs/Size), by what is known of its fields and of its element.
+--
+-- In order: the words of an element; then, of an entry, its fields; the rules; an element with no alignment; an element that has one: numbers
+-- past the limit, the layout.
+-- Assumes nothing.
+use Prim.Native.Nat.{ℕ, zero, suc, _*_, _<_, _≤_}
+use mathlib.Core.Bool.{true, false, cond, or-true}
+use mathlib.Core.List.{[], _∷_}
+use mathlib.Core.Option.{none, some}
+use mathlib.Core.Path.{_≡_, refl, sym, ap, _∙_}
+use native.Mathlib.Omega.{arith}
+use native.Mathlib.Nat.{mul-le-mul-right}
+use borrow.Author.Tests.{le-leb, lt-leb}
+use Rattle.wgsl.specs.Round.{up, limit, withinLimit}
+use Rattle.wgsl.specs.Types.{Ty, array, isOpen, everywhere, kindOf}
+use Rattle.wgsl.specs.Size.{both, isPresent, present, sizeOf, alignOf, strideOf, minSizeOf, innerNumbersOf, numbersOf, withinLimits, fitsLimit, hasLayout}
+use Rattle.wgsl.specs.File.{TypeEntry}
+use Rattle.wgsl.specs.Rule.{when, andThen, unused, arrayMade, isAllowed, givenFits, isWellFormed}
+use Rattle.numbers.specs.Limit.{limited}
+use Rattle.numbers.specs.declared.limit.Limited.the-variants.{Is, TooLarge}
+use Rattle.layout_referring.proofs.Limited.{limited-is, limited-large}
+use Rattle.layout_values.proofs.ValueOf.{Element, element, align-within, words-within, no-words}
+use Rattle.layout_values.specs.Value.{narrowOf, partsOf, fixedWords, wordsIn, valueOf, verdictOn, madeOf}
+use Rattle.layout_values.specs.declared.value.Value.{Value}
+use Rattle.layout_values.specs.declared.value.Made.the-variants.{Laid, Rule, Large}
+
+-- ---- words
+
+-- The words of an element, with an alignment or without, are within the limit.
+pub array-words : (t : Ty) (l : Value) → l ≡ valueOf (l .reference) t → everywhere isWellFormed t ≡ true → isOpen t ≡ false → wordsIn l ≤ 4294967295
+array-words t l is w o = go (l .align) refl
+  where
+    go : (a : ℕ) → l .align ≡ a → wordsIn l ≤ 4294967295
+    go zero q = omega (arith, no-words t l is w q)
+    go (suc a) q = words-within t l (element t l is w o (omega arith))
+
+module _ (e : TypeEntry) (t : Ty) where
+  -- ---- the fields
+
+  -- "Fields a kind doesn't use are zero."
+  pub array-used : unused (e .columns ∷ e .rows ∷ []) ≡ false → madeOf (e .reference) (arrayMade (some t) e) ≡ Rule
+  unfolding madeOf arrayMade when
+  array-used h = rw h
+
+  module _ (free : unused (e .columns ∷ e .rows ∷ []) ≡ true) where
+    array-made : madeOf (e .reference) (arrayMade (some t) e) ≡ verdictOn (e .reference) (array (e .count) t)
+    unfolding madeOf arrayMade when andThen
+    array-made = rw free
+
+    -- ---- the rules
+
+    -- "count at least 1"
+    pub array-empty : e .count < 1 → madeOf (e .reference) (arrayMade (some t) e) ≡ Rule
+    unfolding verdictOn isAllowed
+    array-empty h = array-made ∙ rw (lt-leb 1 (e .count) h)
+
+    module _ (full : 1 ≤ e .count) where
+      -- "An array's element isn't open"
+      pub array-open : isOpen t ≡ true → madeOf (e .reference) (arrayMade (some t) e) ≡ Rule
+      unfolding verdictOn isAllowed
+      array-open h = array-made ∙ rw (le-leb 1 (e .count) full, h)
+
+      array-allowed : isOpen t ≡ false → madeOf (e .reference) (arrayMade (some t) e) ≡ cond (fitsLimit (array (e .count) t)) (Laid (valueOf (e .reference) (array (e .count) t))) Large
+      unfolding verdictOn isAllowed givenFits
+      array-allowed h = array-made ∙ rw (le-leb 1 (e .count) full, h)
+
+      -- ---- an element with no alignment
+
+      -- "A number made from an absent one is absent": such an array has neither size nor layout.
+      pub array-unaligned : (l : Value) → l ≡ valueOf (l .reference) t → isOpen t ≡ false → alignOf t ≡ none → madeOf (e .reference) (arrayMade (some t) e) ≡ Laid (record { kind = 9; narrow = l .narrow; reference = e .reference; count = e .count; unit = 0; stride = 0; size = 0; align = 0 })
+      unfolding fitsLimit withinLimits numbersOf minSizeOf innerNumbersOf strideOf sizeOf alignOf both valueOf kindOf narrowOf partsOf present hasLayout isPresent
+      array-unaligned l is h q =
+          let narrow : narrowOf t ≡ l .narrow = sym (ap (λ (x : Value). x .narrow) is) in
+          array-allowed h ∙ rw (q, narrow)
+
+      -- ---- an element that has one
+
+      module _ (l : Value) (x : Element t l) where
+        size-is : sizeOf (array (e .count) t) ≡ some (e .count * up (l .align) (l .size))
+        unfolding sizeOf both
+        size-is = rw (x .align-is, x .size-is)
+
+        past : 4294967295 < e .count * up (l .align) (l .size) → madeOf (e .reference) (arrayMade (some t) e) ≡ Large
+        unfolding fitsLimit withinLimits numbersOf withinLimit
+        past h =
+            array-allowed (x .closed)
+            ∙ rw (size-is, lt-leb (e .count * up (l .align) (l .size)) 4294967295 h)
+
+        -- "Stride of an array: up(element alignment, element size)", past the limit
+        pub array-apart : limited (up (l .align) (l .size)) ≡ TooLarge → madeOf (e .reference) (arrayMade (some t) e) ≡ Large
+        array-apart h =
+            past (omega (arith, limited-large _ h, mul-le-mul-right (up (l .align) (l .size)) full))
+
+        module _ (stride : ℕ) (apart : limited (up (l .align) (l .size)) ≡ Is stride) where
+          stride-is : up (l .align) (l .size) ≡ stride
+          stride-is = limited-is _ stride apart .0
+
+          -- "Array: count x stride", past the limit
+          pub array-large : limited (e .count * stride) ≡ TooLarge → madeOf (e .reference) (arrayMade (some t) e) ≡ Large
+          array-large h = past (rw stride-is (limited-large _ h))
+
+          module _ (size : ℕ) (whole : limited (e .count * stride) ≡ Is size) where
+            fits : fitsLimit (array (e .count) t) ≡ true
+            unfolding fitsLimit withinLimits numbersOf minSizeOf innerNumbersOf strideOf sizeOf both withinLimit
+            fits =
+                let apart-within = limited-is _ stride apart .1 in
+                let whole-within = limited-is _ size whole .1 in
+                rw (
+                  x .align-is,
+                  x .size-is,
+                  stride-is,
+                  le-leb _ _ whole-within,
+                  le-leb stride _ (rw stride-is at apart-within),
+                  le-leb _ _ (align-within t l x),
+                )
+
+            -- The layout of an array.
+            pub array-laid : madeOf (e .reference) (arrayMade (some t) e) ≡ Laid (record { kind = 9; narrow = l .narrow; reference = e .reference; count = e .count; unit = wordsIn l; stride = stride; size = size; align = l .align })
+            unfolding valueOf kindOf narrowOf partsOf present fixedWords hasLayout isPresent isOpen sizeOf alignOf strideOf both
+            array-laid =
+                array-allowed (x .closed)
+                ∙ rw (
+                  fits,
+                  x .words-is,
+                  x .narrow-is,
+                  x .align-is,
+                  x .size-is,
+                  or-true (isOpen t),
+                  stride-is,
+                  limited-is _ size whole .0,
+                )

@@ -1,0 +1,82 @@
+-- What becomes of a runtime array's entry (crates/wgsl, specs/Rule, specs/Size), by what is known of its fields and of its element.
+--
+-- In order: the fields; the rules; an element that has an alignment: a stride past the limit, the layout.
+-- Assumes nothing.
+use Prim.Native.Nat.{ℕ}
+use mathlib.Core.Bool.{true, false, cond, and-false, or-true}
+use mathlib.Core.List.{[], _∷_}
+use mathlib.Core.Option.{none, some}
+use mathlib.Core.Path.{_≡_, _∙_}
+use borrow.Author.Tests.{le-leb, lt-leb}
+use Rattle.wgsl.specs.Round.{up, limit, withinLimit}
+use Rattle.wgsl.specs.Types.{Ty, runtime, isOpen, kindOf}
+use Rattle.wgsl.specs.Size.{both, isPresent, present, sizeOf, alignOf, strideOf, minSizeOf, innerNumbersOf, numbersOf, withinLimits, fitsLimit, hasLayout}
+use Rattle.wgsl.specs.File.{TypeEntry}
+use Rattle.wgsl.specs.Rule.{when, andThen, unused, runtimeMade, isAllowed, givenFits}
+use Rattle.numbers.specs.Limit.{limited}
+use Rattle.numbers.specs.declared.limit.Limited.the-variants.{Is, TooLarge}
+use Rattle.layout_referring.proofs.Limited.{limited-is, limited-large}
+use Rattle.layout_values.proofs.ValueOf.{Element, align-within}
+use Rattle.layout_values.specs.Value.{narrowOf, partsOf, fixedWords, wordsIn, valueOf, verdictOn, madeOf}
+use Rattle.layout_values.specs.declared.value.Value.{Value}
+use Rattle.layout_values.specs.declared.value.Made.the-variants.{Laid, Rule, Large}
+
+module _ (e : TypeEntry) (t : Ty) where
+  -- ---- the fields
+
+  -- "Fields a kind doesn't use are zero."
+  pub runtime-used : unused (e .columns ∷ e .rows ∷ e .count ∷ []) ≡ false → madeOf (e .reference) (runtimeMade (some t) e) ≡ Rule
+  unfolding madeOf runtimeMade when
+  runtime-used h = rw h
+
+  module _ (free : unused (e .columns ∷ e .rows ∷ e .count ∷ []) ≡ true) where
+    runtime-made : madeOf (e .reference) (runtimeMade (some t) e) ≡ verdictOn (e .reference) (runtime t)
+    unfolding madeOf runtimeMade when andThen
+    runtime-made = rw free
+
+    -- ---- the rules
+
+    -- "An array's element isn't open"
+    pub runtime-open : isOpen t ≡ true → madeOf (e .reference) (runtimeMade (some t) e) ≡ Rule
+    unfolding verdictOn isAllowed
+    runtime-open h = runtime-made ∙ rw h
+
+    -- "a runtime array's element also has size and alignment"
+    pub runtime-unaligned : alignOf t ≡ none → madeOf (e .reference) (runtimeMade (some t) e) ≡ Rule
+    unfolding verdictOn isAllowed isPresent
+    runtime-unaligned h = runtime-made ∙ rw (h, and-false)
+
+    -- ---- an element that has an alignment
+
+    module _ (l : Value) (x : Element t l) where
+      runtime-allowed : madeOf (e .reference) (runtimeMade (some t) e) ≡ cond (fitsLimit (runtime t)) (Laid (valueOf (e .reference) (runtime t))) Large
+      unfolding verdictOn isAllowed givenFits isPresent
+      runtime-allowed = runtime-made ∙ rw (x .closed, x .align-is, x .size-is)
+
+      -- "its minimum size is one stride", past the limit
+      pub runtime-apart : limited (up (l .align) (l .size)) ≡ TooLarge → madeOf (e .reference) (runtimeMade (some t) e) ≡ Large
+      unfolding fitsLimit withinLimits numbersOf minSizeOf innerNumbersOf strideOf sizeOf both withinLimit
+      runtime-apart h =
+          runtime-allowed
+          ∙ rw (x .align-is, x .size-is, lt-leb (up (l .align) (l .size)) 4294967295 (limited-large _ h), and-false)
+
+      module _ (stride : ℕ) (apart : limited (up (l .align) (l .size)) ≡ Is stride) where
+        fits : fitsLimit (runtime t) ≡ true
+        unfolding fitsLimit withinLimits numbersOf minSizeOf innerNumbersOf strideOf sizeOf both withinLimit
+        fits =
+            simp (x .align-is, x .size-is, le-leb _ _ (limited-is _ stride apart .1), le-leb _ _ (align-within t l x))
+
+        -- The layout of a runtime array.
+        pub runtime-laid : madeOf (e .reference) (runtimeMade (some t) e) ≡ Laid (record { kind = 10; narrow = l .narrow; reference = e .reference; count = 0; unit = wordsIn l; stride = stride; size = 0; align = l .align })
+        unfolding valueOf kindOf narrowOf partsOf present fixedWords hasLayout isPresent isOpen sizeOf alignOf strideOf both
+        runtime-laid =
+            runtime-allowed
+            ∙ rw (
+              fits,
+              x .words-is,
+              x .narrow-is,
+              x .align-is,
+              x .size-is,
+              or-true (isOpen t),
+              limited-is _ stride apart .0,
+            )

@@ -1,7 +1,0 @@
--- All routine; written out so that a refusal is told of this function, and not of its callers.
-use borrow.Author.Needs.{needs}
-use Rattle.layout_structs.proofs.chosen.Statement.{statement}
-use Rattle.layout_structs.proofs.chosen.Tie as tie
-
-pub chosen-spec : {M : Type 1} → statement M
-chosen-spec = tie.close (tie.spec (λ c. search needs) (λ c. search needs))

@@ -1,0 +1,83 @@
+-- How long the texts of a listing are (crates/wgsl, specs/Listing; crates/listing_text, specs/Put).
+--
+-- In order: lines; a whole listing.
+-- Assumes nothing.
+use Prim.Native.Nat.{ℕ, suc, _+_, _-_, _*_, _≤_}
+use mathlib.Core.Bool.{Bool, true, false, cond}
+use mathlib.Core.List.{List, [], _∷_, _++_}
+use mathlib.Core.Option.{Option, none, some}
+use mathlib.Core.Path.{_≡_, refl}
+use native.Mathlib.Omega.{arith}
+use lib.Dec.{ltb}
+use lib.ListN.{length, length-append}
+use Rattle.wgsl.specs.Types.{Ty}
+use Rattle.wgsl.specs.Size.{sizeOf, alignOf}
+use Rattle.wgsl.specs.Said.{Said, good, refused}
+use Rattle.wgsl.specs.File.{between}
+use Rattle.wgsl.specs.Rule.{typesOf}
+use Rattle.wgsl.specs.Listing.{entriesText, refusedText, atText, space, newline, dash, decimal, orDash, entryLine, entryLines, refusedLine, listed, inputLimit, listingOf}
+use Rattle.wgsl.proofs.Accepted.{accepted}
+use Rattle.listing_text.specs.Put.{Put, marked, line, heading}
+use Rattle.listing_text.proofs.Decimal.{decimal-length}
+use Rattle.listing_text.proofs.Lines.{marked-length}
+use Rattle.listing_text.proofs.PutLaws.{put-length}
+
+-- ---- lines
+
+orDash-length : (o : Option ℕ) → length (orDash o) ≤ 10
+unfolding orDash dash
+orDash-length none = omega arith
+orDash-length (some n) = decimal-length n
+
+-- a number and two texts of at most ten signs
+parted-length : (k : ℕ) (x y : List ℕ) → length x ≤ 10 → length y ≤ 10 → length (decimal k ++ space ++ x ++ space ++ y ++ newline) ≤ 33
+unfolding space newline
+parted-length k x y p q = simp length-append (omega (arith, decimal-length k))
+
+pub line-length : (k size align : ℕ) → length (line k size align) ≤ 33
+unfolding line
+line-length k size align = parted-length k (marked size) (marked align) (marked-length size) (marked-length align)
+
+pub heading-length : (types : ℕ) → length (heading types) ≤ 19
+unfolding heading entriesText newline
+heading-length types = simp length-append (omega (arith, decimal-length types))
+
+entryLines-length : (k : ℕ) (ts : List Ty) → length (entryLines k ts) ≤ 33 * length ts
+unfolding entryLines entryLine
+entryLines-length k [] = omega arith
+entryLines-length k (t ∷ ts) =
+    let size = orDash (sizeOf t) in
+    let align = orDash (alignOf t) in
+    let l = parted-length k size align (orDash-length (sizeOf t)) (orDash-length (alignOf t)) in
+    rw (length-append (entryLine k t) (entryLines (suc k) ts)) (omega (arith, entryLines-length (suc k) ts))
+
+refusedLine-length : (number place : ℕ) → length (refusedLine number place) ≤ 33
+unfolding refusedLine refusedText atText newline
+refusedLine-length number place =
+    simp length-append (omega (arith, decimal-length number, told (between 5 7 number)))
+  where
+    told : (b : Bool) → length (cond b (atText ++ decimal place) []) ≤ 14
+    told true = simp length-append (omega (arith, decimal-length place))
+    told false = omega arith
+
+-- ---- a whole listing
+
+listed-length : (f : List ℕ) (s : Said (List Ty)) → typesOf f ≡ s → length (listed s) ≤ 8467
+unfolding listed heading
+listed-length f (good ts) e =
+    let x = accepted f ts e in
+    rw (length-append (heading (length ts)) (entryLines 0 ts))
+    (omega (arith, heading-length (length ts), entryLines-length 0 ts))
+listed-length f (refused number place) e = omega (arith, refusedLine-length number place)
+
+listing-length : (f : List ℕ) → length (listingOf f) ≤ 8467
+unfolding listingOf
+listing-length f = go (ltb inputLimit (length f))
+  where
+    go : (b : Bool) → length (cond b (refusedLine 17 0) (listed (typesOf f))) ≤ 8467
+    go true = omega (arith, refusedLine-length 17 0)
+    go false = listed-length f (typesOf f) refl
+
+-- It ends inside a buffer that has room for the longest.
+pub listing-inside : {b after : List ℕ} {r : ℕ} (f : List ℕ) → 8467 ≤ length b → Put b 0 (listingOf f) r after → r ≤ length after
+listing-inside f h p = omega (arith, p .next, listing-length f, put-length p)
