@@ -20,6 +20,7 @@ run:
 test:
 	@rt fmt --check
 	@tools/believed --check
+	@tools/doors
 	@tools/gate
 
 # On what fact each wrong program of must-fail/ is refused.

@@ -1,4 +1,4 @@
--- The layout of an entry, found in the table, in the words of crates/wgsl.
+-- The value of an entry, found in the table, in the words of crates/wgsl.
 -- Definitions only. Assumes nothing.
 use Prim.Native.Nat.{ℕ}
 use mathlib.Core.Bool.{cond}

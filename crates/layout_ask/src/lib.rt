@@ -40,7 +40,7 @@ pub fn check(file: &[u8]) -> Number
     }
 }
 
-// The layout of entry `entry`.
+// The value of entry `entry`.
 fn value_of(file: &[u8], entry: u32) -> ValueFound
     ensures { λ r. ⌜ saidValue r ≡ valueFound (now (file .entry)) entry ⌝ }
 {
@@ -59,7 +59,7 @@ fn value_of(file: &[u8], entry: u32) -> ValueFound
     }
 }
 
-// A number of a layout asked alone: 0 stands for an absent one.
+// A number of a value asked alone: 0 stands for an absent one.
 fn alone(n: u32) -> Number
     ensures { λ r. ⌜ saidNumber r ≡ orRefuse 9 0 (marked n) ⌝ }
 {

@@ -1,4 +1,4 @@
-// The kinds that refer to one lower entry: 7 to 11. Each is handed that entry's layout.
+// The kinds that refer to one lower entry: 7 to 11. Each is handed that entry's value.
 use file::fields::TypeEntry;
 use file::kinds::ABSTRACT_INT;
 use file::kinds::ARRAY;

@@ -78,7 +78,7 @@ pub record Going (ms : Members) : Type 0 where
 abbrev pub followed : Members → Ty → MemberEntry → Members
 followed ms t m = appended ms t (givenSize m) (givenAlign m)
 
--- members that end as p says and passed 6 and 7; and one more of type t, whose layout is l, that passes 5 and 6
+-- members that end as p says and passed 6 and 7; and one more of type t, whose value is l, that passes 5 and 6
 pub record Joins (p : Ends) (l : Value) (m : MemberEntry) (ms : Members) (t : Ty) : Type 0 where
   pub ends : p ≡ endsOf ms
   pub layout : l ≡ valueOf (l .reference) t
@@ -90,7 +90,7 @@ pub record Joins (p : Ends) (l : Value) (m : MemberEntry) (ms : Members) (t : Ty
   pub size-fits : givenSizeFits t (givenSize m) ≡ true
   pub align-fits : givenAlignFits t (givenAlign m) ≡ true
 
--- the verdict on members is `run`, and one more of type t, whose layout is l, comes
+-- the verdict on members is `past`, and one more of type t, whose value is l, comes
 pub record Meets (run : SoFar) (l : Value) (ms : Members) (t : Ty) : Type 0 where
   pub verdict : run ≡ soFar ms
   pub layout : l ≡ valueOf (l .reference) t

@@ -137,7 +137,7 @@ pub fn step(past: SoFar, l: Value, m: MemberEntry, last: bool) -> Stepped
     }
 }
 
-// A struct's layout. Its stride is how long its member entries are.
+// A struct's value. Its stride is how long its member entries are.
 fn struct_of(e: TypeEntry, p: Ends, size: u32) -> Value
     ensures { λ r. ⌜ r ≡ structOf (entryIs e) p size ⌝ }
 {

@@ -1,4 +1,4 @@
-// The table of 256 layouts, worked out upward from entry 0.
+// The table of 256 values, worked out upward from entry 0.
 use file::fields::MEMBER_ENTRY_LENGTH;
 use file::fields::TYPE_ENTRY_LENGTH;
 use file::fields::TypeEntry;
@@ -98,7 +98,7 @@ fn entry_made(f: &[u8], e: TypeEntry, k: usize, base: usize, members: usize, tab
     over_entry(e, value_at(table, r))
 }
 
-// The layouts of the entries of a file whose trailer is good, worked out before anything else is read or written, or the refusal.
+// The values of the entries of a file whose trailer is good, worked out before anything else is read or written, or the refusal.
 // Refuses 5 to 7.
 pub fn fill(f: &[u8], t: Trailer, table: &mut [Row]) -> Checked
     requires { ⌜ (checkTrailer (now f) ≡ good (trailerIs t)) × (now table ≡ blankTable) ⌝ }
@@ -144,7 +144,7 @@ pub fn accept(f: &[u8]) -> Checked
     }
 }
 
-// The entry that a call speaks of: its layout, and where the file's member entries begin and end.
+// The entry that a call speaks of: its value, and where the file's member entries begin and end.
 pub struct Ground {
     pub value: Value,
     pub start: usize,

@@ -120,7 +120,7 @@ valuesOf f ts = valuesFrom f 0 ts ++ replicate (mostTypes - length ts) (replicat
 
 -- ---- the verdict on an entry's type
 
--- 5, 6 or 7, or the layout
+-- 5, 6 or 7, or the value
 unfoldable pub verdictOn : ℕ → Ty → Made
 verdictOn reference t =
     cond (isAllowed t) (cond (givenFits t) (cond (fitsLimit t) (Laid (valueOf reference t)) Large) Given) Rule
@@ -132,7 +132,7 @@ madeOf reference none = Rule
 
 -- ---- values that are some type's
 
--- a layout in the table: that of a type that the file's rules leave
+-- a value in the table: that of a type that the file's rules leave
 pub record Known (l : Value) : Type 0 where
   pub type : Ty
   pub is : l ≡ valueOf (l .reference) type

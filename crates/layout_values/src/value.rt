@@ -29,7 +29,7 @@ const SIZE: usize = 6;
 
 const ALIGN: usize = 7;
 
-// The layout of a type. A size, an alignment and a stride are above 0, and 0 stands for an absent one. Its parts are a vector's scalars,
+// The value of a type. A size, an alignment and a stride are above 0, and 0 stands for an absent one. Its parts are a vector's scalars,
 // a matrix's columns, an array's elements; a scalar and an atomic are one part.
 pub struct Value {
     pub kind: u32,
@@ -47,7 +47,7 @@ pub struct Value {
     pub align: u32,
 }
 
-// What becomes of an entry: a layout, or document 01's 5, 6 or 7.
+// What becomes of an entry: a value, or document 01's 5, 6 or 7.
 pub enum Made {
     Laid(Value),
     Rule,
@@ -77,7 +77,7 @@ pub fn row_of(l: Value) -> Row
     ]
 }
 
-// The layout of entry `e`.
+// The value of entry `e`.
 pub fn value_at(table: &[Row], e: usize) -> Value
     requires { ⌜ e < length (now table) ⌝ }
     ensures { λ r. ⌜ r ≡ valueAt (now (table .entry)) e ⌝ }

@@ -1,15 +1,18 @@
 -- A bit field's scalar (crates/wgsl, specs/BitFieldCall) as the code has it.
 -- Definitions only. Assumes nothing.
 use Prim.Native.Nat.{ℕ, _+_, _≤_}
-use mathlib.Core.Bool.{true, not}
+use mathlib.Core.Bool.{true}
+use mathlib.Core.List.{List, [], _∷_}
 use mathlib.Core.Path.{_≡_}
+use lib.ListN.{length}
 use Rattle.wgsl.specs.Types.{scalarKind}
 use Rattle.wgsl.specs.Round.{limit}
 use Rattle.wgsl.specs.Size.{present, widthOf}
-use Rattle.wgsl.specs.Said.{Said, good, refused, _>>=_, _>>_, refuse, orRefuse}
+use Rattle.wgsl.specs.Said.{Said, good, refused}
 use Rattle.wgsl.specs.Path as path
-use Rattle.wgsl.specs.Call.{scalarAt}
-use Rattle.wgsl.specs.BitFieldCall.{isInteger, FoundInteger}
+use Rattle.wgsl.specs.BitFieldCall.{isInteger, FoundInteger, wordOf}
+use Rattle.wgsl.specs.Place.{wordPlaces, storeWords}
+use Rattle.wgsl.specs.BitField.{inserted}
 use Rattle.said.specs.declared.target.Target.{Target}
 
 -- the scalar as the code has it
@@ -26,3 +29,8 @@ pub record Integer (t : Target) (x : FoundInteger) (bytes : ℕ) : Type 0 where
   pub integer : isInteger (x .scalar) ≡ true
   pub inside : x .offset + 4 ≤ bytes
   pub within : bytes ≤ limit
+
+-- the buffer with new bits in the field of the scalar
+abbrev pub FieldPut : Target → ℕ → ℕ → ℕ → List ℕ → List ℕ → Type 0
+FieldPut t new offset count before after =
+    (x : FoundInteger) → Integer t x (length before) → after ≡ storeWords (wordPlaces (x .scalar) (x .offset)) (inserted (wordOf x before) new offset count ∷ []) before

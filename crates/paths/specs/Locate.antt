@@ -33,7 +33,7 @@ heldOf t b =
 
 -- ---- an entry of the table
 
--- entry e, of the type t and the layout l, that has a layout
+-- entry e, of the type t and the value l, that has a layout
 pub record Viewable (f ms : List ℕ) (table : List (List ℕ)) (e : ℕ) (l : Value) (t : Ty) : Type 0 where
   pub types : List Ty
   pub basis : Basis f types ms table

@@ -12,18 +12,16 @@ use said::refusal::Refusal;
 use said::target::Target;
 use said::target::Walked;
 ghost use mathlib.Core.Path.{_≡_};
-ghost use mathlib.Core.List.{List, [], _∷_};
+ghost use mathlib.Core.List.{List};
 ghost use Prim.Native.Nat.{ℕ};
 ghost use lib.ListN.{length};
-ghost use Rattle.wgsl.specs.Place.{wordPlaces, storeWords};
 ghost use Rattle.wgsl.specs.Path as path;
 ghost use Rattle.wgsl.specs.Call.{answerOf, contentsOf};
-ghost use Rattle.wgsl.specs.BitField.{inserted};
 ghost use Rattle.wgsl.specs.BitFieldCall.{FoundInteger, integerAt, wordOf, extractedAs, extractCall, insertCall, integerOf};
 ghost use Rattle.said.specs.Answer.{saidNumber};
 ghost use Rattle.said.specs.declared.answer.Number.the-variants.{Is};
 ghost use Rattle.said.specs.Target.{saidWalked, targetIs};
-ghost use Rattle.paths.specs.Field.{foundIn, Integer};
+ghost use Rattle.paths.specs.Field.{foundIn, Integer, FieldPut};
 
 // 14, but for an i32 or a u32.
 fn integer_of(t: Target) -> Walked
@@ -65,7 +63,7 @@ fn field_of(t: Target, offset: u32, count: u32, buf: &[u8]) -> u32
 fn put_field(t: Target, newbits: u32, offset: u32, count: u32, buf: &mut [u8]) -> Number
     requires { ⌜ ((x : FoundInteger) × Integer t x (length (now buf))) ⌝ }
     ensures answer { λ r. ⌜ r ≡ Is (t .offset) ⌝ }
-    ensures buffer { λ _. ⌜ ((x : FoundInteger) → Integer t x (length (now (buf .entry))) → now (buf .exit) ≡ storeWords (wordPlaces (x .scalar) (x .offset)) (inserted (wordOf x (now (buf .entry))) newbits offset count ∷ []) (now (buf .entry))) ⌝ }
+    ensures buffer { λ _. ⌜ FieldPut t newbits offset count (now (buf .entry)) (now (buf .exit)) ⌝ }
 {
     let at = t.offset;
     let word = u32_at(buf, at);

@@ -47,7 +47,7 @@ fn held_open(x: Rest, bytes: usize) -> Held
     }
 }
 
-// 15: for an entry of the layout `l` and a buffer of so many bytes.
+// 15: for an entry of the value `l` and a buffer of so many bytes.
 fn held_of(members: &[u8], table: &[Row], l: Value, bytes: usize) -> Held
     requires { ⌜ ((f : List ℕ) × (e : ℕ) × (t : Ty) × Viewable f (now members) (now table) e l t × (bytes ≤ limit)) ⌝ }
     ensures { λ r. ⌜ ((f : List ℕ) (e : ℕ) (t : Ty) (b : List ℕ) → Viewable f (now (members .entry)) (now (table .entry)) e l t → length b ≡ bytes → r ≡ heldOf t b) ⌝ }

@@ -15,14 +15,13 @@ ghost use Rattle.wgsl.specs.Types.{Scalar};
 ghost use Rattle.wgsl.specs.Place.{one};
 ghost use Rattle.wgsl.specs.Path as path;
 ghost use Rattle.wgsl.specs.Call.{answerOf, contentsOf, setCall, setTarget, setScalar};
-ghost use Rattle.said.specs.Answer.{saidNumber};
+ghost use Rattle.said.specs.Answer.{saidNumber, Answered};
 ghost use Rattle.paths.specs.Set.{Roomy, Narrow};
 
 // 16 for an f16, and its two bytes at `at`.
 fn set_half(at: usize, word: u32, buf: &mut [u8]) -> Number
     requires { ⌜ (at + 2 ≤ length (now buf)) × (length (now buf) ≤ limit) ⌝ }
-    ensures answer { λ r. ⌜ ((s : Scalar) → Narrow s → saidNumber r ≡ answerOf (setScalar s at word (now (buf .entry)))) ⌝ }
-    ensures buffer { λ _. ⌜ ((s : Scalar) → Narrow s → now (buf .exit) ≡ contentsOf (now (buf .entry)) (setScalar s at word (now (buf .entry)))) ⌝ }
+    ensures { λ r. ⌜ ((s : Scalar) → Narrow s → Answered (setScalar s at word (now (buf .entry))) r (now (buf .entry)) (now (buf .exit))) ⌝ }
 {
     if 65535 < word {
         return Number::Refused(Refusal::Word(0));
@@ -34,8 +33,7 @@ fn set_half(at: usize, word: u32, buf: &mut [u8]) -> Number
 // 14, 16, and the scalar's bytes.
 fn set_scalar(t: Target, word: u32, buf: &mut [u8]) -> Number
     requires { ⌜ ((u : path.Target) × Roomy t u (length (now buf))) ⌝ }
-    ensures answer { λ r. ⌜ ((u : path.Target) → Roomy t u (length (now (buf .entry))) → saidNumber r ≡ answerOf (setTarget u word (now (buf .entry)))) ⌝ }
-    ensures buffer { λ _. ⌜ ((u : path.Target) → Roomy t u (length (now (buf .entry))) → now (buf .exit) ≡ contentsOf (now (buf .entry)) (setTarget u word (now (buf .entry)))) ⌝ }
+    ensures { λ r. ⌜ ((u : path.Target) → Roomy t u (length (now (buf .entry))) → Answered (setTarget u word (now (buf .entry))) r (now (buf .entry)) (now (buf .exit))) ⌝ }
 {
     if LAST_SCALAR < t.scalar {
         return Number::Refused(Refusal::Count);

@@ -1,7 +1,9 @@
 -- What the answers of the questions say.
 -- Definitions only. Assumes nothing.
 use Prim.Native.Nat.{ℕ}
+use mathlib.Core.List.{List}
 use mathlib.Core.Option.{Option, none, some}
+use mathlib.Core.Path.{_≡_}
 use Rattle.wgsl.specs.Said.{Said, good, refused}
 use Rattle.wgsl.specs.Call as wgsl
 use Rattle.said.specs.Refusal.{numberOf, placeOf}
@@ -25,3 +27,7 @@ layoutIs s = record { size = maybeOf (s .size); align = maybeOf (s .align); minS
 abbrev pub saidAnswer : Answer → Said wgsl.Layout
 saidAnswer (Answer.Is s) = good (layoutIs s)
 saidAnswer (Answer.Refused r) = refused (numberOf r) (placeOf r)
+
+-- the answer r, and `before` and `after` of what was lent to change, are what a call says
+abbrev pub Answered : Said wgsl.Done → Number → List ℕ → List ℕ → Type 0
+Answered said r before after = (saidNumber r ≡ wgsl.answerOf said) × (after ≡ wgsl.contentsOf before said)

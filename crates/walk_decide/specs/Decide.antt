@@ -49,11 +49,11 @@ elementsFound bytes offset stride =
 
 -- ---- what lies after the fixed part
 
--- the last member of a struct with the layout l
+-- the last member of a struct with the value l
 abbrev pub lastSlot : List ℕ → List (List ℕ) → Value → Slot
 lastSlot ms table l = slotIn ms table (l .stride) (l .reference * l .stride) 0 (l .count - 1)
 
--- the runtime array that an entry with the layout l is or ends in
+-- the runtime array that an entry with the value l is or ends in
 unfoldable pub restFrom : List ℕ → List (List ℕ) → Value → Rest
 restFrom ms table l =
     cond (eqb (l .kind) runtimeKind) (record { value = l; offset = 0; fixed = 0 })

@@ -32,7 +32,7 @@ pub record Covered (t : Ty) (n : ℕ) : Type 0 where
   pub places-are : places n t ≡ runPlaces count width 0
   pub extent-is : extentOf n t ≡ count * width
 
--- entry e, of the storable type t and the layout l
+-- entry e, of the storable type t and the value l
 pub record Ready (ms : List ℕ) (table : List (List ℕ)) (e : ℕ) (l : Value) (t : Ty) : Type 0 where
   pub layout-is : l ≡ valueOf (l .reference) t
   pub well-formed : everywhere isWellFormed t ≡ true

@@ -1,4 +1,5 @@
-// What reading and writing decide before they store anything.
+// What calls decide before they go through an entry: 17, 9 and 10, 16, how many elements a runtime array has, and what lies after the
+// fixed part.
 use file::kinds::RUNTIME;
 use layout_values::value::Row;
 use layout_values::value::Value;
@@ -108,7 +109,7 @@ pub fn elements_in(bytes: usize, first: usize, stride: u32) -> Fits
     Fits::Is(n)
 }
 
-// What lies after the fixed part of an entry: parts as a layout says, from a byte and from a word on.
+// What lies after the fixed part of an entry: parts as a value says, from a byte and from a word on.
 pub struct Rest {
     pub value: Value,
     pub offset: usize,
@@ -135,7 +136,8 @@ pub fn rest_of(members: &[u8], table: &[Row], l: Value) -> Rest
     }
 }
 
-// A type of fixed size: nothing.
+// A type of fixed size: nothing. Its value is a run of no words, so that walks pass it by without looking an entry up; and words of four
+// bytes, so that none is tested.
 pub fn closed_rest(l: Value) -> Rest
     requires { ⌜ Counted l ⌝ }
     ensures { λ r. ⌜ r ≡ closedRest l ⌝ }

@@ -1,20 +1,22 @@
 -- Where a walk stands, and what a step leads to, by the table of an accepted file (crates/walk_shapes, specs/Basis).
 --
--- In order: what a layout says; a place and its shape; what a step leads to.
+-- In order: what a value says; a stand and its shape; what a step leads to; what a walk promises.
 -- Definitions only. Assumes nothing.
 use Prim.Native.Nat.{ℕ, _*_, _<_, _≤_}
 use mathlib.Core.Path.{_≡_}
 use mathlib.Core.Bool.{true, cond}
-use mathlib.Core.List.{List}
+use mathlib.Core.List.{List, map}
 use mathlib.Core.Option.{some}
 use lib.Dec.{eqb}
-use lib.ListN.{getElem?}
+use lib.ListN.{getElem?, drop}
 use Rattle.wgsl.specs.Round.{limit}
 use Rattle.wgsl.specs.Types.{Scalar, Ty, scalar, vectorKind, runtimeKind}
 use Rattle.wgsl.specs.Size.{hasLayout}
 use Rattle.wgsl.specs.Said.{good, refused}
 use Rattle.wgsl.specs.Place.{Shape, column, shapeOf, spanOf}
-use Rattle.wgsl.specs.Path.{Step, enter}
+use Rattle.wgsl.specs.Path.{Step, stepOf, enter, walk}
+use Rattle.said.specs.declared.target.Walked.{Walked}
+use Rattle.said.specs.Target.{reached, saidWalked}
 use Rattle.layout_values.specs.Value.{valueAt}
 use Rattle.walk_shapes.specs.Basis.{Basis}
 use Rattle.walk_path.specs.declared.enter.Stand.{Stand}
@@ -22,7 +24,7 @@ use Rattle.walk_path.specs.declared.enter.Stand.the-variants.{Entry, Col
 use Rattle.walk_path.specs.declared.enter.Entered.{Entered}
 use Rattle.walk_path.specs.declared.enter.Entered.the-variants.{Into, NoMember, PastEnd, NoIndex}
 
--- ---- what a layout says, where a runtime array has n elements
+-- ---- what a value says, where a runtime array has n elements
 
 -- the bytes of entry e, which is no open struct
 unfoldable pub sizeAt : List (List ℕ) → ℕ → ℕ → ℕ
@@ -59,3 +61,10 @@ Enters ts n (Into i) x s =
 Enters ts n NoMember x s = (j : ℕ) → enter j x s ≡ refused 11 j
 Enters ts n PastEnd x s = (j : ℕ) → enter j x s ≡ refused 12 j
 Enters ts n NoIndex x s = (j : ℕ) → enter j x s ≡ refused 13 j
+
+-- ---- what a walk promises
+
+-- from wherever it stands, in so many bytes, the steps from number k on lead to what r says
+abbrev pub Walks : List ℕ → List (List ℕ) → ℕ → Stand → ℕ → List ℕ → ℕ → ℕ → Walked → Type 0
+Walks ms table n p size path k offset r =
+    (f : List ℕ) (ts : List Ty) (x : Shape) → Standing f ts ms table n p x → size ≡ spanOf x → saidWalked r ≡ reached (walk k offset x (map stepOf (drop k path)))

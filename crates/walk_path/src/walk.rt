@@ -9,16 +9,13 @@ use said::refusal::Refusal;
 use said::target::Target;
 use said::target::Walked;
 ghost use mathlib.Core.Path.{_≡_};
-ghost use mathlib.Core.List.{List, map};
+ghost use mathlib.Core.List.{List};
 ghost use Prim.Native.Nat.{ℕ, _+_, _≤_};
-ghost use lib.ListN.{length, drop};
+ghost use lib.ListN.{length};
 ghost use Rattle.wgsl.specs.Round.{limit};
 ghost use Rattle.wgsl.specs.Types.{Ty};
 ghost use Rattle.wgsl.specs.Place.{Shape, spanOf};
-ghost use Rattle.wgsl.specs.Path.{stepOf};
-ghost use Rattle.wgsl.specs.Path as steps;
-ghost use Rattle.walk_path.specs.Way.{Standing};
-ghost use Rattle.said.specs.Target.{saidWalked, reached};
+ghost use Rattle.walk_path.specs.Way.{Standing, Walks};
 
 // The steps from number `k` on, from a place that lies at `offset` and has `size` bytes. An open type has `n` elements.
 pub fn walk(
@@ -32,7 +29,7 @@ pub fn walk(
     offset: usize,
 ) -> Walked
     requires { ⌜ ((f : List ℕ) × (ts : List Ty) × (x : Shape) × Standing f ts (now members) (now table) n p x × (size ≡ spanOf x) × (offset + spanOf x ≤ limit) × (k ≤ length (now path))) ⌝ }
-    ensures { λ r. ⌜ ((f : List ℕ) (ts : List Ty) (x : Shape) → Standing f ts (now (members .entry)) (now (table .entry)) n p x → size ≡ spanOf x → saidWalked r ≡ reached (steps.walk k offset x (map stepOf (drop k (now (path .entry)))))) ⌝ }
+    ensures { λ r. ⌜ Walks (now (members .entry)) (now (table .entry)) n p size (now (path .entry)) k offset r ⌝ }
 {
     if k == path.len() {
         return Walked::To(Target {

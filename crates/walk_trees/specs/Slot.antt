@@ -38,7 +38,7 @@ runAt table e =
     let l : Value = valueAt table e in
     cond (eqb (l .kind) runtimeKind) (touching (l .stride) (l .unit) (partWidth table l)) (packedAs l)
 
--- the words of a layout are within the limit
+-- the words of a value are within the limit
 abbrev pub Counted : Value → Type 0
 Counted l = wordsIn l ≤ limit
 
@@ -53,7 +53,7 @@ pub record RunAsks (table : List (List ℕ)) (e : ℕ) : Type 0 where
   pub counted : Counted (valueAt table e)
   pub referring : Referring table (valueAt table e)
 
--- a layout, but for its count
+-- a value, but for its count
 unfoldable pub withCount : ℕ → Value → Value
 withCount n l =
     record {
@@ -72,7 +72,7 @@ withCount n l =
 abbrev pub memberAt : List ℕ → ℕ → MemberEntry
 memberAt ms m = memberEntryFrom ms m
 
--- the layout of a member's type
+-- the value of a member's type
 abbrev pub memberValue : List ℕ → List (List ℕ) → ℕ → Value
 memberValue ms table m = valueAt table (memberAt ms m .type)
 

@@ -66,7 +66,7 @@ pub record Valued (table : List (List ℕ)) (e : ℕ) (x : Shape) : Type 0 where
   pub wide : (valueAt table e .narrow ≡ 2 → ⊥) → Wide x
 
 mutual
-  -- parts as the layout l says have the shape x
+  -- parts as the value l says have the shape x
   pub data Many (ms : List ℕ) (table : List (List ℕ)) : Value → Shape → Type 0 where
     runs : {l : Value} {x : Shape} → Runs table l x → Many ms table l x
     each : {l : Value} {y : Shape} → Elements table l y → Tree ms table (l .reference) y → Many ms table l (parts (l .count) (l .stride) y)

@@ -106,7 +106,7 @@ pub fn slot_after(members: &[u8], table: &[Row], m: usize, end: usize) -> Slot
     )
 }
 
-// Member `number` of a struct with the layout `l`. Structs may share member entries, so a member's place is worked out in its own struct,
+// Member `number` of a struct with the value `l`. Structs may share member entries, so a member's place is worked out in its own struct,
 // from the first member on.
 pub fn member_in(members: &[u8], table: &[Row], l: Value, number: u32) -> Slot
     requires { ⌜ SlotsAsk (now members) (now table) (l .stride) (l .reference * l .stride) 0 number ⌝ }

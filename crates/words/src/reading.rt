@@ -24,21 +24,21 @@ use words_read::read_entry;
 use words_read::read_many;
 ghost use mathlib.Core.Path.{_≡_};
 ghost use mathlib.Core.Bool.{false};
-ghost use mathlib.Core.List.{_++_};
 ghost use Prim.Native.Nat.{ℕ, _≤_};
-ghost use lib.ListN.{length, drop};
+ghost use lib.ListN.{length};
 ghost use Rattle.wgsl.specs.Types.{Ty, isOpen};
-ghost use Rattle.wgsl.specs.Place.{extentOf, places, wordCount, wordsRead};
-ghost use Rattle.wgsl.specs.Call.{answerOf, contentsOf, readCall, readType, readElements};
+ghost use Rattle.wgsl.specs.Place.{extentOf, wordCount};
+ghost use Rattle.wgsl.specs.Call.{answerOf, contentsOf, readCall};
 ghost use Rattle.wgsl.specs.Round.{limit};
 ghost use Rattle.said.specs.Answer.{saidNumber};
 ghost use Rattle.walk_decide.specs.Whole.{Ready, Tailed, TailedBy, Whole};
 ghost use Rattle.walk_decide.specs.Meant.{Meant};
+ghost use Rattle.words.specs.Promise.{WholeLoaded, ClosedRead, ElementsRead, OpenRead, MeantRead};
 
 // Puts the words of an entry down: the fixed part, then the tail.
 fn load(members: &[u8], table: &[Row], e: usize, x: Rest, buf: &[u8], words: &mut [u32])
     requires { ⌜ ((t : Ty) × (n : ℕ) × Whole (now members) (now table) e x t n × (wordCount n t ≤ length (now words)) × (extentOf n t ≤ length (now buf))) ⌝ }
-    ensures { λ _. ⌜ ((t : Ty) (n : ℕ) → Whole (now (members .entry)) (now (table .entry)) e x t n → wordCount n t ≤ length (now (words .entry)) → now (words .exit) ≡ wordsRead (places n t) (now (buf .entry)) ++ drop (wordCount n t) (now (words .entry))) ⌝ }
+    ensures { λ _. ⌜ WholeLoaded (now (members .entry)) (now (table .entry)) e x (now (buf .entry)) (now (words .entry)) (now (words .exit)) ⌝ }
 {
     read_entry(members, table, e, 0, buf, 0, words);
     read_many(members, table, x.value, x.offset, buf, x.fixed, words);
@@ -54,8 +54,7 @@ fn read_closed(
     words: &mut [u32],
 ) -> Number
     requires { ⌜ ((t : Ty) × Ready (now members) (now table) e l t × (isOpen t ≡ false)) ⌝ }
-    ensures answer { λ r. ⌜ ((t : Ty) → Ready (now (members .entry)) (now (table .entry)) e l t → isOpen t ≡ false → saidNumber r ≡ answerOf (readType t (now (buf .entry)) (now (words .entry)))) ⌝ }
-    ensures words { λ _. ⌜ ((t : Ty) → Ready (now (members .entry)) (now (table .entry)) e l t → isOpen t ≡ false → now (words .exit) ≡ contentsOf (now (words .entry)) (readType t (now (buf .entry)) (now (words .entry)))) ⌝ }
+    ensures { λ r. ⌜ ClosedRead (now (members .entry)) (now (table .entry)) e l (now (buf .entry)) r (now (words .entry)) (now (words .exit)) ⌝ }
 {
     if buf.len() < wide(l.size) {
         return Number::Refused(Refusal::Buffer);
@@ -78,8 +77,7 @@ fn read_elements(
     words: &mut [u32],
 ) -> Number
     requires { ⌜ ((t : Ty) × TailedBy (now members) (now table) e x t × (extentOf n t ≤ length (now buf)) × (length (now buf) ≤ limit)) ⌝ }
-    ensures answer { λ r. ⌜ ((t : Ty) → TailedBy (now (members .entry)) (now (table .entry)) e x t → saidNumber r ≡ answerOf (readElements n t (now (buf .entry)) (now (words .entry)))) ⌝ }
-    ensures words { λ _. ⌜ ((t : Ty) → TailedBy (now (members .entry)) (now (table .entry)) e x t → now (words .exit) ≡ contentsOf (now (words .entry)) (readElements n t (now (buf .entry)) (now (words .entry)))) ⌝ }
+    ensures { λ r. ⌜ ElementsRead (now (members .entry)) (now (table .entry)) e x n (now (buf .entry)) r (now (words .entry)) (now (words .exit)) ⌝ }
 {
     let count = x.fixed + n * wide(x.value.unit);
     if words.len() < count {
@@ -99,8 +97,7 @@ fn read_open(
     words: &mut [u32],
 ) -> Number
     requires { ⌜ ((t : Ty) × Tailed (now members) (now table) e l t × (length (now buf) ≤ limit)) ⌝ }
-    ensures answer { λ r. ⌜ ((t : Ty) → Tailed (now (members .entry)) (now (table .entry)) e l t → saidNumber r ≡ answerOf (readType t (now (buf .entry)) (now (words .entry)))) ⌝ }
-    ensures words { λ _. ⌜ ((t : Ty) → Tailed (now (members .entry)) (now (table .entry)) e l t → now (words .exit) ≡ contentsOf (now (words .entry)) (readType t (now (buf .entry)) (now (words .entry)))) ⌝ }
+    ensures { λ r. ⌜ OpenRead (now (members .entry)) (now (table .entry)) e l (now (buf .entry)) r (now (words .entry)) (now (words .exit)) ⌝ }
 {
     let x = rest_of(members, table, l);
     match elements_in(buf.len(), x.offset, x.value.stride) {
@@ -119,8 +116,7 @@ fn read_entry_at(
     words: &mut [u32],
 ) -> Number
     requires { ⌜ ((t : Ty) × Meant (now file) e g (now table) t) ⌝ }
-    ensures answer { λ r. ⌜ ((t : Ty) → Meant (now (file .entry)) e g (now (table .entry)) t → saidNumber r ≡ answerOf (readCall (now (file .entry)) e (now (buf .entry)) (now (words .entry)))) ⌝ }
-    ensures words { λ _. ⌜ ((t : Ty) → Meant (now (file .entry)) e g (now (table .entry)) t → now (words .exit) ≡ contentsOf (now (words .entry)) (readCall (now (file .entry)) e (now (buf .entry)) (now (words .entry)))) ⌝ }
+    ensures { λ r. ⌜ MeantRead (now (file .entry)) e g (now (table .entry)) (now (buf .entry)) r (now (words .entry)) (now (words .exit)) ⌝ }
 {
     let l = g.value;
     match allow(l, buf.len(), true) {

@@ -34,14 +34,15 @@ ghost use mathlib.Core.List.{_++_};
 ghost use Prim.Native.Nat.{ℕ, _+_, _≤_};
 ghost use lib.ListN.{length, drop, replicate};
 ghost use Rattle.wgsl.specs.Types.{Ty, isOpen};
-ghost use Rattle.wgsl.specs.Place.{extentOf, places, wordCount, written, checkWords};
-ghost use Rattle.wgsl.specs.Call.{answerOf, contentsOf, writeCall, writeType, writeElements, writeWords};
+ghost use Rattle.wgsl.specs.Place.{extentOf, wordCount};
+ghost use Rattle.wgsl.specs.Call.{answerOf, contentsOf, writeCall};
 ghost use Rattle.wgsl.specs.Round.{limit};
 ghost use Rattle.said.specs.Answer.{saidNumber};
 ghost use Rattle.runs.specs.Ask.{saidScan};
 ghost use Rattle.walk_trees.specs.Slot.{runAt, RunAsks};
 ghost use Rattle.walk_decide.specs.Whole.{Ready, Tailed, TailedBy, Whole};
 ghost use Rattle.walk_decide.specs.Meant.{Meant};
+ghost use Rattle.words.specs.Promise.{Tested, WholeStored, WholeWritten, ClosedWritten, ElementsWritten, OpenWritten, MeantWritten};
 
 // "zero where no scalar lies": the first `n` bytes.
 fn zero(buf: &mut [u8], n: usize)
@@ -70,7 +71,7 @@ fn clear(table: &[Row], e: usize, buf: &mut [u8], n: usize)
 // Tests the words of an entry: the fixed part, then the tail.
 fn scan(members: &[u8], table: &[Row], e: usize, x: Rest, words: &[u32]) -> Scan
     requires { ⌜ ((t : Ty) × (n : ℕ) × Whole (now members) (now table) e x t n × (length (now words) ≡ wordCount n t)) ⌝ }
-    ensures { λ r. ⌜ ((t : Ty) (n : ℕ) → Whole (now (members .entry)) (now (table .entry)) e x t n → length (now (words .entry)) ≡ wordCount n t → saidScan r ≡ checkWords 0 (places n t) (now (words .entry))) ⌝ }
+    ensures { λ r. ⌜ Tested (now (members .entry)) (now (table .entry)) e x (now (words .entry)) (saidScan r) ⌝ }
 {
     match scan_entry(members, table, e, words, 0) {
         Scan::Bad(k) => Scan::Bad(k),
@@ -89,7 +90,7 @@ fn store(
     buf: &mut [u8],
 )
     requires { ⌜ ((t : Ty) × (n : ℕ) × Whole (now members) (now table) e x t n × (length (now words) ≡ wordCount n t) × (extent ≡ extentOf n t) × (extent ≤ length (now buf))) ⌝ }
-    ensures { λ _. ⌜ ((t : Ty) (n : ℕ) → Whole (now (members .entry)) (now (table .entry)) e x t n → length (now (words .entry)) ≡ wordCount n t → extent ≡ extentOf n t → extent ≤ length (now (buf .entry)) → now (buf .exit) ≡ written n t (now (words .entry)) (now (buf .entry))) ⌝ }
+    ensures { λ _. ⌜ WholeStored (now (members .entry)) (now (table .entry)) e x extent (now (words .entry)) (now (buf .entry)) (now (buf .exit)) ⌝ }
 {
     clear(table, e, buf, extent);
     write_entry(members, table, e, 0, words, 0, buf);
@@ -107,8 +108,7 @@ fn write_whole(
     buf: &mut [u8],
 ) -> Number
     requires { ⌜ ((t : Ty) × (n : ℕ) × Whole (now members) (now table) e x t n × (length (now words) ≡ wordCount n t) × (extent ≡ extentOf n t) × (extent ≤ length (now buf))) ⌝ }
-    ensures answer { λ r. ⌜ ((t : Ty) (n : ℕ) → Whole (now (members .entry)) (now (table .entry)) e x t n → length (now (words .entry)) ≡ wordCount n t → extent ≡ extentOf n t → extent ≤ length (now (buf .entry)) → saidNumber r ≡ answerOf (writeWords n t (now (words .entry)) (now (buf .entry)))) ⌝ }
-    ensures buffer { λ _. ⌜ ((t : Ty) (n : ℕ) → Whole (now (members .entry)) (now (table .entry)) e x t n → length (now (words .entry)) ≡ wordCount n t → extent ≡ extentOf n t → extent ≤ length (now (buf .entry)) → now (buf .exit) ≡ contentsOf (now (buf .entry)) (writeWords n t (now (words .entry)) (now (buf .entry)))) ⌝ }
+    ensures { λ r. ⌜ WholeWritten (now (members .entry)) (now (table .entry)) e x extent (now (words .entry)) r (now (buf .entry)) (now (buf .exit)) ⌝ }
 {
     match fit(scan(members, table, e, x, words)) {
         Allowed::Refused(r) => Number::Refused(r),
@@ -129,8 +129,7 @@ fn write_closed(
     buf: &mut [u8],
 ) -> Number
     requires { ⌜ ((t : Ty) × Ready (now members) (now table) e l t × (isOpen t ≡ false)) ⌝ }
-    ensures answer { λ r. ⌜ ((t : Ty) → Ready (now (members .entry)) (now (table .entry)) e l t → isOpen t ≡ false → saidNumber r ≡ answerOf (writeType t (now (words .entry)) (now (buf .entry)))) ⌝ }
-    ensures buffer { λ _. ⌜ ((t : Ty) → Ready (now (members .entry)) (now (table .entry)) e l t → isOpen t ≡ false → now (buf .exit) ≡ contentsOf (now (buf .entry)) (writeType t (now (words .entry)) (now (buf .entry)))) ⌝ }
+    ensures { λ r. ⌜ ClosedWritten (now (members .entry)) (now (table .entry)) e l (now (words .entry)) r (now (buf .entry)) (now (buf .exit)) ⌝ }
 {
     if words.len() != wide(words_of(l)) {
         return Number::Refused(Refusal::Count);
@@ -152,8 +151,7 @@ fn write_elements(
     buf: &mut [u8],
 ) -> Number
     requires { ⌜ ((t : Ty) × TailedBy (now members) (now table) e x t × (length (now buf) ≤ limit) × (length (now words) ≡ wordCount n t)) ⌝ }
-    ensures answer { λ r. ⌜ ((t : Ty) → TailedBy (now (members .entry)) (now (table .entry)) e x t → length (now (words .entry)) ≡ wordCount n t → saidNumber r ≡ answerOf (writeElements n t (now (words .entry)) (now (buf .entry)))) ⌝ }
-    ensures buffer { λ _. ⌜ ((t : Ty) → TailedBy (now (members .entry)) (now (table .entry)) e x t → length (now (words .entry)) ≡ wordCount n t → now (buf .exit) ≡ contentsOf (now (buf .entry)) (writeElements n t (now (words .entry)) (now (buf .entry)))) ⌝ }
+    ensures { λ r. ⌜ ElementsWritten (now (members .entry)) (now (table .entry)) e x n (now (words .entry)) r (now (buf .entry)) (now (buf .exit)) ⌝ }
 {
     match extent_for(buf.len(), x.offset, x.value.stride, n) {
         Fits::No => Number::Refused(Refusal::Buffer),
@@ -181,8 +179,7 @@ fn write_open(
     buf: &mut [u8],
 ) -> Number
     requires { ⌜ ((t : Ty) × Tailed (now members) (now table) e l t × (length (now buf) ≤ limit)) ⌝ }
-    ensures answer { λ r. ⌜ ((t : Ty) → Tailed (now (members .entry)) (now (table .entry)) e l t → saidNumber r ≡ answerOf (writeType t (now (words .entry)) (now (buf .entry)))) ⌝ }
-    ensures buffer { λ _. ⌜ ((t : Ty) → Tailed (now (members .entry)) (now (table .entry)) e l t → now (buf .exit) ≡ contentsOf (now (buf .entry)) (writeType t (now (words .entry)) (now (buf .entry)))) ⌝ }
+    ensures { λ r. ⌜ OpenWritten (now (members .entry)) (now (table .entry)) e l (now (words .entry)) r (now (buf .entry)) (now (buf .exit)) ⌝ }
 {
     let x = rest_of(members, table, l);
     match elements_for(words.len(), x.fixed, x.value.unit) {
@@ -201,8 +198,7 @@ fn write_entry_at(
     buf: &mut [u8],
 ) -> Number
     requires { ⌜ ((t : Ty) × Meant (now file) e g (now table) t) ⌝ }
-    ensures answer { λ r. ⌜ ((t : Ty) → Meant (now (file .entry)) e g (now (table .entry)) t → saidNumber r ≡ answerOf (writeCall (now (file .entry)) e (now (words .entry)) (now (buf .entry)))) ⌝ }
-    ensures buffer { λ _. ⌜ ((t : Ty) → Meant (now (file .entry)) e g (now (table .entry)) t → now (buf .exit) ≡ contentsOf (now (buf .entry)) (writeCall (now (file .entry)) e (now (words .entry)) (now (buf .entry)))) ⌝ }
+    ensures { λ r. ⌜ MeantWritten (now (file .entry)) e g (now (table .entry)) (now (words .entry)) r (now (buf .entry)) (now (buf .exit)) ⌝ }
 {
     let l = g.value;
     match allow(l, buf.len(), true) {

@@ -42,7 +42,7 @@ pub fn read_entry(
     read_many(members, table, r, at, buf, k, words);
 }
 
-// Reads parts as the layout `r` says: runs at once, others each by its entry.
+// Reads parts as the value `r` says: runs at once, others each by its entry.
 pub fn read_many(
     members: &[u8],
     table: &[Row],

@@ -33,7 +33,7 @@ pub fn scan_entry(members: &[u8], table: &[Row], e: usize, words: &[u32], k: usi
     scan_many(members, table, r, words, k)
 }
 
-// Tests parts as the layout `r` says.
+// Tests parts as the value `r` says.
 pub fn scan_many(members: &[u8], table: &[Row], r: Value, words: &[u32], k: usize) -> Scan
     requires { ⌜ ((x : Shape) × Many (now members) (now table) r x × WordRoom x k (length (now words))) ⌝ }
     ensures { λ s. ⌜ ((x : Shape) → Many (now (members .entry)) (now (table .entry)) r x → Tests (now (words .entry)) (placesOf x 0) k (saidScan s)) ⌝ }

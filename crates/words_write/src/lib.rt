@@ -57,7 +57,7 @@ pub fn write_entry(
     write_many(members, table, r, at, words, k, buf);
 }
 
-// Writes parts as the layout `r` says: runs at once, others each by its entry.
+// Writes parts as the value `r` says: runs at once, others each by its entry.
 pub fn write_many(
     members: &[u8],
     table: &[Row],

@@ -6,8 +6,9 @@ use borrow.Author.Needs.{needs}
 use lib.ListN.{length}
 use Rattle.wgsl.specs.Said.{good, refused}
 use Rattle.wgsl.specs.Path as path
-use Rattle.wgsl.specs.Call.{answerOf, contentsOf, setCall, targetCall}
+use Rattle.wgsl.specs.Call.{setCall, targetCall}
 use Rattle.said.specs.Refusal.{numberOf, placeOf}
+use Rattle.said.proofs.Answered.{answered-refused, answered-same}
 use Rattle.paths.specs.Set.{Roomy}
 use Rattle.paths.proofs.Roomy.{reached-refused, roomy}
 use Rattle.paths.proofs.SetTarget.{set-refused, set-found}
@@ -35,18 +36,15 @@ set-scalar-requires : tie.Need-set-scalar-requires
 set-scalar-requires c κs = let x = found (c .before .before) in (x .0, x .2)
 
 returns : tie.Need-returns
-unfolding answerOf contentsOf
 returns c =
     let r = c .before in
-    (ap answerOf (sym (stopped r)), ap (contentsOf _) (sym (stopped r)))
+    answered-refused _ (stopped r)
 
 returns-2 : tie.Need-returns-2
 returns-2 c =
     let set = c .before .before in
-    let x = found (set .before .before .before) in (
-      set .set-scalar .ensures .0 (x .0) (x .2) ∙ ap answerOf (sym (set-found _ _ _ _ _ (x .1))),
-      set .set-scalar .ensures .1 (x .0) (x .2) ∙ ap (contentsOf _) (sym (set-found _ _ _ _ _ (x .1))),
-    )
+    let x = found (set .before .before .before) in
+    answered-same _ (set-found _ _ _ _ _ (x .1)) (set .set-scalar .ensures (x .0) (x .2))
 
 pub set-spec : {M : Type 1} → statement M
 set-spec =

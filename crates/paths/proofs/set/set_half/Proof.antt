@@ -1,29 +1,21 @@
 -- The word fits or it does not (proofs/SetTarget). Assumes nothing.
-use mathlib.Core.Path.{ap, sym, _∙_}
+use mathlib.Core.Path.{refl}
 use native.Mathlib.Omega.{arith}
 use borrow.Author.Needs.{needs}
+use Rattle.said.proofs.Answered.{answered-refused, answered-done}
 use Rattle.wgsl.specs.Round.{limit}
-use Rattle.wgsl.specs.Call.{answerOf, contentsOf}
 use Rattle.paths.proofs.SetTarget.{stored-large, stored-narrow}
 use Rattle.paths.proofs.set.set_half.Statement.{statement}
 use Rattle.paths.proofs.set.set_half.Tie as tie
 
 returns : tie.Need-returns
-unfolding answerOf contentsOf
-returns c = (
-  λ s x. ap answerOf (sym (stored-large s _ _ _ x (omega arith))),
-  λ s x. ap (contentsOf _) (sym (stored-large s _ _ _ x (omega arith))),
-)
+returns c = λ s x. answered-refused _ (stored-large s _ _ _ x (omega arith))
 
 cast-t10 : tie.Need-cast-t10
 cast-t10 c = omega (arith, c .before .before .before .before .before .before .pre)
 
 returns-2 : tie.Need-returns-2
-unfolding answerOf contentsOf
-returns-2 c = (
-  λ s x. ap answerOf (sym (stored-narrow s _ _ _ x (omega arith))),
-  λ s x. c .before .before .store-u16 .ensures ∙ ap (contentsOf _) (sym (stored-narrow s _ _ _ x (omega arith))),
-)
+returns-2 c = λ s x. answered-done _ (stored-narrow s _ _ _ x (omega arith)) refl (c .before .before .store-u16 .ensures)
 
 pub set-half-spec : {M : Type 1} → statement M
 set-half-spec =

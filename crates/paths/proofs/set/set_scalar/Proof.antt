@@ -1,20 +1,16 @@
 -- One scalar or none, of two bytes or of four (proofs/SetTarget). Assumes nothing.
-use mathlib.Core.Path.{ap, sym, _∙_}
+use mathlib.Core.Path.{refl}
 use native.Mathlib.Omega.{arith}
 use borrow.Author.Needs.{needs}
+use Rattle.said.proofs.Answered.{answered-refused, answered-done, answered-same}
 use Rattle.wgsl.specs.Round.{limit}
-use Rattle.wgsl.specs.Call.{answerOf, contentsOf}
 use Rattle.paths.proofs.SetTarget.{set-none, one-scalar, set-one, narrow, wide, set-four}
 use Rattle.paths.proofs.Roomy.{room}
 use Rattle.paths.proofs.set.set_scalar.Statement.{statement}
 use Rattle.paths.proofs.set.set_scalar.Tie as tie
 
 returns : tie.Need-returns
-unfolding answerOf contentsOf
-returns c = (
-  λ u x. ap answerOf (sym (set-none x _ _ (omega arith))),
-  λ u x. ap (contentsOf _) (sym (set-none x _ _ (omega arith))),
-)
+returns c = λ u x. answered-refused _ (set-none x _ _ (omega arith))
 
 set-half-requires : tie.Need-set-half-requires
 set-half-requires c κs =
@@ -24,14 +20,10 @@ set-half-requires c κs =
 returns-2 : tie.Need-returns-2
 returns-2 c =
     let half = c .before .before in
-    let two = half .before .before .if2 .taken in (
-      λ u x.
-          let y = one-scalar x (omega arith) in
-          half .set-half .ensures .0 (y .scalar) (narrow y two) ∙ ap answerOf (sym (set-one y _ _)),
-      λ u x.
-          let y = one-scalar x (omega arith) in
-          half .set-half .ensures .1 (y .scalar) (narrow y two) ∙ ap (contentsOf _) (sym (set-one y _ _)),
-    )
+    let two = half .before .before .if2 .taken in
+    λ u x.
+    let y = one-scalar x (omega arith) in
+    answered-same _ (set-one y _ _) (half .set-half .ensures (y .scalar) (narrow y two))
 
 store-u32-requires : tie.Need-store-u32-requires
 store-u32-requires c κs =
@@ -44,14 +36,10 @@ cast-t11 c =
     omega (arith, room x, wide (one-scalar x (omega arith)) (λ e. omega (arith, e)) .1, x .within)
 
 returns-3 : tie.Need-returns-3
-unfolding answerOf contentsOf
 returns-3 c =
-    let store = c .before .before .before in (
-      λ u x. ap answerOf (sym (set-four (one-scalar x (omega arith)) _ _ (λ e. omega (arith, e)) (omega arith))),
-      λ u x.
-          store .store-u32 .ensures
-          ∙ ap (contentsOf _) (sym (set-four (one-scalar x (omega arith)) _ _ (λ e. omega (arith, e)) (omega arith))),
-    )
+    let store = c .before .before .before in
+    λ u x.
+    answered-done _ (set-four (one-scalar x (omega arith)) _ _ (λ e. omega (arith, e)) (omega arith)) refl (store .store-u32 .ensures)
 
 pub set-scalar-spec : {M : Type 1} → statement M
 set-scalar-spec =

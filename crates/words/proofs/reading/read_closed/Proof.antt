@@ -4,8 +4,7 @@ use mathlib.Core.Path.{ap, sym, _∙_}
 use native.Mathlib.Omega.{arith}
 use denote.Ref.{now}
 use lib.ListN.{length}
-use Rattle.wgsl.specs.Said.{good}
-use Rattle.wgsl.specs.Call.{answerOf, contentsOf}
+use Rattle.said.proofs.Answered.{answered-refused, answered-done}
 use Rattle.wgsl.proofs.Tail.{closed-extent}
 use Rattle.layout_values.specs.Value.{wordsIn}
 use Rattle.walk_decide.proofs.Whole.{ready-words, closed-whole}
@@ -27,21 +26,19 @@ there : (c : tie.Else2) →
 there c = rw (c .before .wide2 .ensures .0, c .before .before .words-of .ensures) at (c .if2 .left)
 
 returns : tie.Need-returns
-unfolding answerOf contentsOf
 returns c =
     let few = rw (c .before .wide .ensures .0) at (c .if1 .taken) in
-    (λ t r o. ap answerOf (sym (few-bytes r o _ _ few)), λ t r o. ap (contentsOf _) (sym (few-bytes r o _ _ few)))
+    λ t r o. answered-refused _ (few-bytes r o _ _ few)
 
 words-of-requires : tie.Need-words-of-requires
 words-of-requires c κs = c .before .before .before .before .before .pre .1 .counted
 
 returns-2 : tie.Need-returns-2
-unfolding answerOf contentsOf
 returns-2 c =
     let counted = c .before .before in
     let room = enough (counted .before) in
     let few = rw (c .before .wide2 .ensures .0, counted .words-of .ensures) at (c .if2 .taken) in
-    (λ t r o. ap answerOf (sym (few-words r o _ _ room few)), λ t r o. ap (contentsOf _) (sym (few-words r o _ _ room few)))
+    λ t r o. answered-refused _ (few-words r o _ _ room few)
 
 closed-rest-requires : tie.Need-closed-rest-requires
 closed-rest-requires c κs = c .before .before .before .before .before .before .before .before .pre .1 .counted
@@ -65,19 +62,14 @@ words-of-requires-2 c κs =
     tail .before .before .before .before .before .before .before .before .before .pre .1 .counted
 
 returns-3 : tie.Need-returns-3
-unfolding answerOf contentsOf
 returns-3 c =
     let load = c .before .before .before in
     let tail = load .before .before in
     let else2 = tail .before in
-    let room = enough (else2 .before .before .before) in (
-      λ t r o.
-          ap good (c .words-of2 .ensures ∙ sym (ready-words r))
-          ∙ ap answerOf (sym (all-read r o _ _ room (there else2))),
-      λ t r o.
-          load .load .ensures t 0 (rw (tail .closed-rest .ensures) (closed-whole r)) (omega (arith, ready-words r, there else2))
-          ∙ ap (contentsOf _) (sym (all-read r o _ _ room (there else2))),
-    )
+    let room = enough (else2 .before .before .before) in
+    λ t r o.
+    answered-done _ (all-read r o _ _ room (there else2)) (c .words-of2 .ensures ∙ sym (ready-words r))
+    (load .load .ensures t 0 (rw (tail .closed-rest .ensures) (closed-whole r)) (omega (arith, ready-words r, there else2)))
 
 pub read-closed-spec : {M : Type 1} → statement M
 read-closed-spec =

@@ -4,10 +4,9 @@ use mathlib.Core.Path.{_≡_, ap, sym, _∙_}
 use native.Mathlib.Omega.{arith}
 use denote.Ref.{now}
 use lib.ListN.{length}
+use Rattle.said.proofs.Answered.{answered-refused, answered-done}
 use Rattle.wgsl.specs.Types.{Ty}
-use Rattle.wgsl.specs.Said.{good}
 use Rattle.wgsl.specs.Place.{wordCount}
-use Rattle.wgsl.specs.Call.{answerOf, contentsOf}
 use Rattle.walk_decide.specs.Whole.{TailedBy, Whole}
 use Rattle.walk_decide.proofs.Whole.{open-whole}
 use Rattle.walk_decide.proofs.ReadyBounds.{words-few, tailed-words, elements-few}
@@ -43,11 +42,7 @@ add-count : tie.Need-add-count
 add-count c = omega (arith, few (c .before))
 
 returns : tie.Need-returns
-unfolding answerOf contentsOf
-returns c = (
-  λ t y. ap answerOf (sym (loaded-few _ t _ _ (rw (count (c .before .before) y) at (c .if1 .taken)))),
-  λ t y. ap (contentsOf _) (sym (loaded-few _ t _ _ (rw (count (c .before .before) y) at (c .if1 .taken)))),
-)
+returns c = λ t y. answered-refused _ (loaded-few _ t _ _ (rw (count (c .before .before) y) at (c .if1 .taken)))
 
 cast-open-rest : tie.Need-cast-open-rest
 cast-open-rest c =
@@ -68,18 +63,13 @@ cast-t15 : tie.Need-cast-t15
 cast-t15 c = omega (arith, few (c .before .before .before .before .before .before .before))
 
 returns-2 : tie.Need-returns-2
-unfolding answerOf contentsOf
 returns-2 c =
     let load = c .before .before in
     let else1 = load .before .before .before in
-    let wide = else1 .before .before in (
-      λ t y.
-          ap good (count wide y)
-          ∙ ap answerOf (sym (loaded-done _ t _ _ (rw (count wide y) at (else1 .if1 .left)))),
-      λ t y.
-          load .load .ensures t _ (tail (load .before .before) y) (rw (count wide y) at (else1 .if1 .left))
-          ∙ ap (contentsOf _) (sym (loaded-done _ t _ _ (rw (count wide y) at (else1 .if1 .left)))),
-    )
+    let wide = else1 .before .before in
+    λ t y.
+    answered-done _ (loaded-done _ t _ _ (rw (count wide y) at (else1 .if1 .left))) (count wide y)
+    (load .load .ensures t _ (tail (load .before .before) y) (rw (count wide y) at (else1 .if1 .left)))
 
 pub read-elements-spec : {M : Type 1} → statement M
 read-elements-spec =

@@ -7,8 +7,9 @@ use lib.ListN.{length}
 use Rattle.wgsl.specs.Types.{Ty, isOpen}
 use Rattle.wgsl.specs.Size.{isStorable}
 use Rattle.wgsl.specs.Said.{good, refused}
-use Rattle.wgsl.specs.Call.{answerOf, contentsOf, entryFor, readCall}
+use Rattle.wgsl.specs.Call.{entryFor, readCall}
 use Rattle.said.specs.Refusal.{numberOf, placeOf}
+use Rattle.said.proofs.Answered.{answered-refused, answered-same}
 use Rattle.walk_decide.specs.Meant.{Meant}
 use Rattle.walk_decide.proofs.EntryFor.{for-refused, for-stored}
 use Rattle.walk_decide.proofs.Meant.{entry-value, entry-well-formed}
@@ -53,14 +54,10 @@ returns : tie.Need-returns
 returns c =
     let read = c .before .before in
     let then1 = read .before .before in
-    let told = then1 .before .before .before in (
-      λ t x.
-          read .read-open .ensures .0 t (entry-tailed x (allowed told x .1) (opened (then1 .before) x ∙ then1 .if1 .taken))
-          ∙ ap answerOf (sym (read-allowed _ _ _ _ (allowed told x .0))),
-      λ t x.
-          read .read-open .ensures .1 t (entry-tailed x (allowed told x .1) (opened (then1 .before) x ∙ then1 .if1 .taken))
-          ∙ ap (contentsOf _) (sym (read-allowed _ _ _ _ (allowed told x .0))),
-    )
+    let told = then1 .before .before .before in
+    λ t x.
+    answered-same _ (read-allowed _ _ _ _ (allowed told x .0))
+    (read .read-open .ensures t (entry-tailed x (allowed told x .1) (opened (then1 .before) x ∙ then1 .if1 .taken)))
 
 read-closed-requires : tie.Need-read-closed-requires
 read-closed-requires c κs =
@@ -70,23 +67,18 @@ read-closed-requires c κs =
     (t, entry-ready x (allowed told x .1), opened (else1 .before) x ∙ else1 .if1 .left)
 
 returns-2 : tie.Need-returns-2
-unfolding answerOf contentsOf
 returns-2 c =
     let r = c .before in
-    (λ t x. ap answerOf (sym (stopped r x)), λ t x. ap (contentsOf _) (sym (stopped r x)))
+    λ t x. answered-refused _ (stopped r x)
 
 returns-3 : tie.Need-returns-3
 returns-3 c =
     let read = c .before .before in
     let else1 = read .before .before in
-    let told = else1 .before .before .before in (
-      λ t x.
-          read .read-closed .ensures .0 t (entry-ready x (allowed told x .1)) (opened (else1 .before) x ∙ else1 .if1 .left)
-          ∙ ap answerOf (sym (read-allowed _ _ _ _ (allowed told x .0))),
-      λ t x.
-          read .read-closed .ensures .1 t (entry-ready x (allowed told x .1)) (opened (else1 .before) x ∙ else1 .if1 .left)
-          ∙ ap (contentsOf _) (sym (read-allowed _ _ _ _ (allowed told x .0))),
-    )
+    let told = else1 .before .before .before in
+    λ t x.
+    answered-same _ (read-allowed _ _ _ _ (allowed told x .0))
+    (read .read-closed .ensures t (entry-ready x (allowed told x .1)) (opened (else1 .before) x ∙ else1 .if1 .left))
 
 pub read-entry-at-spec : {M : Type 1} → statement M
 read-entry-at-spec =

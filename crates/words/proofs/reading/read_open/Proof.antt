@@ -1,8 +1,8 @@
 -- By the elements that are found (proofs/ReadType). Assumes nothing.
 use mathlib.Core.Path.{ap, sym, _∙_}
 use denote.Ref.{now}
+use Rattle.said.proofs.Answered.{answered-refused, answered-same}
 use Rattle.wgsl.specs.Types.{Ty}
-use Rattle.wgsl.specs.Call.{answerOf, contentsOf}
 use Rattle.walk_decide.specs.Whole.{Tailed, TailedBy}
 use Rattle.walk_decide.proofs.ReadyBounds.{stride-above}
 use Rattle.words.proofs.ReadType.{no-elements, some-elements}
@@ -33,27 +33,20 @@ read-elements-requires c κs =
     (t, y, some-elements y (now (start .args .buf)) (now (start .args .words)) is .0, few)
 
 returns : tie.Need-returns
-unfolding answerOf contentsOf
 returns c =
     let found = c .before .before in
-    let no = sym (found .elements-in .ensures) ∙ c .enum-told .given .1 in (
-      λ t x. ap answerOf (sym (no-elements (by (found .before) x) _ _ no)),
-      λ t x. ap (contentsOf _) (sym (no-elements (by (found .before) x) _ _ no)),
-    )
+    let no = sym (found .elements-in .ensures) ∙ c .enum-told .given .1 in
+    λ t x. answered-refused _ (no-elements (by (found .before) x) _ _ no)
 
 returns-2 : tie.Need-returns-2
 returns-2 c =
     let read = c .before .before in
     let n = read .before .before .before in
     let found = n .before .before in
-    let is = sym (found .elements-in .ensures) ∙ n .n .given .1 in (
-      λ t x.
-          let y = by (found .before) x in
-          read .read-elements .ensures .0 t y ∙ ap answerOf (sym (some-elements y _ _ is .1)),
-      λ t x.
-          let y = by (found .before) x in
-          read .read-elements .ensures .1 t y ∙ ap (contentsOf _) (sym (some-elements y _ _ is .1)),
-    )
+    let is = sym (found .elements-in .ensures) ∙ n .n .given .1 in
+    λ t x.
+    let y = by (found .before) x in
+    answered-same _ (some-elements y _ _ is .1) (read .read-elements .ensures t y)
 
 pub read-open-spec : {M : Type 1} → statement M
 read-open-spec =

@@ -1,8 +1,8 @@
 -- The entry that `find` finds, or its refusal, or the trailer's (crates/walk_decide, proofs/Meant). Assumes nothing.
 use mathlib.Core.Path.{ap, sym}
 use denote.Ref.{now}
+use Rattle.said.proofs.Answered.{answered-refused}
 use Rattle.wgsl.specs.Types.{Ty}
-use Rattle.wgsl.specs.Call.{answerOf, contentsOf}
 use Rattle.walk_decide.specs.Meant.{Meant}
 use Rattle.walk_decide.proofs.Meant.{entry-found, entry-missing, trailer-refused}
 use Rattle.walk_decide.proofs.EntryFor.{for-missing}
@@ -29,27 +29,23 @@ write-entry-at-requires : tie.Need-write-entry-at-requires
 write-entry-at-requires c κs = found (c .before .before)
 
 returns : tie.Need-returns
-unfolding answerOf contentsOf
 returns c =
     let r = c .before in
     let refused = for-missing _ _ _ _ (trailer-refused _ _ (rw (r .r .given .1) at (r .before .before .check-trailer .ensures))) in
-    (ap answerOf (sym (write-refused _ _ _ _ refused)), ap (contentsOf _) (sym (write-refused _ _ _ _ refused)))
+    answered-refused _ (write-refused _ _ _ _ refused)
 
 returns-2 : tie.Need-returns-2
-unfolding answerOf contentsOf
 returns-2 c =
     let r = c .before in
     let refused = for-missing _ _ _ _ (entry-missing _ _ (rw (r .r2 .given .1) at (r .before .before .before .find .ensures))) in
-    (ap answerOf (sym (write-refused _ _ _ _ refused)), ap (contentsOf _) (sym (write-refused _ _ _ _ refused)))
+    answered-refused _ (write-refused _ _ _ _ refused)
 
 returns-3 : tie.Need-returns-3
 returns-3 c =
     let write = c .before .before in
     let wide = write .before .before .before in
-    let x = found wide in (
-      rw (wide .wide .ensures .0) at (write .write-entry-at .ensures .0 (x .0) (x .1)),
-      rw (wide .wide .ensures .0) at (write .write-entry-at .ensures .1 (x .0) (x .1)),
-    )
+    let x = found wide in
+    rw (wide .wide .ensures .0) at (write .write-entry-at .ensures (x .0) (x .1))
 
 pub write-spec : {M : Type 1} → statement M
 write-spec =

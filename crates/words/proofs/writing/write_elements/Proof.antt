@@ -4,9 +4,9 @@ use mathlib.Core.Path.{_≡_, ap, sym, _∙_}
 use native.Mathlib.Omega.{arith}
 use denote.Ref.{now}
 use lib.ListN.{length}
+use Rattle.said.proofs.Answered.{answered-refused, answered-same}
 use Rattle.wgsl.specs.Types.{Ty}
 use Rattle.wgsl.specs.Place.{extentOf}
-use Rattle.wgsl.specs.Call.{answerOf, contentsOf}
 use Rattle.walk_decide.specs.Whole.{TailedBy, Whole}
 use Rattle.walk_decide.proofs.Whole.{open-whole}
 use Rattle.walk_decide.proofs.ReadyBounds.{stride-above, elements-few}
@@ -61,24 +61,19 @@ write-whole-requires c κs =
     (t, start .args .n, tail tailed y, l, e .0, e .1)
 
 returns : tie.Need-returns
-unfolding answerOf contentsOf
 returns c =
     let no = sym (c .before .before .extent-for .ensures) ∙ c .enum-told .given .1 in
-    (λ t y l. ap answerOf (sym (no-room y _ _ _ no)), λ t y l. ap (contentsOf _) (sym (no-room y _ _ _ no)))
+    λ t y l. answered-refused _ (no-room y _ _ _ no)
 
 returns-2 : tie.Need-returns-2
 returns-2 c =
     let whole = c .before .before in
     let tailed = whole .before .before in
     let extent = tailed .before .before in
-    let is = sym (extent .before .before .extent-for .ensures) ∙ extent .extent .given .1 in (
-      λ t y l.
-          whole .write-whole .ensures .0 t _ (tail tailed y) l (ends extent y .0) (ends extent y .1)
-          ∙ ap answerOf (sym (room y _ _ _ is .2)),
-      λ t y l.
-          whole .write-whole .ensures .1 t _ (tail tailed y) l (ends extent y .0) (ends extent y .1)
-          ∙ ap (contentsOf _) (sym (room y _ _ _ is .2)),
-    )
+    let is = sym (extent .before .before .extent-for .ensures) ∙ extent .extent .given .1 in
+    λ t y l.
+    answered-same _ (room y _ _ _ is .2)
+    (whole .write-whole .ensures t _ (tail tailed y) l (ends extent y .0) (ends extent y .1))
 
 pub write-elements-spec : {M : Type 1} → statement M
 write-elements-spec =

@@ -7,8 +7,9 @@ use lib.ListN.{length}
 use Rattle.wgsl.specs.Types.{Ty, isOpen}
 use Rattle.wgsl.specs.Size.{isStorable}
 use Rattle.wgsl.specs.Said.{good, refused}
-use Rattle.wgsl.specs.Call.{answerOf, contentsOf, entryFor, writeCall}
+use Rattle.wgsl.specs.Call.{entryFor, writeCall}
 use Rattle.said.specs.Refusal.{numberOf, placeOf}
+use Rattle.said.proofs.Answered.{answered-refused, answered-same}
 use Rattle.walk_decide.specs.Meant.{Meant}
 use Rattle.walk_decide.proofs.EntryFor.{for-refused, for-stored}
 use Rattle.walk_decide.proofs.Meant.{entry-value, entry-well-formed}
@@ -53,14 +54,10 @@ returns : tie.Need-returns
 returns c =
     let write = c .before .before in
     let then1 = write .before .before in
-    let told = then1 .before .before .before in (
-      λ t x.
-          write .write-open .ensures .0 t (entry-tailed x (allowed told x .1) (opened (then1 .before) x ∙ then1 .if1 .taken))
-          ∙ ap answerOf (sym (write-allowed _ _ _ _ (allowed told x .0))),
-      λ t x.
-          write .write-open .ensures .1 t (entry-tailed x (allowed told x .1) (opened (then1 .before) x ∙ then1 .if1 .taken))
-          ∙ ap (contentsOf _) (sym (write-allowed _ _ _ _ (allowed told x .0))),
-    )
+    let told = then1 .before .before .before in
+    λ t x.
+    answered-same _ (write-allowed _ _ _ _ (allowed told x .0))
+    (write .write-open .ensures t (entry-tailed x (allowed told x .1) (opened (then1 .before) x ∙ then1 .if1 .taken)))
 
 write-closed-requires : tie.Need-write-closed-requires
 write-closed-requires c κs =
@@ -70,23 +67,18 @@ write-closed-requires c κs =
     (t, entry-ready x (allowed told x .1), opened (else1 .before) x ∙ else1 .if1 .left)
 
 returns-2 : tie.Need-returns-2
-unfolding answerOf contentsOf
 returns-2 c =
     let r = c .before in
-    (λ t x. ap answerOf (sym (stopped r x)), λ t x. ap (contentsOf _) (sym (stopped r x)))
+    λ t x. answered-refused _ (stopped r x)
 
 returns-3 : tie.Need-returns-3
 returns-3 c =
     let write = c .before .before in
     let else1 = write .before .before in
-    let told = else1 .before .before .before in (
-      λ t x.
-          write .write-closed .ensures .0 t (entry-ready x (allowed told x .1)) (opened (else1 .before) x ∙ else1 .if1 .left)
-          ∙ ap answerOf (sym (write-allowed _ _ _ _ (allowed told x .0))),
-      λ t x.
-          write .write-closed .ensures .1 t (entry-ready x (allowed told x .1)) (opened (else1 .before) x ∙ else1 .if1 .left)
-          ∙ ap (contentsOf _) (sym (write-allowed _ _ _ _ (allowed told x .0))),
-    )
+    let told = else1 .before .before .before in
+    λ t x.
+    answered-same _ (write-allowed _ _ _ _ (allowed told x .0))
+    (write .write-closed .ensures t (entry-ready x (allowed told x .1)) (opened (else1 .before) x ∙ else1 .if1 .left))
 
 pub write-entry-at-spec : {M : Type 1} → statement M
 write-entry-at-spec =

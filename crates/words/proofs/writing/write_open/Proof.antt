@@ -1,8 +1,8 @@
 -- By the elements that the words fill (proofs/WriteType).
 use mathlib.Core.Path.{ap, sym, _∙_}
 use denote.Ref.{now}
+use Rattle.said.proofs.Answered.{answered-refused, answered-same}
 use Rattle.wgsl.specs.Types.{Ty}
-use Rattle.wgsl.specs.Call.{answerOf, contentsOf}
 use Rattle.walk_decide.specs.Whole.{Tailed, TailedBy}
 use Rattle.walk_decide.proofs.ReadyBounds.{fixed-few}
 use Rattle.words.proofs.WriteType.{no-elements, some-elements}
@@ -35,13 +35,10 @@ write-elements-requires c κs =
     (t, y, few, some-elements y (now (start .args .words)) (now (start .args .buf)) is .0)
 
 returns : tie.Need-returns
-unfolding answerOf contentsOf
 returns c =
     let found = c .before .before in
-    let no = sym (found .elements-for .ensures) ∙ c .enum-told .given .1 in (
-      λ t x. ap answerOf (sym (no-elements (by (found .before) x) _ _ no)),
-      λ t x. ap (contentsOf _) (sym (no-elements (by (found .before) x) _ _ no)),
-    )
+    let no = sym (found .elements-for .ensures) ∙ c .enum-told .given .1 in
+    λ t x. answered-refused _ (no-elements (by (found .before) x) _ _ no)
 
 returns-2 : tie.Need-returns-2
 returns-2 c =
@@ -49,16 +46,11 @@ returns-2 c =
     let n = write .before .before .before in
     let found = n .before .before in
     let a = found .before .before .before .before .before .args in
-    let is = sym (found .elements-for .ensures) ∙ n .n .given .1 in (
-      λ t x.
-          let y = by (found .before) x in
-          let s = some-elements y (now (a .words)) (now (a .buf)) is in
-          write .write-elements .ensures .0 t y (s .0) ∙ ap answerOf (sym (s .2)),
-      λ t x.
-          let y = by (found .before) x in
-          let s = some-elements y (now (a .words)) (now (a .buf)) is in
-          write .write-elements .ensures .1 t y (s .0) ∙ ap (contentsOf _) (sym (s .2)),
-    )
+    let is = sym (found .elements-for .ensures) ∙ n .n .given .1 in
+    λ t x.
+    let y = by (found .before) x in
+    let s = some-elements y (now (a .words)) (now (a .buf)) is in
+    answered-same _ (s .2) (write .write-elements .ensures t y (s .0))
 
 pub write-open-spec : {M : Type 1} → statement M
 write-open-spec =

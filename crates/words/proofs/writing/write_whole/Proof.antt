@@ -1,8 +1,7 @@
 -- By what the scan says (crates/walk_decide, proofs/CallSteps).
 use mathlib.Core.Path.{ap, sym, _∙_}
 use native.Mathlib.Omega.{arith}
-use Rattle.wgsl.specs.Said.{good}
-use Rattle.wgsl.specs.Call.{answerOf, contentsOf}
+use Rattle.said.proofs.Answered.{answered-refused, answered-done}
 use Rattle.walk_decide.proofs.CallSteps.{stored-bad, stored-done}
 use borrow.Author.Needs.{needs}
 use Rattle.words.proofs.writing.write_whole.Statement.{statement}
@@ -16,29 +15,22 @@ store-requires c κs =
     (t, n, w, l, wide .wide .ensures .0 ∙ is, omega (arith, wide .wide .ensures .0, room))
 
 returns : tie.Need-returns
-unfolding answerOf contentsOf
 returns c =
     let r = c .before in
     let fit = r .before .before in
-    let bad = rw (r .r .given .1) at (fit .fit .ensures) in (
-      λ t n w l is room. ap answerOf (sym (stored-bad n t _ _ (bad ∙ fit .before .scan .ensures t n w l))),
-      λ t n w l is room. ap (contentsOf _) (sym (stored-bad n t _ _ (bad ∙ fit .before .scan .ensures t n w l))),
-    )
+    let bad = rw (r .r .given .1) at (fit .fit .ensures) in
+    λ t n w l is room. answered-refused _ (stored-bad n t _ _ (bad ∙ fit .before .scan .ensures t n w l))
 
 returns-2 : tie.Need-returns-2
-unfolding answerOf contentsOf
 returns-2 c =
     let store = c .before .before in
     let wide = store .before .before in
     let told = wide .before in
     let fit = told .before .before in
-    let fine = rw (told .enum-told .given .1) at (fit .fit .ensures) in (
-      λ t n w l is room.
-          ap good is ∙ ap answerOf (sym (stored-done n t _ _ (fine ∙ fit .before .scan .ensures t n w l))),
-      λ t n w l is room.
-          store .store .ensures t n w l (wide .wide .ensures .0 ∙ is) (omega (arith, wide .wide .ensures .0, room))
-          ∙ ap (contentsOf _) (sym (stored-done n t _ _ (fine ∙ fit .before .scan .ensures t n w l))),
-    )
+    let fine = rw (told .enum-told .given .1) at (fit .fit .ensures) in
+    λ t n w l is room.
+    answered-done _ (stored-done n t _ _ (fine ∙ fit .before .scan .ensures t n w l)) is
+    (store .store .ensures t n w l (wide .wide .ensures .0 ∙ is) (omega (arith, wide .wide .ensures .0, room)))
 
 pub write-whole-spec : {M : Type 1} → statement M
 write-whole-spec =

@@ -2,8 +2,8 @@
 use mathlib.Core.Path.{sym}
 use borrow.Author.Needs.{needs}
 use lib.Seq.{length-front, length-take-le}
-use Rattle.answers.proofs.answer_insert.Statement.{statement}
-use Rattle.answers.proofs.answer_insert.Tie as tie
+use Rattle.answers.proofs.question.answer_insert.Statement.{statement}
+use Rattle.answers.proofs.question.answer_insert.Tie as tie
 
 array-share-prefix-buffer : tie.Need-array-share-prefix-buffer
 array-share-prefix-buffer c =

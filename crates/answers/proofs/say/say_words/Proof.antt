@@ -2,8 +2,8 @@
 use Prim.Native.Nat.{_-_, _≤_}
 use native.Mathlib.Omega.{arith}
 use borrow.Author.Needs.{needs}
-use Rattle.answers.proofs.say_words.Statement.{statement}
-use Rattle.answers.proofs.say_words.Tie as tie
+use Rattle.answers.proofs.say.say_words.Statement.{statement}
+use Rattle.answers.proofs.say.say_words.Tie as tie
 
 abbrev Inv-loop : tie.InvT-loop
 Inv-loop words n i₀ t4 i = i ≤ n

@@ -1,0 +1,206 @@
+// A line of questions, answered by the public calls.
+use crate::lines::copy;
+use crate::lines::numbers;
+use crate::lines::same;
+use crate::say::say;
+use crate::say::say_bytes;
+use crate::say::say_layout;
+use crate::say::say_number;
+use crate::say::say_plain;
+use crate::say::say_walked;
+use crate::say::say_words;
+use lepugaso::align;
+use lepugaso::check;
+use lepugaso::common;
+use lepugaso::extract_bits;
+use lepugaso::extract_bits_u32;
+use lepugaso::insert_bits;
+use lepugaso::insert_bits_u32;
+use lepugaso::layout;
+use lepugaso::min_size;
+use lepugaso::rank;
+use lepugaso::read;
+use lepugaso::set;
+use lepugaso::size;
+use lepugaso::view;
+use lepugaso::view_at;
+use lepugaso::view_mut;
+use lepugaso::write;
+use said::answer::Number;
+ghost use Prim.Native.Nat.{_≤_};
+ghost use lib.ListN.{length};
+ghost use Rattle.answers.specs.Count.{Counted};
+
+// Writes words to a copy of the buffer, which stays as it is for other questions, and says what the copy holds then.
+fn answer_write(file: &[u8], entry: u32, words: &[u32], held: &[u8]) {
+    let mut buffer = io::buffer();
+    let p = copy(held, &mut buffer);
+    let n = p.count;
+    say_plain(write(file, entry, words, &mut buffer[..n]));
+    say_bytes(&buffer[..n]);
+    say(b"\n");
+}
+
+// Reads into the words of a question, the numbers after the entry's, and says what they are then.
+fn answer_read(file: &[u8], held: &[u8], ns: &mut [u32])
+    requires { ⌜ 1 ≤ length (now ns) ⌝ }
+{
+    let entry = ns[0];
+    say_plain(read(file, entry, held, &mut ns[1..]));
+    say_words(&ns[1..]);
+    say(b"\n");
+}
+
+// Whether `view_mut` hands back these bytes.
+fn same_part(file: &[u8], entry: u32, path: &[u32], part: &[u8], buffer: &mut [u8]) -> bool {
+    let got = view_mut(file, entry, path, buffer);
+    same(got, part)
+}
+
+// Whether `view_mut` hands back these bytes of a copy of the buffer, and leaves the copy as the buffer is.
+fn only_hands_back(
+    file: &[u8],
+    entry: u32,
+    path: &[u32],
+    part: &[u8],
+    held: &[u8],
+    copied: &mut [u8],
+) -> bool {
+    if !same_part(file, entry, path, part, copied) {
+        return false;
+    }
+    same(copied, held)
+}
+
+// Says where a path leads, and the bytes that a view hands back; and puts the question to `view_mut` on a copy of the buffer.
+fn answer_view(file: &[u8], entry: u32, path: &[u32], held: &[u8]) {
+    let mut buffer = io::buffer();
+    let p = copy(held, &mut buffer);
+    let n = p.count;
+    let part = view(file, entry, path, held);
+    say_walked(view_at(file, entry, path, held));
+    say_bytes(part);
+    if !only_hands_back(file, entry, path, part, held, &mut buffer[..n]) {
+        say(b" changed");
+    }
+    say(b"\n");
+}
+
+// Sets a scalar in a copy of the buffer, and says what the copy holds then.
+fn answer_set(file: &[u8], entry: u32, word: u32, path: &[u32], held: &[u8]) {
+    let mut buffer = io::buffer();
+    let p = copy(held, &mut buffer);
+    let n = p.count;
+    say_plain(set(file, entry, path, word, &mut buffer[..n]));
+    say_bytes(&buffer[..n]);
+    say(b"\n");
+}
+
+// Says the field of a scalar in the buffer.
+fn answer_extract(file: &[u8], entry: u32, offset: u32, count: u32, path: &[u32], held: &[u8]) {
+    say_number(extract_bits(file, entry, path, held, offset, count));
+}
+
+// Inserts a field of a scalar in a copy of the buffer, and says what the copy holds then.
+fn answer_insert(
+    file: &[u8],
+    entry: u32,
+    newbits: u32,
+    offset: u32,
+    count: u32,
+    path: &[u32],
+    held: &[u8],
+) {
+    let mut buffer = io::buffer();
+    let p = copy(held, &mut buffer);
+    let n = p.count;
+    say_plain(insert_bits(file, entry, path, newbits, offset, count, &mut buffer[..n]));
+    say_bytes(&buffer[..n]);
+    say(b"\n");
+}
+
+// The questions with one entry.
+fn answer_entry(file: &[u8], word: &[u8], entry: u32) {
+    if same(word, b"size") {
+        return say_number(size(file, entry));
+    }
+    if same(word, b"align") {
+        return say_number(align(file, entry));
+    }
+    if same(word, b"min_size") {
+        return say_number(min_size(file, entry));
+    }
+    if same(word, b"layout") {
+        return say_layout(layout(file, entry));
+    }
+    say(b"not a question\n");
+}
+
+fn answer(file: &[u8], word: &[u8], ns: &[u32]) {
+    if same(word, b"common") {
+        return say_number(common(file, ns));
+    }
+    if ns.len() == 0 {
+        if same(word, b"check") {
+            return say_number(check(file));
+        }
+    }
+    if ns.len() == 1 {
+        return answer_entry(file, word, ns[0]);
+    }
+    if ns.len() == 2 {
+        if same(word, b"rank") {
+            return say_number(rank(file, ns[0], ns[1]));
+        }
+    }
+    if ns.len() == 3 {
+        if same(word, b"extract_u32") {
+            return say_number(Number::Is(extract_bits_u32(ns[0], ns[1], ns[2])));
+        }
+    }
+    if ns.len() == 4 {
+        if same(word, b"insert_u32") {
+            return say_number(Number::Is(insert_bits_u32(ns[0], ns[1], ns[2], ns[3])));
+        }
+    }
+    say(b"not a question\n");
+}
+
+// Answers the line whose word ends before `word`, about a file and a buffer.
+pub fn answer_line(file: &[u8], held: &[u8], line: &[u8], word: usize)
+    requires { ⌜ Counted word (now line) ⌝ }
+{
+    let mut ns = [0u32; 1024];
+    let p = numbers(line, word, &mut ns);
+    let n = p.count;
+    if !p.good {
+        return say(b"not a question\n");
+    }
+    if 0 < n {
+        if same(&line[..word], b"write") {
+            return answer_write(file, ns[0], &ns[1..n], held);
+        }
+        if same(&line[..word], b"read") {
+            return answer_read(file, held, &mut ns[..n]);
+        }
+        if same(&line[..word], b"view") {
+            return answer_view(file, ns[0], &ns[1..n], held);
+        }
+    }
+    if 1 < n {
+        if same(&line[..word], b"set") {
+            return answer_set(file, ns[0], ns[1], &ns[2..n], held);
+        }
+    }
+    if 2 < n {
+        if same(&line[..word], b"extract") {
+            return answer_extract(file, ns[0], ns[1], ns[2], &ns[3..n], held);
+        }
+    }
+    if 3 < n {
+        if same(&line[..word], b"insert") {
+            return answer_insert(file, ns[0], ns[1], ns[2], ns[3], &ns[4..n], held);
+        }
+    }
+    answer(file, &line[..word], &ns[..n]);
+}
