@@ -24,6 +24,13 @@ pub struct Slot {
     pub words: usize,
 }
 
+// Structs of an array: `count` of them, of `unit` words each, a `stride` from one to the next.
+pub struct Series {
+    pub count: usize,
+    pub unit: usize,
+    pub stride: usize,
+}
+
 // The width of a type's words, where they fill its size, one after the other; else 0.
 pub fn packed(l: Value) -> u32
     requires { ⌜ Counted l ⌝ }

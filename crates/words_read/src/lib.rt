@@ -7,6 +7,7 @@ use numbers::wide::wide;
 use runs::Parts;
 use runs::read_few;
 use runs::read_parts;
+use walk_trees::Series;
 use walk_trees::Slot;
 use walk_trees::packed;
 use walk_trees::part_width;
@@ -72,18 +73,12 @@ pub fn read_many(
     let element = wide(r.reference);
     let below = value_at(table, element);
     if below.kind == STRUCT {
-        read_structs(
-            members,
-            table,
-            element,
+        let p = Series {
             count,
             unit,
             stride,
-            at,
-            buf,
-            k,
-            words,
-        );
+        };
+        read_structs(members, table, element, p, at, buf, k, words);
         return;
     }
     let mut i: usize = 0;
@@ -101,25 +96,31 @@ pub fn read_many(
     }
 }
 
-// Reads structs of `unit` words, `count` of them, each a `stride` after the one before.
+// Reads the structs of `p`, each by its members.
 fn read_structs(
     members: &[u8],
     table: &[Row],
     e: usize,
-    count: usize,
-    unit: usize,
-    stride: usize,
+    p: Series,
     at: usize,
     buf: &[u8],
     k: usize,
     words: &mut [u32],
 )
-    requires { ⌜ ((y : Shape) × Tree (now members) (now table) e y × (valueAt (now table) e .kind ≡ structKind) × EachRoom y count unit stride at (length (now buf)) k (length (now words))) ⌝ }
-    ensures { λ _. ⌜ ((y : Shape) → Tree (now (members .entry)) (now (table .entry)) e y → Loads (now (buf .entry)) (placesOf (parts count stride y) at) k (now (words .entry)) (now (words .exit))) ⌝ }
+    requires { ⌜ ((y : Shape) × Tree (now members) (now table) e y × (valueAt (now table) e .kind ≡ structKind) × EachRoom y (p .count) (p .unit) (p .stride) at (length (now buf)) k (length (now words))) ⌝ }
+    ensures { λ _. ⌜ ((y : Shape) → Tree (now (members .entry)) (now (table .entry)) e y → Loads (now (buf .entry)) (placesOf (parts (p .count) (p .stride) y) at) k (now (words .entry)) (now (words .exit))) ⌝ }
 {
     let mut i: usize = 0;
-    while i < count {
-        read_struct(members, table, e, at + i * stride, buf, k + i * unit, words);
+    while i < p.count {
+        read_struct(
+            members,
+            table,
+            e,
+            at + i * p.stride,
+            buf,
+            k + i * p.unit,
+            words,
+        );
         i += 1;
     }
 }

@@ -3,6 +3,7 @@ use layout_values::value::Row;
 use layout_values::value::value_at;
 use numbers::wide::wide;
 use runs::write_few;
+use walk_trees::Series;
 use walk_trees::packed;
 use walk_trees::slot_after;
 ghost use mathlib.Core.Path.{_≡_};
@@ -78,24 +79,22 @@ fn write_spots(spots: &[usize], count: usize, at: usize, words: &[u32], k: usize
     }
 }
 
-// Writes structs of `few` spots and `unit` words, `count` of them, each a `stride` after the one before.
+// Writes the structs of `p`, of `few` spots each.
 pub fn write_each(
     spots: &[usize],
     few: usize,
-    count: usize,
-    unit: usize,
-    stride: usize,
+    p: Series,
     at: usize,
     words: &[u32],
     k: usize,
     buf: &mut [u8],
 )
-    requires { ⌜ EachFits few (now spots) count unit stride at (length (now buf)) k (length (now words)) ⌝ }
-    ensures { λ _. ⌜ Stores (now (words .entry)) (repeated count stride (λ p. spotPlaces few (now (spots .entry)) 0 p) at) k (now (buf .entry)) (now (buf .exit)) ⌝ }
+    requires { ⌜ EachFits few (now spots) (p .count) (p .unit) (p .stride) at (length (now buf)) k (length (now words)) ⌝ }
+    ensures { λ _. ⌜ Stores (now (words .entry)) (repeated (p .count) (p .stride) (λ q. spotPlaces few (now (spots .entry)) 0 q) at) k (now (buf .entry)) (now (buf .exit)) ⌝ }
 {
     let mut i: usize = 0;
-    while i < count {
-        write_spots(spots, few, at + i * stride, words, k + i * unit, buf);
+    while i < p.count {
+        write_spots(spots, few, at + i * p.stride, words, k + i * p.unit, buf);
         i += 1;
     }
 }

@@ -3,11 +3,11 @@ use file::kinds::STRUCT;
 use layout_values::value::Row;
 use layout_values::value::Value;
 use layout_values::value::value_at;
-use layout_values::value::words_of;
 use numbers::wide::wide;
 use runs::Parts;
 use runs::write_few;
 use runs::write_parts;
+use walk_trees::Series;
 use walk_trees::Slot;
 use walk_trees::packed;
 use walk_trees::part_width;
@@ -40,18 +40,7 @@ pub fn write_entry(
 {
     let r = value_at(table, e);
     if r.kind == STRUCT {
-        write_structs(
-            members,
-            table,
-            e,
-            1,
-            wide(words_of(r)),
-            0,
-            at,
-            words,
-            k,
-            buf,
-        );
+        write_struct(members, table, e, at, words, k, buf);
         return;
     }
     write_many(members, table, r, at, words, k, buf);
@@ -87,18 +76,12 @@ pub fn write_many(
     let element = wide(r.reference);
     let below = value_at(table, element);
     if below.kind == STRUCT {
-        write_structs(
-            members,
-            table,
-            element,
+        let p = Series {
             count,
             unit,
             stride,
-            at,
-            words,
-            k,
-            buf,
-        );
+        };
+        write_structs(members, table, element, p, at, words, k, buf);
         return;
     }
     let mut i: usize = 0;
@@ -116,31 +99,37 @@ pub fn write_many(
     }
 }
 
-// Writes structs of `unit` words, `count` of them, each a `stride` after the one before. Small ones by their spots.
+// Writes the structs of `p`: small ones by their spots, others each by its members.
 fn write_structs(
     members: &[u8],
     table: &[Row],
     e: usize,
-    count: usize,
-    unit: usize,
-    stride: usize,
+    p: Series,
     at: usize,
     words: &[u32],
     k: usize,
     buf: &mut [u8],
 )
-    requires { ⌜ ((y : Shape) × Tree (now members) (now table) e y × (valueAt (now table) e .kind ≡ structKind) × EachRoom y count unit stride at (length (now buf)) k (length (now words))) ⌝ }
-    ensures { λ _. ⌜ ((y : Shape) → Tree (now (members .entry)) (now (table .entry)) e y → Stores (now (words .entry)) (placesOf (parts count stride y) at) k (now (buf .entry)) (now (buf .exit))) ⌝ }
+    requires { ⌜ ((y : Shape) × Tree (now members) (now table) e y × (valueAt (now table) e .kind ≡ structKind) × EachRoom y (p .count) (p .unit) (p .stride) at (length (now buf)) k (length (now words))) ⌝ }
+    ensures { λ _. ⌜ ((y : Shape) → Tree (now (members .entry)) (now (table .entry)) e y → Stores (now (words .entry)) (placesOf (parts (p .count) (p .stride) y) at) k (now (buf .entry)) (now (buf .exit))) ⌝ }
 {
     let mut spots = no_spots();
-    let few = spots_of(members, table, e, count, &mut spots);
+    let few = spots_of(members, table, e, p.count, &mut spots);
     if 0 < few {
-        write_each(&spots, few, count, unit, stride, at, words, k, buf);
+        write_each(&spots, few, p, at, words, k, buf);
         return;
     }
     let mut i: usize = 0;
-    while i < count {
-        write_struct(members, table, e, at + i * stride, words, k + i * unit, buf);
+    while i < p.count {
+        write_struct(
+            members,
+            table,
+            e,
+            at + i * p.stride,
+            words,
+            k + i * p.unit,
+            buf,
+        );
         i += 1;
     }
 }

@@ -217,7 +217,7 @@ module _ (t : ℕ) where
       )
 
   read-many-same-length-2 : read-many-lts.Need-same-length-2 (read-many-calls t) (read-many-at t) read-many.Post read-many-Inv-loop read-many-μ-loop
-  read-many-same-length-2 c = c .before .before .read-structs .kept .1 .1 .1 .1 .1 .1 .1 .1 .1 .0
+  read-many-same-length-2 c = c .before .before .read-structs .kept .1 .1 .1 .1 .1 .1 .1 .0
 
   read-many-returns-2 : read-many-lts.Need-returns-2 (read-many-calls t) (read-many-at t) read-many.Post read-many-Inv-loop read-many-μ-loop
   read-many-returns-2 c =
@@ -466,11 +466,11 @@ module _ (t : ℕ) where
 -- ---- read_structs
 
 abbrev read-structs-Inv-loop : read-structs-lts.InvT-loop
-read-structs-Inv-loop members table e count unit stride at buf k words₀ i₀ words i =
-    Turn (loading buf) members table e count unit stride at k words₀ i words × (length words ≡ length words₀)
+read-structs-Inv-loop members table e p at buf k words₀ i₀ words i =
+    Turn (loading buf) members table e (p .count) (p .unit) (p .stride) at k words₀ i words × (length words ≡ length words₀)
 
 abbrev read-structs-μ-loop : read-structs-lts.MeasureT-loop
-read-structs-μ-loop members table e count unit stride at buf k words₀ i₀ words i = count - i
+read-structs-μ-loop members table e p at buf k words₀ i₀ words i = p .count - i
 
 abbrev read-structs-calls : ℕ → read-structs-lts.Claims
 read-structs-calls t = (read-struct-below t, read-struct.Post)
@@ -481,65 +481,68 @@ module _ (t : ℕ) where
 
   read-structs-mul-read-struct : read-structs-lts.Need-mul-read-struct (read-structs-calls t) (read-structs-at t) read-structs.Post read-structs-Inv-loop read-structs-μ-loop
   read-structs-mul-read-struct c =
-      let start = c .before .before .before .before .before in
-      let turn = each-room (start .pre .1 .3) (c .loop-test .taken) in
-      omega (arith, turn .bytes-there, start .good .1 .1 .1 .1 .1 .1 .1 .0 .0)
+      let then1 = c .before in
+      let start = then1 .before .before .before .before .before .before in
+      let turn = each-room (start .pre .1 .3) (then1 .if1 .taken) in
+      omega (arith, turn .bytes-there, start .good .1 .1 .1 .1 .1 .0 .0)
 
   read-structs-add-read-struct : read-structs-lts.Need-add-read-struct (read-structs-calls t) (read-structs-at t) read-structs.Post read-structs-Inv-loop read-structs-μ-loop
   read-structs-add-read-struct c =
-      let start = c .before .before .before .before .before in
-      let turn = each-room (start .pre .1 .3) (c .loop-test .taken) in
-      omega (arith, turn .bytes-there, start .good .1 .1 .1 .1 .1 .1 .1 .0 .0)
+      let then1 = c .before in
+      let start = then1 .before .before .before .before .before .before in
+      let turn = each-room (start .pre .1 .3) (then1 .if1 .taken) in
+      omega (arith, turn .bytes-there, start .good .1 .1 .1 .1 .1 .0 .0)
 
   read-structs-mul-read-struct-2 : read-structs-lts.Need-mul-read-struct-2 (read-structs-calls t) (read-structs-at t) read-structs.Post read-structs-Inv-loop read-structs-μ-loop
   read-structs-mul-read-struct-2 c =
-      let start = c .before .before .before .before .before in
-      let turn = each-room (start .pre .1 .3) (c .loop-test .taken) in
-      omega (arith, turn .words-there, start .good .1 .1 .1 .1 .1 .1 .1 .1 .1 .0 .0)
+      let then1 = c .before .before in
+      let start = then1 .before .before .before .before .before .before in
+      let turn = each-room (start .pre .1 .3) (then1 .if1 .taken) in
+      omega (arith, turn .words-there, start .good .1 .1 .1 .1 .1 .1 .1 .0 .0)
 
   read-structs-add-read-struct-2 : read-structs-lts.Need-add-read-struct-2 (read-structs-calls t) (read-structs-at t) read-structs.Post read-structs-Inv-loop read-structs-μ-loop
   read-structs-add-read-struct-2 c =
-      let start = c .before .before .before .before .before in
-      let turn = each-room (start .pre .1 .3) (c .loop-test .taken) in
-      omega (arith, turn .words-there, start .good .1 .1 .1 .1 .1 .1 .1 .1 .1 .0 .0)
+      let then1 = c .before .before in
+      let start = then1 .before .before .before .before .before .before in
+      let turn = each-room (start .pre .1 .3) (then1 .if1 .taken) in
+      omega (arith, turn .words-there, start .good .1 .1 .1 .1 .1 .1 .1 .0 .0)
 
   read-structs-read-struct-requires : read-structs-lts.Need-read-struct-requires (read-structs-calls t) (read-structs-at t) read-structs.Post read-structs-Inv-loop read-structs-μ-loop
   read-structs-read-struct-requires c κs =
-      let in-loop = c .before in
-      let at-loop = in-loop .before in
+      let then1 = c .before .before .before in
+      let at-loop = then1 .before .before in
       let start = at-loop .before .before .before .before in
-      let turn = each-room (start .pre .1 .3) (in-loop .loop-test .taken) in (
+      let turn = each-room (start .pre .1 .3) (then1 .if1 .taken) in (
         omega (arith, start .pre .0),
         (start .pre .1 .0, start .pre .1 .1, start .pre .1 .2, rw (at-loop .loop .inv .1) turn),
       )
 
   read-structs-add-i : read-structs-lts.Need-add-i (read-structs-calls t) (read-structs-at t) read-structs.Post read-structs-Inv-loop read-structs-μ-loop
   read-structs-add-i c =
-      let in-loop = c .before .before .before .before in
-      let start = in-loop .before .before .before .before .before in
-      omega (arith, in-loop .loop-test .taken, start .fits .count)
+      let then1 = c .before .before .before .before .before .before in
+      omega (arith, then1 .if1 .taken, then1 .before .struct-known .given)
 
   read-structs-loop-less : read-structs-lts.Need-loop-less (read-structs-calls t) (read-structs-at t) read-structs.Post read-structs-Inv-loop read-structs-μ-loop
-  read-structs-loop-less c = omega (arith, c .before .before .before .before .loop-test .taken)
+  read-structs-loop-less c = omega (arith, c .before .before .before .before .before .before .if1 .taken)
 
   read-structs-loop-again : read-structs-lts.Need-loop-again (read-structs-calls t) (read-structs-at t) read-structs.Post read-structs-Inv-loop read-structs-μ-loop
   read-structs-loop-again c =
       let after-read-struct = c .before .before in
-      let in-loop = after-read-struct .before .before in
-      let at-loop = in-loop .before in
+      let then1 = after-read-struct .before .before .before .before in
+      let at-loop = then1 .before .before in
       let start = at-loop .before .before .before .before in
       let call = after-read-struct .read-struct in (
-        turn-next (at-loop .loop .inv .0) (start .pre .1 .1) (start .pre .1 .3 .unit-is) (in-loop .loop-test .taken) (call .ensures),
+        turn-next (at-loop .loop .inv .0) (start .pre .1 .1) (start .pre .1 .3 .unit-is) (then1 .if1 .taken) (call .ensures),
         call .kept .1 .1 .1 .1 .1 .1 .0 ∙ at-loop .loop .inv .1,
       )
 
   read-structs-same-length : read-structs-lts.Need-same-length (read-structs-calls t) (read-structs-at t) read-structs.Post read-structs-Inv-loop read-structs-μ-loop
-  read-structs-same-length c = c .before .loop .inv .1
+  read-structs-same-length c = c .before .before .loop .inv .1
 
   read-structs-returns : read-structs-lts.Need-returns (read-structs-calls t) (read-structs-at t) read-structs.Post read-structs-Inv-loop read-structs-μ-loop
   read-structs-returns c =
-      let at-loop = c .before in
-      turn-none (at-loop .loop .inv .0) (c .loop-test .left)
+      let at-loop = c .before .before in
+      turn-none (at-loop .loop .inv .0) (c .if1 .left)
 
 pub +read-entry+read-many+read-member+read-struct+read-structs-spec : {M : Type 1} → statement M
 +read-entry+read-many+read-member+read-struct+read-structs-spec =

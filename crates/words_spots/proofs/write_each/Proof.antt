@@ -15,45 +15,67 @@ use Rattle.words_spots.proofs.write_each.Statement.{statement}
 use Rattle.words_spots.proofs.write_each.Tie as tie
 
 abbrev Inv-loop : tie.InvT-loop
-Inv-loop spots few count unit stride at words k buf₀ i₀ buf i =
-    (overPlaces (storing words) (repeated (count - i) stride (λ p. spotPlaces few spots 0 p) (at + i * stride)) (k + i * unit) buf
-    ≡ overPlaces (storing words) (repeated count stride (λ p. spotPlaces few spots 0 p) at) k buf₀)
-    × (i ≤ count) × (length buf ≡ length buf₀)
+Inv-loop spots few p at words k buf₀ i₀ buf i =
+    (overPlaces (storing words) (repeated (p .count - i) (p .stride) (λ q. spotPlaces few spots 0 q) (at + i * p .stride)) (k + i * p .unit) buf
+    ≡ overPlaces (storing words) (repeated (p .count) (p .stride) (λ q. spotPlaces few spots 0 q) at) k buf₀)
+    × (i ≤ p .count) × (length buf ≡ length buf₀)
 
 abbrev μ-loop : tie.MeasureT-loop
-μ-loop spots few count unit stride at words k buf₀ i₀ buf i = count - i
+μ-loop spots few p at words k buf₀ i₀ buf i = p .count - i
 
 loop-holds : tie.Need-loop-holds Inv-loop μ-loop
 loop-holds c = (over-all _ _ _ _ _ _ _ _, omega arith, refl)
 
 mul-write-spots : tie.Need-mul-write-spots Inv-loop μ-loop
-mul-write-spots c = let room = c .before .before .before .before .before .pre .bytes-there (c .before .loop .i) (c .loop-test .taken) in omega arith
+mul-write-spots c =
+    let then1 = c .before in
+    let at-loop = then1 .before .before in
+    let s = at-loop .before .before .before .before in
+    let room = s .pre .bytes-there (at-loop .loop .i) (then1 .if1 .taken) in
+    omega arith
 
 add-write-spots : tie.Need-add-write-spots Inv-loop μ-loop
-add-write-spots c = let room = c .before .before .before .before .before .pre .bytes-there (c .before .loop .i) (c .loop-test .taken) in omega arith
+add-write-spots c =
+    let then1 = c .before in
+    let at-loop = then1 .before .before in
+    let s = at-loop .before .before .before .before in
+    let room = s .pre .bytes-there (at-loop .loop .i) (then1 .if1 .taken) in
+    omega arith
 
 mul-write-spots-2 : tie.Need-mul-write-spots-2 Inv-loop μ-loop
-mul-write-spots-2 c = let room = c .before .before .before .before .before .pre .words-there (c .before .loop .i) (c .loop-test .taken) in omega arith
+mul-write-spots-2 c =
+    let then1 = c .before .before in
+    let at-loop = then1 .before .before in
+    let s = at-loop .before .before .before .before in
+    let room = s .pre .words-there (at-loop .loop .i) (then1 .if1 .taken) in
+    omega arith
 
 add-write-spots-2 : tie.Need-add-write-spots-2 Inv-loop μ-loop
-add-write-spots-2 c = let room = c .before .before .before .before .before .pre .words-there (c .before .loop .i) (c .loop-test .taken) in omega arith
+add-write-spots-2 c =
+    let then1 = c .before .before in
+    let at-loop = then1 .before .before in
+    let s = at-loop .before .before .before .before in
+    let room = s .pre .words-there (at-loop .loop .i) (then1 .if1 .taken) in
+    omega arith
 
 write-spots-requires : tie.Need-write-spots-requires Inv-loop μ-loop
 write-spots-requires c κs =
-    let in-loop = c .before in
-    let l = in-loop .before .loop in
-    let s = in-loop .before .before .before .before .before in
-    (rw (l .inv .2) (s .pre .fits (l .i) (in-loop .loop-test .taken)), s .pre .long)
+    let then1 = c .before .before .before in
+    let at-loop = then1 .before .before in
+    let s = at-loop .before .before .before .before in
+    (rw (at-loop .loop .inv .2) (s .pre .fits (at-loop .loop .i) (then1 .if1 .taken)), s .pre .long)
 
 loop-again : tie.Need-loop-again Inv-loop μ-loop
 loop-again c =
     let call = c .before .before .write-spots in
-    let in-loop = c .before .before .before .before in
-    let l = in-loop .before .loop in
-    let s = in-loop .before .before .before .before .before in
+    let then1 = c .before .before .before .before .before .before in
+    let at-loop = then1 .before .before in
+    let l = at-loop .loop in
+    let s = at-loop .before .before .before .before in
     let a = s .args in
-    let g : ℕ → List Place = λ p. spotPlaces (a .few) (now (a .spots)) 0 p in
-    let next = over-next (storing (now (a .words))) g (a .count) (a .stride) (a .unit) (a .at) (a .k) (l .buf) (l .i) (s .pre .unit-is) (in-loop .loop-test .taken) in (
+    let p = a .p in
+    let g : ℕ → List Place = λ q. spotPlaces (a .few) (now (a .spots)) 0 q in
+    let next = over-next (storing (now (a .words))) g (p .count) (p .stride) (p .unit) (a .at) (a .k) (l .buf) (l .i) (s .pre .unit-is) (then1 .if1 .taken) in (
       rw (call .ensures) (next ∙ l .inv .0),
       omega arith,
       call .kept .1 .1 .1 .1 .1 .0 ∙ l .inv .2,
@@ -61,10 +83,12 @@ loop-again c =
 
 returns : tie.Need-returns Inv-loop μ-loop
 returns c =
-    let l = c .before .loop in
-    let a = c .before .before .before .before .before .args in
-    sym (over-none (storing (now (a .words))) (λ p. spotPlaces (a .few) (now (a .spots)) 0 p) (a .count)
-    (a .stride) (a .at + l .i * a .stride) (a .k + l .i * a .unit) (l .buf) (l .i) (omega arith)) ∙ l .inv .0
+    let at-loop = c .before .before in
+    let l = at-loop .loop in
+    let a = at-loop .before .before .before .before .args in
+    let p = a .p in
+    sym (over-none (storing (now (a .words))) (λ q. spotPlaces (a .few) (now (a .spots)) 0 q) (p .count)
+    (p .stride) (a .at + l .i * p .stride) (a .k + l .i * p .unit) (l .buf) (l .i) (omega arith)) ∙ l .inv .0
 
 pub write-each-spec : {M : Type 1} → statement M
 write-each-spec =
