@@ -1,7 +1,8 @@
 -- That the table and the member entries of a file describe a shape (crates/wgsl, specs/Place), and that there is room for its words: what
 -- the walks over words ask.
 --
--- In order: words of four bytes; parts that are runs; parts that are entries; members; entries; room.
+-- In order: words of four bytes; parts that are runs; parts that are entries; members; entries; room; what a function over one member
+-- promises.
 -- Definitions only. Assumes nothing.
 use Prim.Native.Nat.{ℕ, zero, suc, _+_, _*_, _<_, _≤_}
 use mathlib.Core.Path.{_≡_}
@@ -103,3 +104,10 @@ pub record MemberRoom (ms : List ℕ) (table : List (List ℕ)) (m end : ℕ) (y
 -- the words of the shape x from word k on are there
 pub record WordRoom (x : Shape) (k words : ℕ) : Type 0 where
   pub words-there : k + shapeWords x ≤ words
+
+-- ---- what a function over one member promises
+
+-- P of the places of the member at m, of a struct from byte `at` on, where the one before it ended at `end`
+abbrev pub OfMember : List ℕ → List (List ℕ) → ℕ → ℕ → ℕ → (List Place → Type 0) → Type 0
+OfMember ms table m end at P =
+    (y : Shape) → Tree ms table (slotAt ms table m end .ty) y → P (placesOf y (at + slotAt ms table m end .start))

@@ -20,7 +20,7 @@ ghost use Rattle.wgsl.specs.Types.{structKind};
 ghost use Rattle.runs.specs.Fold.{Loads};
 ghost use Rattle.layout_values.specs.Value.{valueAt};
 ghost use Rattle.walk_trees.specs.Slot.{slotAt};
-ghost use Rattle.walk_trees.specs.Tree.{Many, Tree, Room, EachRoom, MemberRoom};
+ghost use Rattle.walk_trees.specs.Tree.{Many, Tree, Room, EachRoom, MemberRoom, OfMember};
 
 // Reads entry `e`, which begins at byte `at`, into the words from `k` on.
 pub fn read_entry(
@@ -166,7 +166,7 @@ fn read_member(
 ) -> Slot
     requires { ⌜ ((y : Shape) × MemberRoom (now members) (now table) m end y at (length (now buf)) k (length (now words))) ⌝ }
     ensures placed { λ r. ⌜ r ≡ slotAt (now (members .entry)) (now (table .entry)) m end ⌝ }
-    ensures filled { λ _. ⌜ ((y : Shape) → Tree (now (members .entry)) (now (table .entry)) (slotAt (now (members .entry)) (now (table .entry)) m end .ty) y → Loads (now (buf .entry)) (placesOf y (at + slotAt (now (members .entry)) (now (table .entry)) m end .start)) k (now (words .entry)) (now (words .exit))) ⌝ }
+    ensures filled { λ _. ⌜ OfMember (now (members .entry)) (now (table .entry)) m end at (λ ps. Loads (now (buf .entry)) ps k (now (words .entry)) (now (words .exit))) ⌝ }
 {
     let p = slot_after(members, table, m, end);
     let r = value_at(table, p.ty);

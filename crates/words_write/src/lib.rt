@@ -23,7 +23,7 @@ ghost use Rattle.wgsl.specs.Types.{structKind};
 ghost use Rattle.runs.specs.Fold.{Stores};
 ghost use Rattle.layout_values.specs.Value.{valueAt};
 ghost use Rattle.walk_trees.specs.Slot.{slotAt};
-ghost use Rattle.walk_trees.specs.Tree.{Many, Tree, Room, EachRoom, MemberRoom};
+ghost use Rattle.walk_trees.specs.Tree.{Many, Tree, Room, EachRoom, MemberRoom, OfMember};
 
 // Writes entry `e`, which begins at byte `at`, from word `k` on.
 pub fn write_entry(
@@ -175,7 +175,7 @@ fn write_member(
 ) -> Slot
     requires { ⌜ ((y : Shape) × MemberRoom (now members) (now table) m end y at (length (now buf)) k (length (now words))) ⌝ }
     ensures placed { λ r. ⌜ r ≡ slotAt (now (members .entry)) (now (table .entry)) m end ⌝ }
-    ensures written { λ _. ⌜ ((y : Shape) → Tree (now (members .entry)) (now (table .entry)) (slotAt (now (members .entry)) (now (table .entry)) m end .ty) y → Stores (now (words .entry)) (placesOf y (at + slotAt (now (members .entry)) (now (table .entry)) m end .start)) k (now (buf .entry)) (now (buf .exit))) ⌝ }
+    ensures written { λ _. ⌜ OfMember (now (members .entry)) (now (table .entry)) m end at (λ ps. Stores (now (words .entry)) ps k (now (buf .entry)) (now (buf .exit))) ⌝ }
 {
     let p = slot_after(members, table, m, end);
     let r = value_at(table, p.ty);
