@@ -3,6 +3,7 @@ use file::kinds::STRUCT;
 use layout_values::value::Row;
 use layout_values::value::Value;
 use layout_values::value::value_at;
+use layout_values::value::words_of;
 use numbers::wide::wide;
 use runs::Parts;
 use runs::write_few;
@@ -40,7 +41,19 @@ pub fn write_entry(
 {
     let r = value_at(table, e);
     if r.kind == STRUCT {
-        write_struct(members, table, e, at, words, k, buf);
+        // one of them, so that no stride is taken
+        write_structs(
+            members,
+            table,
+            e,
+            1,
+            wide(words_of(r)),
+            0,
+            at,
+            words,
+            k,
+            buf,
+        );
         return;
     }
     write_many(members, table, r, at, words, k, buf);
@@ -76,12 +89,18 @@ pub fn write_many(
     let element = wide(r.reference);
     let below = value_at(table, element);
     if below.kind == STRUCT {
-        let p = Series {
+        write_structs(
+            members,
+            table,
+            element,
             count,
             unit,
             stride,
-        };
-        write_structs(members, table, element, p, at, words, k, buf);
+            at,
+            words,
+            k,
+            buf,
+        );
         return;
     }
     let mut i: usize = 0;
@@ -99,37 +118,37 @@ pub fn write_many(
     }
 }
 
-// Writes the structs of `p`: small ones by their spots, others each by its members.
+// Writes structs of `unit` words, `count` of them, each a `stride` after the one before. Small ones by their spots. Ten parameters, and no
+// `Series`: with one, or with `write_struct` for a single struct, arrays of vec3 and matrices are written slower (docs/DECISIONS.md).
 fn write_structs(
     members: &[u8],
     table: &[Row],
     e: usize,
-    p: Series,
+    count: usize,
+    unit: usize,
+    stride: usize,
     at: usize,
     words: &[u32],
     k: usize,
     buf: &mut [u8],
 )
-    requires { ⌜ ((y : Shape) × Tree (now members) (now table) e y × (valueAt (now table) e .kind ≡ structKind) × EachRoom y (p .count) (p .unit) (p .stride) at (length (now buf)) k (length (now words))) ⌝ }
-    ensures { λ _. ⌜ ((y : Shape) → Tree (now (members .entry)) (now (table .entry)) e y → Stores (now (words .entry)) (placesOf (parts (p .count) (p .stride) y) at) k (now (buf .entry)) (now (buf .exit))) ⌝ }
+    requires { ⌜ ((y : Shape) × Tree (now members) (now table) e y × (valueAt (now table) e .kind ≡ structKind) × EachRoom y count unit stride at (length (now buf)) k (length (now words))) ⌝ }
+    ensures { λ _. ⌜ ((y : Shape) → Tree (now (members .entry)) (now (table .entry)) e y → Stores (now (words .entry)) (placesOf (parts count stride y) at) k (now (buf .entry)) (now (buf .exit))) ⌝ }
 {
     let mut spots = no_spots();
-    let few = spots_of(members, table, e, p.count, &mut spots);
+    let few = spots_of(members, table, e, count, &mut spots);
     if 0 < few {
+        let p = Series {
+            count,
+            unit,
+            stride,
+        };
         write_each(&spots, few, p, at, words, k, buf);
         return;
     }
     let mut i: usize = 0;
-    while i < p.count {
-        write_struct(
-            members,
-            table,
-            e,
-            at + i * p.stride,
-            words,
-            k + i * p.unit,
-            buf,
-        );
+    while i < count {
+        write_struct(members, table, e, at + i * stride, words, k + i * unit, buf);
         i += 1;
     }
 }

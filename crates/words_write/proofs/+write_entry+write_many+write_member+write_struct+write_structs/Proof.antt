@@ -11,7 +11,7 @@ use borrow.Author.Needs.{needs}
 use lib.ListN.{length}
 use Rattle.runs.specs.Fold.{storing}
 use Rattle.walk_trees.specs.Slot.{memberAt}
-use Rattle.walk_trees.proofs.TreeSteps.{tree-valued, tree-many, many-referring, many-runs, depth, depth-below, each-entry, each-room, type-is, type-inside, type-tree, member-room, run-places, run-room, Each, Turn, turn-start, turn-next, turn-none, Walk, walk-start, walk-first, walk-room, walk-words, walk-next, walk-none}
+use Rattle.walk_trees.proofs.TreeSteps.{tree-valued, tree-many, many-referring, many-runs, depth, depth-below, one-room, one-places, each-entry, each-room, type-is, type-inside, type-tree, member-room, run-places, run-room, Each, Turn, turn-start, turn-next, turn-none, Walk, walk-start, walk-first, walk-room, walk-words, walk-next, walk-none}
 use Rattle.words_spots.proofs.Spotted.{spotted-each, spotted-parts}
 use borrow.Fn.Kinds.{In}
 use borrow.Fn.PlainCycle.{Measures, is, falls, and}
@@ -32,6 +32,7 @@ use Rattle.words_write.proofs.write_structs.Kinds as write-structs-kind
 use Rattle.words_write.proofs.+write_entry+write_many+write_member+write_struct+write_structs.Lts-write_structs as write-structs-lts
 use Rattle.numbers.proofs.wide.wide.Reads as wide-reads
 use Rattle.layout_values.proofs.value.value_at.Reads as value-at-reads
+use Rattle.layout_values.proofs.value.words_of.Reads as words-of-reads
 use Rattle.walk_trees.proofs.slot_after.Reads as slot-after-reads
 use Rattle.walk_trees.proofs.packed.Reads as packed-reads
 use Rattle.walk_trees.proofs.part_width.Reads as part-width-reads
@@ -91,27 +92,39 @@ write-structs-below t = and 4 write-structs-kinds.ps (falls 4 write-structs-kind
 -- ---- write_entry
 
 abbrev write-entry-calls : ℕ → write-entry-lts.Claims
-write-entry-calls t = (value-at-reads.Asked, value-at-reads.Learnt, write-struct-below t, write-struct.Post, write-many-below t, write-many.Post)
+write-entry-calls t = (value-at-reads.Asked, value-at-reads.Learnt, words-of-reads.Asked, words-of-reads.Learnt, wide-reads.Asked, wide-reads.Learnt, write-structs-below t, write-structs.Post, write-many-below t, write-many.Post)
 
 module _ (t : ℕ) where
   write-entry-value-at-requires : write-entry-lts.Need-value-at-requires (write-entry-calls t) (write-entry-at t) write-entry.Post
   write-entry-value-at-requires c κs = tree-valued (c .before .before .before .pre .1 .1) .inside
 
-  write-entry-write-struct-requires : write-entry-lts.Need-write-struct-requires (write-entry-calls t) (write-entry-at t) write-entry.Post
-  write-entry-write-struct-requires c κs =
-      let then1 = c .before in
+  write-entry-words-of-requires : write-entry-lts.Need-words-of-requires (write-entry-calls t) (write-entry-at t) write-entry.Post
+  write-entry-words-of-requires c κs =
+      let after-value-at = c .before .before in
+      rw (after-value-at .value-at .ensures) (tree-valued (after-value-at .before .before .before .before .pre .1 .1) .counted)
+
+  write-entry-write-structs-requires : write-entry-lts.Need-write-structs-requires (write-entry-calls t) (write-entry-at t) write-entry.Post
+  write-entry-write-structs-requires c κs =
+      let after-wide = c .before in
+      let after-words-of = after-wide .before in
+      let then1 = after-words-of .before in
       let after-value-at = then1 .before .before in
       let start = after-value-at .before .before .before .before in
       let layout = after-value-at .value-at .ensures in (
         omega (arith, start .pre .0),
-        (start .pre .1 .0, start .pre .1 .1, rw layout at (then1 .if1 .taken), start .pre .1 .2),
+        (
+          start .pre .1 .0,
+          start .pre .1 .1,
+          rw layout at (then1 .if1 .taken),
+          rw (after-wide .wide .ensures .0, after-words-of .words-of .ensures, layout) (one-room (start .pre .1 .1) (start .pre .1 .2)),
+        ),
       )
 
   write-entry-same-length : write-entry-lts.Need-same-length (write-entry-calls t) (write-entry-at t) write-entry.Post
-  write-entry-same-length c = c .before .before .write-struct .kept .1 .1 .1 .1 .1 .1 .0
+  write-entry-same-length c = c .before .before .write-structs .kept .1 .1 .1 .1 .1 .1 .1 .1 .1 .0
 
   write-entry-returns : write-entry-lts.Need-returns (write-entry-calls t) (write-entry-at t) write-entry.Post
-  write-entry-returns c = c .before .before .write-struct .ensures
+  write-entry-returns c = λ x u. rw one-places at (c .before .before .write-structs .ensures x u)
 
   write-entry-write-many-requires : write-entry-lts.Need-write-many-requires (write-entry-calls t) (write-entry-at t) write-entry.Post
   write-entry-write-many-requires c κs =
@@ -220,7 +233,7 @@ module _ (t : ℕ) where
       )
 
   write-many-same-length-2 : write-many-lts.Need-same-length-2 (write-many-calls t) (write-many-at t) write-many.Post write-many-Inv-loop write-many-μ-loop
-  write-many-same-length-2 c = c .before .before .write-structs .kept .1 .1 .1 .1 .1 .1 .1 .0
+  write-many-same-length-2 c = c .before .before .write-structs .kept .1 .1 .1 .1 .1 .1 .1 .1 .1 .0
 
   write-many-returns-2 : write-many-lts.Need-returns-2 (write-many-calls t) (write-many-at t) write-many.Post write-many-Inv-loop write-many-μ-loop
   write-many-returns-2 c =
@@ -472,11 +485,11 @@ module _ (t : ℕ) where
 -- ---- write_structs
 
 abbrev write-structs-Inv-loop : write-structs-lts.InvT-loop
-write-structs-Inv-loop members table e p at words k buf₀ few i₀ buf i =
-    Turn (storing words) members table e (p .count) (p .unit) (p .stride) at k buf₀ i buf × (length buf ≡ length buf₀)
+write-structs-Inv-loop members table e count unit stride at words k buf₀ few i₀ buf i =
+    Turn (storing words) members table e count unit stride at k buf₀ i buf × (length buf ≡ length buf₀)
 
 abbrev write-structs-μ-loop : write-structs-lts.MeasureT-loop
-write-structs-μ-loop members table e p at words k buf₀ few i₀ buf i = p .count - i
+write-structs-μ-loop members table e count unit stride at words k buf₀ few i₀ buf i = count - i
 
 abbrev write-structs-calls : ℕ → write-structs-lts.Claims
 write-structs-calls t = (no-spots-reads.Asked, no-spots-reads.Learnt, spots-of-reads.Asked, spots-of-reads.Learnt, write-each-reads.Asked, write-each-reads.Learnt, write-struct-below t, write-struct.Post)
@@ -512,81 +525,78 @@ module _ (t : ℕ) where
       let then1 = after-write-each .before .before .before in
       let after-spots-of = then1 .before .before in
       let a = after-spots-of .before .before .before .before .before .before .args in
-      λ y u. rw (← spotted-parts (after-spots-of .spots-of .ensures (then1 .if1 .taken) y u) (a .p .count) (a .p .stride) (a .at)) (after-write-each .write-each .ensures)
+      λ y u. rw (← spotted-parts (after-spots-of .spots-of .ensures (then1 .if1 .taken) y u) (a .count) (a .stride) (a .at)) (after-write-each .write-each .ensures)
 
   write-structs-loop-holds : write-structs-lts.Need-loop-holds (write-structs-calls t) (write-structs-at t) write-structs.Post write-structs-Inv-loop write-structs-μ-loop
   write-structs-loop-holds c = (turn-start _ _ _ _ _ _ _ _ _ _, refl)
 
   write-structs-mul-write-struct : write-structs-lts.Need-mul-write-struct (write-structs-calls t) (write-structs-at t) write-structs.Post write-structs-Inv-loop write-structs-μ-loop
   write-structs-mul-write-struct c =
-      let then2 = c .before in
-      let start = then2 .before .before .before .before .before .before .before .before .before .before .before in
-      let turn = each-room (start .pre .1 .3) (then2 .if2 .taken) in
-      omega (arith, turn .bytes-there, start .good .1 .1 .1 .1 .1 .1 .1 .0 .0)
+      let start = c .before .before .before .before .before .before .before .before .before .before in
+      let turn = each-room (start .pre .1 .3) (c .loop-test .taken) in
+      omega (arith, turn .bytes-there, start .good .1 .1 .1 .1 .1 .1 .1 .1 .1 .0 .0)
 
   write-structs-add-write-struct : write-structs-lts.Need-add-write-struct (write-structs-calls t) (write-structs-at t) write-structs.Post write-structs-Inv-loop write-structs-μ-loop
   write-structs-add-write-struct c =
-      let then2 = c .before in
-      let start = then2 .before .before .before .before .before .before .before .before .before .before .before in
-      let turn = each-room (start .pre .1 .3) (then2 .if2 .taken) in
-      omega (arith, turn .bytes-there, start .good .1 .1 .1 .1 .1 .1 .1 .0 .0)
+      let start = c .before .before .before .before .before .before .before .before .before .before in
+      let turn = each-room (start .pre .1 .3) (c .loop-test .taken) in
+      omega (arith, turn .bytes-there, start .good .1 .1 .1 .1 .1 .1 .1 .1 .1 .0 .0)
 
   write-structs-mul-write-struct-2 : write-structs-lts.Need-mul-write-struct-2 (write-structs-calls t) (write-structs-at t) write-structs.Post write-structs-Inv-loop write-structs-μ-loop
   write-structs-mul-write-struct-2 c =
-      let then2 = c .before .before in
-      let start = then2 .before .before .before .before .before .before .before .before .before .before .before in
-      let turn = each-room (start .pre .1 .3) (then2 .if2 .taken) in
-      omega (arith, turn .words-there, start .good .1 .1 .1 .1 .1 .0 .0)
+      let start = c .before .before .before .before .before .before .before .before .before .before in
+      let turn = each-room (start .pre .1 .3) (c .loop-test .taken) in
+      omega (arith, turn .words-there, start .good .1 .1 .1 .1 .1 .1 .1 .0 .0)
 
   write-structs-add-write-struct-2 : write-structs-lts.Need-add-write-struct-2 (write-structs-calls t) (write-structs-at t) write-structs.Post write-structs-Inv-loop write-structs-μ-loop
   write-structs-add-write-struct-2 c =
-      let then2 = c .before .before in
-      let start = then2 .before .before .before .before .before .before .before .before .before .before .before in
-      let turn = each-room (start .pre .1 .3) (then2 .if2 .taken) in
-      omega (arith, turn .words-there, start .good .1 .1 .1 .1 .1 .0 .0)
+      let start = c .before .before .before .before .before .before .before .before .before .before in
+      let turn = each-room (start .pre .1 .3) (c .loop-test .taken) in
+      omega (arith, turn .words-there, start .good .1 .1 .1 .1 .1 .1 .1 .0 .0)
 
   write-structs-write-struct-requires : write-structs-lts.Need-write-struct-requires (write-structs-calls t) (write-structs-at t) write-structs.Post write-structs-Inv-loop write-structs-μ-loop
   write-structs-write-struct-requires c κs =
-      let then2 = c .before .before .before in
-      let at-loop = then2 .before .before in
+      let in-loop = c .before in
+      let at-loop = in-loop .before in
       let start = at-loop .before .before .before .before .before .before .before .before .before in
-      let turn = each-room (start .pre .1 .3) (then2 .if2 .taken) in (
+      let turn = each-room (start .pre .1 .3) (in-loop .loop-test .taken) in (
         omega (arith, start .pre .0),
         (start .pre .1 .0, start .pre .1 .1, start .pre .1 .2, rw (at-loop .loop .inv .1) turn),
       )
 
   write-structs-add-i : write-structs-lts.Need-add-i (write-structs-calls t) (write-structs-at t) write-structs.Post write-structs-Inv-loop write-structs-μ-loop
   write-structs-add-i c =
-      let then2 = c .before .before .before .before .before .before in
-      omega (arith, then2 .if2 .taken, then2 .before .struct-known .given)
+      let in-loop = c .before .before .before .before in
+      let start = in-loop .before .before .before .before .before .before .before .before .before .before in
+      omega (arith, in-loop .loop-test .taken, start .fits .count)
 
   write-structs-loop-less : write-structs-lts.Need-loop-less (write-structs-calls t) (write-structs-at t) write-structs.Post write-structs-Inv-loop write-structs-μ-loop
-  write-structs-loop-less c = omega (arith, c .before .before .before .before .before .before .if2 .taken)
+  write-structs-loop-less c = omega (arith, c .before .before .before .before .loop-test .taken)
 
   write-structs-loop-again : write-structs-lts.Need-loop-again (write-structs-calls t) (write-structs-at t) write-structs.Post write-structs-Inv-loop write-structs-μ-loop
   write-structs-loop-again c =
       let after-write-struct = c .before .before in
-      let then2 = after-write-struct .before .before .before .before in
-      let at-loop = then2 .before .before in
+      let in-loop = after-write-struct .before .before in
+      let at-loop = in-loop .before in
       let start = at-loop .before .before .before .before .before .before .before .before .before in
       let call = after-write-struct .write-struct in (
-        turn-next (at-loop .loop .inv .0) (start .pre .1 .1) (start .pre .1 .3 .unit-is) (then2 .if2 .taken) (call .ensures),
+        turn-next (at-loop .loop .inv .0) (start .pre .1 .1) (start .pre .1 .3 .unit-is) (in-loop .loop-test .taken) (call .ensures),
         call .kept .1 .1 .1 .1 .1 .1 .0 ∙ at-loop .loop .inv .1,
       )
 
   write-structs-same-length-2 : write-structs-lts.Need-same-length-2 (write-structs-calls t) (write-structs-at t) write-structs.Post write-structs-Inv-loop write-structs-μ-loop
-  write-structs-same-length-2 c = c .before .before .loop .inv .1
+  write-structs-same-length-2 c = c .before .loop .inv .1
 
   write-structs-returns-2 : write-structs-lts.Need-returns-2 (write-structs-calls t) (write-structs-at t) write-structs.Post write-structs-Inv-loop write-structs-μ-loop
   write-structs-returns-2 c =
-      let at-loop = c .before .before in
-      turn-none (at-loop .loop .inv .0) (c .if2 .left)
+      let at-loop = c .before in
+      turn-none (at-loop .loop .inv .0) (c .loop-test .left)
 
 pub +write-entry+write-many+write-member+write-struct+write-structs-spec : {M : Type 1} → statement M
 +write-entry+write-many+write-member+write-struct+write-structs-spec =
     close μ-write-entry μ-write-many μ-write-member μ-write-struct μ-write-structs
     (λ t. write-entry-lts.spec (write-entry-calls t) (write-entry-at t) write-entry.Post
-    (write-entry-value-at-requires t) (write-entry-write-struct-requires t)
+    (write-entry-value-at-requires t) (write-entry-words-of-requires t) (λ c κs. search needs) (write-entry-write-structs-requires t)
     (write-entry-same-length t) (write-entry-returns t) (write-entry-write-many-requires t)
     (write-entry-same-length-2 t) (write-entry-returns-2 t))
     (λ t. write-many-lts.spec (write-many-calls t) (write-many-at t) write-many.Post write-many-Inv-loop write-many-μ-loop
