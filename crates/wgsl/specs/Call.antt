@@ -1,9 +1,11 @@
 -- The public calls: for each its answer, and the final contents of what was lent (01, "Sizes and places", "Numbers that say no").
 --
--- In order: check; the four questions; read; write; view; set; rank; common.
+-- In order: check; the four questions; the entry that a call with a buffer is about; read; write; view; set; rank; common.
 -- The steps of each call stand in 01's order: "Every call gives 1 to 4 in that order, then the lowest bad entry ..; then 8, 17, 9, 10 as
 -- they apply (10 on read, write, set only). Then read: 15, 14. Write: 14, 15, 16. View: 15, then the first bad step. Set: the same, then
 -- 14, 16."
+-- What is left of a call once its entry or its target is known has a name of its own, which stands before the call: from `setCall` upward,
+-- its refusals are read in their order.
 -- Definitions only. Assumes nothing.
 use Prim.Native.Nat.{ℕ, _+_, _-_, _/_}
 use mathlib.Core.List.{List, [], _∷_, _++_, map}

@@ -79,7 +79,7 @@ leafRank none none = some 0
 unfoldable pub rankOf : Ty → Ty → Option ℕ
 rankOf a b = cond (sameNumbers (outlineOf a) (outlineOf b)) (leafRank (leafOf a) (leafOf b)) none
 
--- an entry: its number and its type
+-- one that the common type may be: an entry's number and its type
 pub record Candidate : Type 0 where
   pub number : ℕ
   pub type : Ty
