@@ -26,8 +26,11 @@ use Rattle.wgsl.proofs.Said.{then-good, then-is, then-refused, next-is,
 use Rattle.wgsl.proofs.Number.{length-store, load-bounded, load-store}
 use Rattle.wgsl.proofs.Path.{target, walk-leads, leads-walk, target-inside}
 use Rattle.wgsl.proofs.Word.{fit-checkWords}
-use Rattle.wgsl.proofs.Call.{laid-good, stored-good, stored-is, unstored-is, entry-well-formed, entry-sound, short-no, done}
-use Rattle.wgsl.proofs.Good.{short-room, room-short, one-scalar, leads-to}
+use Rattle.wgsl.proofs.EntryFor.{laid-good, stored-good, stored-is, unstored-is, entry-well-formed, entry-sound}
+use Rattle.wgsl.proofs.IsShort.{short-no}
+use Rattle.wgsl.proofs.Call.{done}
+use Rattle.wgsl.proofs.IsShort.{short-room, room-short}
+use Rattle.wgsl.proofs.Good.{one-scalar, leads-to}
 use Rattle.wgsl.proofs.Demand.{demand-three}
 use Rattle.wgsl.proofs.BitField.{inserted-word, extract-inserted, extract-inserted-signed}
 
