@@ -26,7 +26,7 @@ use Rattle.numbers.specs.Limit.{limited}
 use Rattle.numbers.specs.declared.limit.Limited.the-variants as limits
 use Rattle.layout_values.specs.declared.value.Value.{Value}
 use Rattle.layout_values.specs.Value.{fixedWords, narrowest, valueOf, wordsIn}
-use Rattle.layout_values.proofs.ValueOf.{value-words}
+use Rattle.layout_values.proofs.WordsIn.{value-words}
 use Rattle.layout_structs.specs.declared.Ends.{Ends}
 use Rattle.layout_structs.specs.declared.SoFar.the-variants.{Good, TooLarge}
 use Rattle.layout_structs.specs.SoFar.{followed, wordsOfMembers, endsOf, soFar, Joins}

@@ -31,7 +31,8 @@ use Rattle.walk_shapes.proofs.Basis.{basis-inside, basis-layout, basis-well-for
 use Rattle.walk_shapes.proofs.Kept.{kept, kept-words, kept-layout, runtime-element, element-shape}
 use Rattle.walk_shapes.proofs.MemberRead.{struct-ruled, count-from}
 use Rattle.walk_shapes.proofs.LastMember.{last-everywhere, last-placed}
-use Rattle.walk_shapes.proofs.TreesOf.{trees, runtime-many, whole-run, run-asks}
+use Rattle.walk_shapes.proofs.TreesOf.{trees, runtime-many}
+use Rattle.walk_shapes.proofs.RunAt.{whole-run, run-asks}
 use Rattle.walk_decide.specs.declared.Rest as declared
 use Rattle.walk_decide.specs.Decide.{restFrom, lastSlot, Findable}
 use Rattle.walk_decide.specs.Whole.{Ready, Tailed}

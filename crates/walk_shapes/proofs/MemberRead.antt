@@ -28,7 +28,7 @@ use Rattle.wgsl.proofs.AtEntry.{getElem-first}
 use Rattle.file.specs.Members.{memberBytes}
 use Rattle.layout_values.specs.declared.value.Value.{Value}
 use Rattle.layout_values.specs.Value.{valueOf}
-use Rattle.layout_values.proofs.ValueOf.{value-words}
+use Rattle.layout_values.proofs.WordsIn.{value-words}
 use Rattle.walk_trees.specs.Slot.{Counted, memberAt, memberValue, memberAlign, memberSize, slotAt, SlotAsks}
 use Rattle.walk_shapes.specs.Basis.{Basis}
 use Rattle.walk_shapes.proofs.Basis.{basis-inside, basis-layout}
