@@ -11,7 +11,7 @@ use mathlib.Core.Path.{_≡_, refl, sym, ap, _∙_}
 use native.Mathlib.Omega.{arith}
 use borrow.Author.Tests.{leb-true}
 use Rattle.layout_members.specs.Given.{orOwn}
-use Rattle.wgsl.specs.Round.{up, limit, withinLimit}
+use Rattle.wgsl.specs.Round.{up, withinLimit}
 use Rattle.wgsl.specs.Types.{Ty, scalar, vector, matrix, array, runtime, atomic, struct, Members, isRuntime, endsInRuntime, isOpen}
 use Rattle.wgsl.specs.Size.{both, givenOr, isPresent, present, endAfter, sizeOf, alignOf, membersAlign, membersEnd, hasLayout, memberStart, memberEnd}
 use Rattle.wgsl.specs.File.{MemberEntry, givenSize, givenAlign}

@@ -10,7 +10,7 @@ use lib.ListN.{length}
 use Rattle.wgsl.specs.Types.{Ty}
 use Rattle.wgsl.specs.Said.{good, refused}
 use Rattle.wgsl.specs.File as wgsl
-use Rattle.wgsl.specs.File.{trailerOf, trailerLength, typeEntryLength, memberEntryLength, lengthBy, checkTrailer}
+use Rattle.wgsl.specs.File.{trailerOf, lengthBy, checkTrailer}
 use Rattle.wgsl.specs.Rule.{typesOf}
 use Rattle.wgsl.proofs.Said.{good-not-refused, then-good, then-cases, then-is, then-refused}
 use Rattle.wgsl.proofs.Trailed.{trailed}

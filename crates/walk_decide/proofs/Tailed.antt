@@ -5,14 +5,14 @@
 use Prim.Native.Nat.{ℕ, zero, suc, _+_, _-_, _*_, _≤_}
 use mathlib.Core.Bool.{true}
 use mathlib.Core.List.{List}
-use mathlib.Core.Option.{Option, none, some, Option·some-injective}
+use mathlib.Core.Option.{none, some, Option·some-injective}
 use mathlib.Core.Path.{_≡_, refl, sym, ap, _∙_}
 use native.Mathlib.Omega.{arith}
 use borrow.Author.Tests.{eq-eqb, ne-eqb}
 use lib.ListN.{take, getElem?}
 use Rattle.wgsl.specs.Types.{Ty, runtime, struct, Members, no-more, endsInRuntime, isOpen, everywhere, everyMember, kindOf}
 use Rattle.wgsl.specs.Size.{isPresent, present, alignOf, strideOf, hasLayout, isPlain, isStorable}
-use Rattle.wgsl.specs.File.{trailerOf, memberEntryLength, typeEntryAt}
+use Rattle.wgsl.specs.File.{trailerOf, typeEntryAt}
 use Rattle.wgsl.specs.Rule.{membersFrom, countOf, isWellFormed}
 use Rattle.wgsl.specs.Place.{Tail, membersTail, tailOf, wordCount, places}
 use Rattle.wgsl.specs.Shapes.{shapeWords, Opened}

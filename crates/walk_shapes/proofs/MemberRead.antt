@@ -16,7 +16,6 @@ use Rattle.layout_members.specs.Given.{orOwn}
 use Rattle.wgsl.specs.Round.{up, limit, withinLimit}
 use Rattle.wgsl.specs.Types.{Ty, struct, Members, no-more, member, everywhere, everyMember}
 use Rattle.wgsl.specs.Size.{both, isPresent, present, givenOr, startAfter, endAfter, sizeOf, alignOf, minSizeOf, offsetsOf, innerNumbersOf, numbersOf, withinLimits, fitsLimit, memberStart, memberEnd}
-use Rattle.wgsl.specs.Said.{good}
 use Rattle.wgsl.specs.File.{trailerOf, MemberEntry, memberEntryAt, givenSize, givenAlign, typeEntryAt}
 use Rattle.wgsl.specs.Rule.{isLast, lower, countOf, membersFrom, membersAllowed, isWellFormed, membersGivenFit}
 use Rattle.wgsl.proofs.Absent.{both-hold, true-not-false, some-present, present-is, present-some, given-present}

@@ -14,7 +14,7 @@ use lib.Dec.{leb}
 use lib.ListN.{length, take, getD, getElem?}
 use Rattle.wgsl.specs.Types.{Scalar, Ty, scalar, vector, matrix, array, runtime, atomic, struct, Members, scalarKind}
 use Rattle.wgsl.specs.Said.{good}
-use Rattle.wgsl.specs.File.{trailerOf, trailerLength, typeEntryLength, memberEntryLength, lengthBy, TypeEntry, typeEntryAt}
+use Rattle.wgsl.specs.File.{trailerOf, lengthBy, TypeEntry, typeEntryAt}
 use Rattle.wgsl.specs.Rule.{membersFrom, typeOfEntry, typesOf}
 use Rattle.wgsl.proofs.Absent.{some-not-none}
 use Rattle.wgsl.proofs.Judged.{judged-good}

@@ -22,7 +22,7 @@ use Rattle.wgsl.specs.Claim.{LaidOut, Fit, GoodIf, CanField}
 use Rattle.wgsl.specs.Demand.{Given, Leading, SetThenRead}
 use Rattle.wgsl.specs.BitFieldCall.{isInteger, isSigned, FoundInteger, integerOf, integerAt, wordOf, extractedAs, extractCall, insertCall}
 use Rattle.wgsl.proofs.Absent.{true-not-false}
-use Rattle.wgsl.proofs.Said.{then-good, then-is, then-refused, next-is, refuse-good, refuse-no, refuse-yes, orRefuse-good}
+use Rattle.wgsl.proofs.Said.{then-good, then-is, then-refused, next-is, refuse-good, refuse-no, orRefuse-good}
 use Rattle.wgsl.proofs.Number.{length-store, load-bounded, load-store}
 use Rattle.wgsl.proofs.Path.{target, walk-leads, leads-walk, target-inside}
 use Rattle.wgsl.proofs.Word.{fit-checkWords}

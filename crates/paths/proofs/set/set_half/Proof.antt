@@ -2,7 +2,6 @@
 use mathlib.Core.Path.{ap, sym, _∙_}
 use native.Mathlib.Omega.{arith}
 use borrow.Author.Needs.{needs}
-use Rattle.wgsl.specs.Round.{limit}
 use Rattle.wgsl.specs.Call.{answerOf, contentsOf}
 use Rattle.paths.proofs.SetTarget.{stored-large, stored-narrow}
 use Rattle.paths.proofs.set.set_half.Statement.{statement}
