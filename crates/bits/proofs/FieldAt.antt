@@ -11,7 +11,8 @@ use lib.Bits.{bitAnd, and-mask}
 use lib.Pow.{pow-pos, pow-mono, pow-add, shl-exact, shr-lt, split, mod-pow-add}
 use Rattle.wgsl.specs.BitField.{bitAt, fieldAt, repeatedTop, putAt}
 use Rattle.wgsl.proofs.Bit.{digit-told}
-use Rattle.wgsl.proofs.BitField.{field-bounded, put-word}
+use Rattle.wgsl.proofs.FieldAt.{field-bounded}
+use Rattle.wgsl.proofs.PutAt.{put-word}
 
 one-shifted : (c : ℕ) → c ≤ 32 → 1 * 2 ^ c % 2 ^ 64 ≡ 2 ^ c
 one-shifted c h =

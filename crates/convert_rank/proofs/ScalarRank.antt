@@ -8,7 +8,7 @@ use mathlib.Core.Path.{_≡_, refl, ap, sym, _∙_}
 use borrow.Author.Tests.{ne-eqb}
 use Rattle.wgsl.specs.Types.{Scalar, bool, i32, u32, f32, f16, abstractInt, abstractFloat, scalarKind}
 use Rattle.wgsl.specs.Rank.{fromAbstractInt, fromAbstractFloat, ifSame, scalarRank}
-use Rattle.wgsl.proofs.Rank.{kind-same, scalar-refl}
+use Rattle.wgsl.proofs.ScalarRank.{kind-same, scalar-refl}
 
 module _ (s : Scalar) (kind : ℕ) (of : scalarKind s ≡ kind) where
   is : (b : Scalar) → kind ≡ scalarKind b → b ≡ s

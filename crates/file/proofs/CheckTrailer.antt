@@ -12,7 +12,7 @@ use native.Mathlib.Omega.{arith}
 use borrow.Author.Tests.{lt-ltb, le-ltb, le-leb, lt-leb, eq-eqb, ne-eqb}
 use lib.ListN.{length}
 use Rattle.wgsl.specs.Said.{good, refused}
-use Rattle.wgsl.specs.File.{Trailer, trailerLength, typeEntryLength, memberEntryLength, trailerOf, lengthBy, between, checkTrailer}
+use Rattle.wgsl.specs.File.{Trailer, trailerOf, lengthBy, between, checkTrailer}
 use Rattle.wgsl.proofs.Said.{refuse-yes, refuse-no}
 
 -- ---- the test of T and M

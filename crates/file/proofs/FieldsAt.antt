@@ -7,7 +7,7 @@ use mathlib.Core.List.{List}
 use mathlib.Core.Path.{_≡_}
 use lib.ListN.{length}
 use Rattle.wgsl.specs.Number.{load}
-use Rattle.wgsl.specs.File.{TypeEntry, typeEntryFrom, MemberEntry, memberEntryFrom, Trailer, trailerOf, trailerLength}
+use Rattle.wgsl.specs.File.{TypeEntry, typeEntryFrom, MemberEntry, memberEntryFrom, Trailer, trailerOf}
 
 pub typeEntry-is : (f : List ℕ) (at : ℕ) (e : TypeEntry) → e .kind ≡ load 1 f at → e .columns ≡ load 1 f (at + 1) → e .rows ≡ load 1 f (at + 2) → e .zero3 ≡ load 1 f (at + 3) → e .reference ≡ load 2 f (at + 4) → e .zero6 ≡ load 2 f (at + 6) → e .count ≡ load 4 f (at + 8) → e ≡ typeEntryFrom f at
 unfolding typeEntryFrom

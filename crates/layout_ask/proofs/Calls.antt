@@ -19,7 +19,7 @@ use Rattle.wgsl.specs.Call.{checkOf, entryOf, sizeCall, alignCall, minSizeCall,
 use Rattle.wgsl.proofs.Said.{good-not-refused, then-good, then-cases, then-is, then-refused}
 use Rattle.wgsl.proofs.Passed.{runtime-passed}
 use Rattle.wgsl.proofs.Entry.{size-positive, align-positive, stride-positive}
-use Rattle.wgsl.proofs.Call.{entry-well-formed}
+use Rattle.wgsl.proofs.EntryFor.{entry-well-formed}
 use Rattle.said.specs.Refusal.{numberOf, placeOf}
 use Rattle.said.specs.declared.refusal.Refusal.{Refusal}
 use Rattle.file.specs.declared.trailer.Trailer.{Trailer}

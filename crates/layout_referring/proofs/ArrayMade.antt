@@ -11,7 +11,7 @@ use mathlib.Core.Path.{_≡_, refl, sym, ap, _∙_}
 use native.Mathlib.Omega.{arith}
 use native.Mathlib.Nat.{mul-le-mul-right}
 use borrow.Author.Tests.{le-leb, lt-leb}
-use Rattle.wgsl.specs.Round.{up, limit, withinLimit}
+use Rattle.wgsl.specs.Round.{up, withinLimit}
 use Rattle.wgsl.specs.Types.{Ty, array, isOpen, everywhere, kindOf}
 use Rattle.wgsl.specs.Size.{both, isPresent, present, sizeOf, alignOf, strideOf, minSizeOf, innerNumbersOf, numbersOf, withinLimits, fitsLimit, hasLayout}
 use Rattle.wgsl.specs.File.{TypeEntry}

@@ -12,7 +12,7 @@ use borrow.Author.Tests.{le-leb}
 use Rattle.wgsl.specs.Round.{up, limit}
 use Rattle.wgsl.specs.Types.{struct, Members, no-more, member, isOpen, endsInRuntime, everyMember, kindOf}
 use Rattle.wgsl.specs.Size.{both, isPresent, present, sizeOf, alignOf, membersAlign, membersEnd, offsetsOf, withinLimits, fitsLimit, hasLayout}
-use Rattle.wgsl.specs.File.{between, TypeEntry, memberEntryLength}
+use Rattle.wgsl.specs.File.{between, TypeEntry}
 use Rattle.wgsl.specs.Rule.{countOf, membersAllowed, isAllowed, membersGivenFit, givenFits, isWellFormed}
 use Rattle.wgsl.specs.Place.{wordCount}
 use Rattle.wgsl.proofs.Absent.{some-present, present-is, both-none, true-not-false}

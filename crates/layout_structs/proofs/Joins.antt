@@ -11,7 +11,7 @@ use mathlib.Core.Path.{_≡_, refl, sym, ap, _∙_}
 use native.Mathlib.Omega.{arith}
 use borrow.Author.Tests.{leb-true}
 use Rattle.layout_members.specs.Given.{orOwn}
-use Rattle.wgsl.specs.Round.{up, limit, withinLimit}
+use Rattle.wgsl.specs.Round.{up, withinLimit}
 use Rattle.wgsl.specs.Types.{Ty, scalar, vector, matrix, array, runtime, atomic, struct, Members, isRuntime, endsInRuntime, isOpen}
 use Rattle.wgsl.specs.Size.{both, givenOr, isPresent, present, endAfter, sizeOf, alignOf, membersAlign, membersEnd, hasLayout, memberStart, memberEnd}
 use Rattle.wgsl.specs.File.{MemberEntry, givenSize, givenAlign}
@@ -26,7 +26,7 @@ use Rattle.numbers.specs.Limit.{limited}
 use Rattle.numbers.specs.declared.limit.Limited.the-variants as limits
 use Rattle.layout_values.specs.declared.value.Value.{Value}
 use Rattle.layout_values.specs.Value.{fixedWords, narrowest, valueOf, wordsIn}
-use Rattle.layout_values.proofs.ValueOf.{value-words}
+use Rattle.layout_values.proofs.WordsIn.{value-words}
 use Rattle.layout_structs.specs.declared.Ends.{Ends}
 use Rattle.layout_structs.specs.declared.SoFar.the-variants.{Good, TooLarge}
 use Rattle.layout_structs.specs.SoFar.{followed, wordsOfMembers, endsOf, soFar, Joins}

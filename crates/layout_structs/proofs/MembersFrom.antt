@@ -10,7 +10,7 @@ use mathlib.Core.Path.{_≡_, refl, sym, ap, _∙_}
 use native.Mathlib.Omega.{arith}
 use lib.ListN.{length, getD, getElem?}
 use Rattle.wgsl.specs.Types.{Ty, struct, Members, no-more, member, everywhere}
-use Rattle.wgsl.specs.File.{typeEntryAt, MemberEntry, memberEntryFrom, memberEntryAt, givenSize, givenAlign, restIsZero, memberEntryLength}
+use Rattle.wgsl.specs.File.{typeEntryAt, MemberEntry, memberEntryFrom, memberEntryAt, givenSize, givenAlign, restIsZero}
 use Rattle.wgsl.specs.Rule.{when, andThen, lower, membersFrom, isWellFormed}
 use Rattle.wgsl.proofs.AtEntry.{getElem-past, getElem-getD}
 use Rattle.layout_values.specs.declared.value.Made.{Made}

@@ -13,7 +13,7 @@ use borrow.Author.Tests.{ne-eqb}
 use lib.Dec.{eqb}
 use Rattle.wgsl.specs.Types.{Ty, struct, Members, no-more, endsInRuntime, everywhere, everyMember}
 use Rattle.wgsl.specs.Size.{present, membersAlign, membersEnd, offsetsOf, withinLimits}
-use Rattle.wgsl.specs.Round.{withinLimit, limit}
+use Rattle.wgsl.specs.Round.{withinLimit}
 use Rattle.wgsl.specs.File.{MemberEntry, memberEntryFrom, givenSize, givenAlign, restIsZero}
 use Rattle.wgsl.specs.Rule.{when, andThen, lower, countOf, memberAllowed, membersAllowed, isWellFormed, membersGivenFit}
 use Rattle.wgsl.proofs.Absent.{both-hold, hold-both, some-not-none}

@@ -11,7 +11,7 @@ use native.Mathlib.Omega.{arith}
 use borrow.Author.Tests.{le-leb, lt-leb}
 use lib.Dec.{leb}
 use Rattle.wgsl.specs.Types.{Ty, struct, no-more}
-use Rattle.wgsl.specs.File.{TypeEntry, trailerOf, memberEntryLength, between}
+use Rattle.wgsl.specs.File.{TypeEntry, trailerOf, between}
 use Rattle.wgsl.specs.Rule.{when, andThen, unused, membersFrom, structMade, countOf, isAllowed}
 use Rattle.file.specs.Members.{membersStart}
 use Rattle.layout_values.specs.declared.value.Made.{Made}

@@ -14,10 +14,10 @@ use lib.Dec.{eqb}
 use Rattle.wgsl.specs.Types.{Ty}
 use Rattle.wgsl.specs.Size.{fitsLimit}
 use Rattle.wgsl.specs.Said.{Said, good, refused, _>>=_, _>>_, refuse, orRefuse}
-use Rattle.wgsl.specs.File.{Trailer, trailerOf, typeEntryLength, TypeEntry, typeEntryAt, typeEntryFrom, checkTrailer}
+use Rattle.wgsl.specs.File.{Trailer, trailerOf, TypeEntry, typeEntryAt, typeEntryFrom, checkTrailer}
 use Rattle.wgsl.specs.Rule.{when, unused, lower, scalarMade, overMade, vectorMade, matrixMade, arrayMade, runtimeMade, atomicMade, andThen, structMade, typeMade, typeOfEntry, isAllowed, givenFits, judged, typesBelow, typesOf}
 use Rattle.wgsl.proofs.Said.{good-not-refused, then-is, then-refused}
-use Rattle.wgsl.proofs.Accepted.{Trailed}
+use Rattle.wgsl.proofs.Trailed.{Trailed}
 use Rattle.file.specs.Members.{membersStart}
 use Rattle.layout_values.specs.Value.{valueOf, verdictOn, madeOf}
 use Rattle.layout_values.specs.declared.value.Value.{Value}

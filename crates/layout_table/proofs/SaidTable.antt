@@ -10,10 +10,11 @@ use lib.ListN.{length}
 use Rattle.wgsl.specs.Types.{Ty}
 use Rattle.wgsl.specs.Said.{good, refused}
 use Rattle.wgsl.specs.File as wgsl
-use Rattle.wgsl.specs.File.{trailerOf, trailerLength, typeEntryLength, memberEntryLength, lengthBy, checkTrailer}
+use Rattle.wgsl.specs.File.{trailerOf, lengthBy, checkTrailer}
 use Rattle.wgsl.specs.Rule.{typesOf}
 use Rattle.wgsl.proofs.Said.{good-not-refused, then-good, then-cases, then-is, then-refused}
-use Rattle.wgsl.proofs.Accepted.{accepted, trailed}
+use Rattle.wgsl.proofs.Trailed.{trailed}
+use Rattle.wgsl.proofs.Accepted.{accepted}
 use Rattle.file.specs.Fields.{trailerIs}
 use Rattle.said.specs.Refusal.{numberOf, placeOf}
 use Rattle.said.specs.declared.refusal.Refusal.{Refusal}

@@ -11,10 +11,11 @@ use lib.ListN.{length, take, drop, set, replicate, length-set, length-replicate,
 use lib.Seq.{take-suc-set, drop-set-lt, drop-drop}
 use Rattle.wgsl.specs.Types.{Ty}
 use Rattle.wgsl.specs.Said.{good, refused}
-use Rattle.wgsl.specs.File.{Trailer, trailerLength, typeEntryLength, memberEntryLength, lengthBy, TypeEntry, typeEntryAt, typeEntryFrom, checkTrailer}
+use Rattle.wgsl.specs.File.{Trailer, lengthBy, TypeEntry, typeEntryAt, typeEntryFrom, checkTrailer}
 use Rattle.wgsl.specs.Rule.{typeOfEntry, typesBelow, typesOf}
 use Rattle.wgsl.proofs.Said.{then-is, then-refused}
-use Rattle.wgsl.proofs.Accepted.{below-length, below-well-formed, Trailed, trailed}
+use Rattle.wgsl.proofs.Trailed.{Trailed, trailed}
+use Rattle.wgsl.proofs.Accepted.{below-length, below-well-formed}
 use Rattle.layout_values.specs.Value.{valueOf, madeOf, rowOf, blankTable, valuesFrom, valuesOf}
 use Rattle.layout_values.specs.declared.value.Value.{Value}
 use Rattle.layout_values.specs.declared.value.Made.{Made}

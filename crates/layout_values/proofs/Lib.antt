@@ -2,6 +2,8 @@ pub mod Unused
 pub mod VerdictOn
 pub mod ScalarMade
 pub mod VectorAlign
+pub mod SizeOf
+pub mod WordsIn
 pub mod ValueOf
 pub mod NarrowOf
 pub mod ValuesOf

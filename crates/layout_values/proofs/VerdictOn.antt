@@ -13,7 +13,7 @@ use borrow.Author.Tests.{le-leb, ne-eqb}
 use lib.Dec.{eqb}
 use Rattle.wgsl.specs.Types.{Scalar, Ty, isOpen, kindOf}
 use Rattle.wgsl.specs.Size.{isPresent, present, sizeOf, alignOf, minSizeOf, innerNumbersOf, numbersOf, withinLimits, fitsLimit, hasLayout}
-use Rattle.wgsl.specs.Round.{limit, withinLimit}
+use Rattle.wgsl.specs.Round.{withinLimit}
 use Rattle.wgsl.specs.Rule.{when, andThen, isAllowed, givenFits}
 use Rattle.layout_values.specs.Value.{narrowOf, partsOf, valueOf, verdictOn, madeOf}
 use Rattle.layout_values.specs.declared.value.Value.{Value}

@@ -5,7 +5,7 @@ use mathlib.Core.Path.{_≡_, subst⁻¹}
 use native.Mathlib.Nat.{le-of-lt, lt-of-le-of-lt, mul-le-mul-left, mul-lt-mul-of-pos-right, div-mul-le-self}
 use borrow.Author.Tests.{le-leb, lt-leb}
 use lib.Pow.{pow-pos, pow-add}
-use Rattle.wgsl.specs.Round.{limit, withinLimit}
+use Rattle.wgsl.specs.Round.{withinLimit}
 use Rattle.numbers.specs.Limit.{limited}
 use Rattle.numbers.specs.declared.limit.Limited.the-variants.{Is, TooLarge}
 

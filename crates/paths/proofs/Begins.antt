@@ -10,7 +10,7 @@ use Rattle.wgsl.specs.Types.{Ty}
 use Rattle.wgsl.specs.Said.{good, _>>=_, orRefuse}
 use Rattle.wgsl.specs.Place.{shapeOf, spanOf}
 use Rattle.wgsl.specs.Call.{entryOf}
-use Rattle.wgsl.proofs.Call.{entry-sound}
+use Rattle.wgsl.proofs.EntryFor.{entry-sound}
 use Rattle.layout_values.specs.declared.value.Value.{Value}
 use Rattle.walk_path.specs.declared.enter.Stand.the-variants.{Entry}
 use Rattle.walk_path.specs.Way.{at-entry, Standing}

@@ -17,7 +17,7 @@ use Rattle.wgsl.specs.Place.{extentBy, extentOf, elementsBy, elementsIn, shapeO
 use Rattle.wgsl.specs.Rule.{isWellFormed}
 use Rattle.wgsl.specs.Path.{walk, stepOf}
 use Rattle.wgsl.specs.Call.{isShort, targetIn}
-use Rattle.wgsl.proofs.Call.{short-no}
+use Rattle.wgsl.proofs.IsShort.{short-no}
 use Rattle.wgsl.proofs.Tail.{closed-tail, closed-extent}
 use Rattle.wgsl.proofs.Elements.{open-tail}
 use Rattle.layout_values.specs.declared.value.Value.{Value}

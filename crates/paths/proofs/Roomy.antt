@@ -17,7 +17,8 @@ use Rattle.wgsl.specs.Path.{stepOf}
 use Rattle.wgsl.specs.Call.{targetIn, viewCall, partOf, partStart, targetCall, entryFor}
 use Rattle.wgsl.proofs.Said.{good-not-refused, then-good, refuse-good}
 use Rattle.wgsl.proofs.Path.{target-inside}
-use Rattle.wgsl.proofs.Call.{laid-good, entry-sound, short-no}
+use Rattle.wgsl.proofs.EntryFor.{laid-good, entry-sound}
+use Rattle.wgsl.proofs.IsShort.{short-no}
 use Rattle.said.specs.declared.target.Target.{Target}
 use Rattle.said.specs.Target.{targetIs, reached}
 use Rattle.paths.specs.Set.{Roomy}

@@ -61,11 +61,6 @@ pub run-length : (n width at : ℕ) → length (runPlaces n width at) ≡ n
 unfolding runPlaces
 run-length n width at = repeated-length n width (λ p. record { at = p; width = width } ∷ []) at 1 (λ p. refl) ∙ mul-one n
 
-pub parts-length : (count unit width stride at : ℕ) → length (partPlaces count unit width stride at) ≡ count * unit
-unfolding partPlaces
-parts-length count unit width stride at =
-    repeated-length count stride (λ p. runPlaces unit width p) at unit (λ p. run-length unit width p)
-
 -- A run is its first m words, and the others after them.
 pub run-append : (m n width at : ℕ) → runPlaces (m + n) width at ≡ runPlaces m width at ++ runPlaces n width (at + m * width)
 unfolding runPlaces repeated

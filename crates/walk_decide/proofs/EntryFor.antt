@@ -12,7 +12,7 @@ use Rattle.wgsl.specs.Size.{hasLayout, isStorable}
 use Rattle.wgsl.specs.Said.{Said, good, refused, _>>_}
 use Rattle.wgsl.specs.Call.{entryOf, allowed, entryFor}
 use Rattle.wgsl.proofs.Said.{next-is, then-is, then-refused, refuse-good}
-use Rattle.wgsl.proofs.Call.{stored-good}
+use Rattle.wgsl.proofs.EntryFor.{stored-good}
 
 module _ (stored : Bool) (f : List ℕ) (e : ℕ) (b : List ℕ) where
   -- an entry that is not there

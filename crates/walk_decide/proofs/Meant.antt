@@ -2,7 +2,7 @@
 --
 -- In order: the members' part; an entry that is there; what it is; one that is not there.
 -- Assumes nothing.
-use Prim.Native.Nat.{ℕ, _-_, _*_, _≤_}
+use Prim.Native.Nat.{ℕ, _*_, _≤_}
 use mathlib.Core.Bool.{true}
 use mathlib.Core.List.{List}
 use mathlib.Core.Option.{some}
@@ -11,8 +11,8 @@ use native.Mathlib.Omega.{arith}
 use native.Mathlib.Nat.{add-sub-cancel-left}
 use lib.ListN.{length, getElem?}
 use Rattle.wgsl.specs.Types.{Ty, everywhere}
-use Rattle.wgsl.specs.Said.{good, refused, _>>=_}
-use Rattle.wgsl.specs.File.{trailerOf, trailerLength, typeEntryLength, memberEntryLength, lengthBy, checkTrailer}
+use Rattle.wgsl.specs.Said.{good, refused}
+use Rattle.wgsl.specs.File.{trailerOf, memberEntryLength, lengthBy, checkTrailer}
 use Rattle.wgsl.specs.Rule.{isWellFormed, typesOf}
 use Rattle.wgsl.specs.Call.{entryOf}
 use Rattle.wgsl.proofs.Said.{good-not-refused, then-good, then-cases, then-is, then-refused, orRefuse-good}

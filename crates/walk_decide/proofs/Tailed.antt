@@ -5,14 +5,14 @@
 use Prim.Native.Nat.{ℕ, zero, suc, _+_, _-_, _*_, _≤_}
 use mathlib.Core.Bool.{true}
 use mathlib.Core.List.{List}
-use mathlib.Core.Option.{Option, none, some, Option·some-injective}
+use mathlib.Core.Option.{none, some, Option·some-injective}
 use mathlib.Core.Path.{_≡_, refl, sym, ap, _∙_}
 use native.Mathlib.Omega.{arith}
 use borrow.Author.Tests.{eq-eqb, ne-eqb}
 use lib.ListN.{take, getElem?}
 use Rattle.wgsl.specs.Types.{Ty, runtime, struct, Members, no-more, endsInRuntime, isOpen, everywhere, everyMember, kindOf}
 use Rattle.wgsl.specs.Size.{isPresent, present, alignOf, strideOf, hasLayout, isPlain, isStorable}
-use Rattle.wgsl.specs.File.{trailerOf, memberEntryLength, typeEntryAt}
+use Rattle.wgsl.specs.File.{trailerOf, typeEntryAt}
 use Rattle.wgsl.specs.Rule.{membersFrom, countOf, isWellFormed}
 use Rattle.wgsl.specs.Place.{Tail, membersTail, tailOf, wordCount, places}
 use Rattle.wgsl.specs.Shapes.{shapeWords, Opened}
@@ -31,7 +31,8 @@ use Rattle.walk_shapes.proofs.Basis.{basis-inside, basis-layout, basis-well-for
 use Rattle.walk_shapes.proofs.Kept.{kept, kept-words, kept-layout, runtime-element, element-shape}
 use Rattle.walk_shapes.proofs.MemberRead.{struct-ruled, count-from}
 use Rattle.walk_shapes.proofs.LastMember.{last-everywhere, last-placed}
-use Rattle.walk_shapes.proofs.TreesOf.{trees, runtime-many, whole-run, run-asks}
+use Rattle.walk_shapes.proofs.TreesOf.{trees, runtime-many}
+use Rattle.walk_shapes.proofs.RunAt.{whole-run, run-asks}
 use Rattle.walk_decide.specs.declared.Rest as declared
 use Rattle.walk_decide.specs.Decide.{restFrom, lastSlot, Findable}
 use Rattle.walk_decide.specs.Whole.{Ready, Tailed}

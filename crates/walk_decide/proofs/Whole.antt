@@ -21,7 +21,7 @@ use Rattle.wgsl.proofs.Count.{places-words}
 use Rattle.wgsl.proofs.Opened.{opened-extent}
 use Rattle.layout_values.specs.declared.value.Value.{Value}
 use Rattle.layout_values.specs.Value.{wordsIn}
-use Rattle.layout_values.proofs.ValueOf.{value-words, words-fixed}
+use Rattle.layout_values.proofs.WordsIn.{value-words, words-fixed}
 use Rattle.runs.specs.Fold.{overPlaces, storing, loading, testing}
 use Rattle.runs.specs.Run.{partPlaces}
 use Rattle.runs.proofs.OverPlaces.{over-append, stored-words, loaded-words, tested-words, tested-refused}

@@ -16,7 +16,7 @@ use Rattle.wgsl.specs.Types.{Ty, scalar, vector, matrix, array, runtime, atomic
 use Rattle.wgsl.specs.Types as types
 use Rattle.wgsl.specs.Size.{isPresent, present, sizeOf, alignOf, hasLayout}
 use Rattle.wgsl.specs.Said.{good, refused}
-use Rattle.wgsl.specs.File.{trailerOf, memberEntryLength, memberEntryAt, givenSize, givenAlign, typeEntryAt}
+use Rattle.wgsl.specs.File.{trailerOf, memberEntryAt, givenSize, givenAlign, typeEntryAt}
 use Rattle.wgsl.specs.Rule.{isLast, countOf, membersFrom}
 use Rattle.wgsl.specs.Place.{Shape, field, extentOf, shapeOf, column, fieldsOf, spanOf}
 use Rattle.wgsl.specs.Path.{member, enter}

@@ -19,7 +19,7 @@ use Rattle.wgsl.proofs.Absent.{both-hold}
 use Rattle.wgsl.proofs.Said.{when-some, andThen-some}
 use Rattle.wgsl.proofs.Opened.{lastOf}
 use Rattle.file.specs.Members.{memberBytes}
-use Rattle.walk_trees.specs.Slot.{slotAt, SlotAsks, slotIn, SlotsAsk}
+use Rattle.walk_trees.specs.Slot.{slotAt, slotIn, SlotsAsk}
 use Rattle.walk_shapes.specs.Basis.{Basis}
 use Rattle.walk_shapes.proofs.MemberRead.{Ruled, first-ruled, rest-ruled, last-none, Read, read, first-placeable, first-start, first-end}
 

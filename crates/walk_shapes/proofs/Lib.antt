@@ -7,4 +7,7 @@ pub mod Kept
 pub mod MembersLeft
 pub mod LastMember
 pub mod PartRun
+pub mod Over
+pub mod Says
 pub mod TreesOf
+pub mod RunAt

@@ -11,7 +11,7 @@ use lib.Seq.{getD-take, getD-drop, length-take-le}
 use Rattle.wgsl.specs.Types.{Ty}
 use Rattle.wgsl.specs.Number.{load}
 use Rattle.wgsl.specs.Said.{good}
-use Rattle.wgsl.specs.File.{trailerOf, trailerLength, typeEntryLength, memberEntryLength, lengthBy, MemberEntry, memberEntryFrom, memberEntryAt}
+use Rattle.wgsl.specs.File.{trailerOf, lengthBy, MemberEntry, memberEntryFrom, memberEntryAt}
 use Rattle.wgsl.specs.Rule.{typesOf}
 use Rattle.wgsl.proofs.Accepted.{accepted}
 use Rattle.file.specs.Members.{membersStart, memberBytes}

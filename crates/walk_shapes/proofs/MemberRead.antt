@@ -16,7 +16,6 @@ use Rattle.layout_members.specs.Given.{orOwn}
 use Rattle.wgsl.specs.Round.{up, limit, withinLimit}
 use Rattle.wgsl.specs.Types.{Ty, struct, Members, no-more, member, everywhere, everyMember}
 use Rattle.wgsl.specs.Size.{both, isPresent, present, givenOr, startAfter, endAfter, sizeOf, alignOf, minSizeOf, offsetsOf, innerNumbersOf, numbersOf, withinLimits, fitsLimit, memberStart, memberEnd}
-use Rattle.wgsl.specs.Said.{good}
 use Rattle.wgsl.specs.File.{trailerOf, MemberEntry, memberEntryAt, givenSize, givenAlign, typeEntryAt}
 use Rattle.wgsl.specs.Rule.{isLast, lower, countOf, membersFrom, membersAllowed, isWellFormed, membersGivenFit}
 use Rattle.wgsl.proofs.Absent.{both-hold, true-not-false, some-present, present-is, present-some, given-present}
@@ -28,7 +27,7 @@ use Rattle.wgsl.proofs.AtEntry.{getElem-first}
 use Rattle.file.specs.Members.{memberBytes}
 use Rattle.layout_values.specs.declared.value.Value.{Value}
 use Rattle.layout_values.specs.Value.{valueOf}
-use Rattle.layout_values.proofs.ValueOf.{value-words}
+use Rattle.layout_values.proofs.WordsIn.{value-words}
 use Rattle.walk_trees.specs.Slot.{Counted, memberAt, memberValue, memberAlign, memberSize, slotAt, SlotAsks}
 use Rattle.walk_shapes.specs.Basis.{Basis}
 use Rattle.walk_shapes.proofs.Basis.{basis-inside, basis-layout}

@@ -26,7 +26,7 @@ use Rattle.wgsl.proofs.Count.{places-words}
 use Rattle.runs.specs.Run.{runPlaces, partPlaces}
 use Rattle.runs.proofs.OverPlaces.{parts-touch}
 use Rattle.layout_values.specs.Value.{storedWidth, narrowOf, fixedWords, partsOf, valueOf}
-use Rattle.layout_values.proofs.ValueOf.{value-words}
+use Rattle.layout_values.proofs.WordsIn.{value-words}
 use Rattle.walk_trees.proofs.TreeOne.{repeated-alike}
 use Rattle.walk_trees.specs.Slot.{touching, packedAs}
 use Rattle.walk_shapes.proofs.Widths.{stored-width, shape-from, places-from, ordered-run}

@@ -1,4 +1,6 @@
 pub mod SlotAt
 pub mod SlotIn
 pub mod TreeOne
+pub mod Many
+pub mod Room
 pub mod TreeSteps

@@ -2,7 +2,7 @@
 --
 -- In order: a member's entry and layout, as they are found; its alignment and size, given or its type's own; its place.
 -- Assumes nothing.
-use Prim.Native.Nat.{ℕ, _+_, _/_, _≤_}
+use Prim.Native.Nat.{ℕ, _+_, _≤_}
 use mathlib.Core.List.{List}
 use mathlib.Core.Path.{_≡_, refl, ap, _∙_}
 use Rattle.layout_members.specs.Given.{orOwn}

@@ -4,10 +4,10 @@
 -- Assumes nothing.
 use Prim.Native.Nat.{ℕ, zero, suc, _+_, _<_}
 use mathlib.Core.List.{List}
-use mathlib.Core.Logic.{_⊎_, ⊎-elim}
+use mathlib.Core.Logic.{⊎-elim}
 use mathlib.Core.Path.{_≡_, refl, sym, _∙_}
 use native.Mathlib.Omega.{arith}
-use Rattle.wgsl.specs.Place.{Shape, parts, repeated, placesOf}
+use Rattle.wgsl.specs.Place.{Shape, repeated, placesOf}
 use Rattle.layout_values.specs.declared.value.Value.{Value}
 use Rattle.layout_values.specs.Value.{valueAt}
 use Rattle.walk_trees.specs.Slot.{partWidth, memberAt, slotAt}
@@ -53,9 +53,3 @@ trees-below ms table (suc n) d h = tree-step (λ i l. trees-below ms table n i (
 
 pub tree-one : {ms : List ℕ} {table : List (List ℕ)} {e : ℕ} {x y : Shape} → Tree ms table e x → Tree ms table e y → (at : ℕ) → placesOf x at ≡ placesOf y at
 tree-one {ms} {table} {e} {x} {y} = trees-below ms table (suc e) e (omega arith) x y
-
-pub many-one : {ms : List ℕ} {table : List (List ℕ)} {r : Value} {x y : Shape} → Many ms table r x → Many ms table r y → (at : ℕ) → placesOf x at ≡ placesOf y at
-many-one = many-step (λ w x y. tree-one)
-
-pub left-one : {ms : List ℕ} {table : List (List ℕ)} {e c m end : ℕ} {x y : Shape} → Left ms table e c m end x → Left ms table e c m end y → (at : ℕ) → placesOf x at ≡ placesOf y at
-left-one = left-step (λ d h x y. tree-one)

@@ -14,10 +14,11 @@ use lib.Dec.{leb}
 use lib.ListN.{length, take, getD, getElem?}
 use Rattle.wgsl.specs.Types.{Scalar, Ty, scalar, vector, matrix, array, runtime, atomic, struct, Members, scalarKind}
 use Rattle.wgsl.specs.Said.{good}
-use Rattle.wgsl.specs.File.{trailerOf, trailerLength, typeEntryLength, memberEntryLength, lengthBy, TypeEntry, typeEntryAt}
+use Rattle.wgsl.specs.File.{trailerOf, lengthBy, TypeEntry, typeEntryAt}
 use Rattle.wgsl.specs.Rule.{membersFrom, typeOfEntry, typesOf}
 use Rattle.wgsl.proofs.Absent.{some-not-none}
-use Rattle.wgsl.proofs.Accepted.{accepted, below-entry, judged-good}
+use Rattle.wgsl.proofs.Judged.{judged-good}
+use Rattle.wgsl.proofs.Accepted.{accepted, below-entry}
 use Rattle.wgsl.proofs.Fields.{OverScalar, OverType, OverMembers, scalar-entry, vector-entry, matrix-entry, array-entry, runtime-entry, runtime-count, atomic-entry, struct-entry, kind-bounded}
 
 module _ {A : Type 0} where

@@ -22,12 +22,15 @@ use Rattle.wgsl.specs.Claim.{LaidOut, Fit, GoodIf, CanField}
 use Rattle.wgsl.specs.Demand.{Given, Leading, SetThenRead}
 use Rattle.wgsl.specs.BitFieldCall.{isInteger, isSigned, FoundInteger, integerOf, integerAt, wordOf, extractedAs, extractCall, insertCall}
 use Rattle.wgsl.proofs.Absent.{true-not-false}
-use Rattle.wgsl.proofs.Said.{then-good, then-is, then-refused, next-is, refuse-good, refuse-no, refuse-yes, orRefuse-good}
+use Rattle.wgsl.proofs.Said.{then-good, then-is, then-refused, next-is, refuse-good, refuse-no, orRefuse-good}
 use Rattle.wgsl.proofs.Number.{length-store, load-bounded, load-store}
 use Rattle.wgsl.proofs.Path.{target, walk-leads, leads-walk, target-inside}
 use Rattle.wgsl.proofs.Word.{fit-checkWords}
-use Rattle.wgsl.proofs.Call.{laid-good, stored-good, stored-is, unstored-is, entry-well-formed, entry-sound, short-no, done}
-use Rattle.wgsl.proofs.Good.{short-room, room-short, one-scalar, leads-to}
+use Rattle.wgsl.proofs.EntryFor.{laid-good, stored-good, stored-is, unstored-is, entry-well-formed, entry-sound}
+use Rattle.wgsl.proofs.IsShort.{short-no}
+use Rattle.wgsl.proofs.Call.{done}
+use Rattle.wgsl.proofs.IsShort.{short-room, room-short}
+use Rattle.wgsl.proofs.Good.{one-scalar, leads-to}
 use Rattle.wgsl.proofs.Demand.{demand-three}
 use Rattle.wgsl.proofs.BitField.{inserted-word, extract-inserted, extract-inserted-signed}
 

@@ -2,11 +2,11 @@
 -- Assumes nothing.
 use lib.Dec.{T}
 use Rattle.wgsl.specs.Number.{load, bytesOf}
-use Rattle.wgsl.specs.Round.{up, powerBelow, isPower, limit, withinLimit}
+use Rattle.wgsl.specs.Round.{up, powerBelow, isPower, withinLimit}
 use Rattle.wgsl.specs.Types.{isRuntime, endsInRuntime, isOpen, everywhere, everyMember, scalarKind}
 use Rattle.wgsl.specs.Size.{both, givenOr, isPresent, present, widthOf, vec3Align, vectorSize, vectorAlign, startAfter, endAfter, sizeOf, alignOf, membersAlign, membersEnd, strideOf, minSizeOf, offsetsOf, innerNumbersOf, numbersOf, withinLimits, fitsLimit, hasLayout, isStored, isPlain, isStorable, memberStart, memberEnd}
 use Rattle.wgsl.specs.Said.{_>>=_, _>>_, refuse, orRefuse}
-use Rattle.wgsl.specs.File.{trailerLength, typeEntryLength, memberEntryLength, trailerOf, lengthBy, typeEntryFrom, typeEntryAt, memberEntryFrom, memberEntryAt, sizeIsGiven, alignIsGiven, givenSize, givenAlign, restIsZero, between, checkTrailer}
+use Rattle.wgsl.specs.File.{trailerOf, lengthBy, typeEntryFrom, typeEntryAt, memberEntryFrom, memberEntryAt, sizeIsGiven, alignIsGiven, givenSize, givenAlign, restIsZero, between, checkTrailer}
 use Rattle.wgsl.specs.Rule.{when, andThen, unused, scalarOfKind, scalarIn, lower, membersFrom, scalarMade, vectorMade, matrixMade, arrayMade, runtimeMade, atomicMade, structMade, overMade, typeMade, typeOfEntry, isMatrixScalar, isAtomicScalar, isLast, countOf, memberAllowed, membersAllowed, isAllowed, atLeast, givenSizeFits, isMultiple, givenAlignFits, membersGivenFit, givenFits, judged, typesBelow, typesOf}
 use Rattle.wgsl.specs.Place.{tailAt, membersTail, tailOf, extentBy, extentOf, elementsBy, elementsIn, column, shapeOf, fieldsOf, spanOf, wordPlaces, repeated, placesOf, places, wordCount, wordsRead}
 use Rattle.wgsl.specs.Path.{stepOf, enter, walk}

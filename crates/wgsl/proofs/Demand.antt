@@ -31,7 +31,8 @@ use Rattle.wgsl.proofs.PathPlace.{path-place}
 use Rattle.wgsl.proofs.Step.{stepOf-injective}
 use Rattle.wgsl.proofs.Word.{length-storeWords, storeWords-uncovered, fit-checkWords, length-wordsRead, wordsRead-append, wordsRead-middle}
 use Rattle.wgsl.proofs.Tail.{closed-tail, closed-extent, sized-closed}
-use Rattle.wgsl.proofs.Call.{laid-good, stored-is, entry-well-formed, entry-sound, entry-places, done, read-is}
+use Rattle.wgsl.proofs.EntryFor.{laid-good, stored-is, entry-well-formed, entry-sound}
+use Rattle.wgsl.proofs.Call.{entry-places, done, read-is}
 
 -- ---- what the demand assumes
 

@@ -21,8 +21,8 @@ use Rattle.wgsl.proofs.Said.{then-is, refuse-no}
 use Rattle.wgsl.proofs.Passed.{struct-passed}
 use Rattle.wgsl.proofs.Path.{target}
 use Rattle.wgsl.proofs.Step.{number-of, step-code, stepOf-code}
-use Rattle.wgsl.proofs.Call.{laid-is, entry-well-formed}
-use Rattle.wgsl.proofs.Good.{room-short}
+use Rattle.wgsl.proofs.EntryFor.{laid-is, entry-well-formed}
+use Rattle.wgsl.proofs.IsShort.{room-short}
 
 -- one step into the members, where the one before the first ended at `end`
 enter-member : (k n z : ℕ) (end : Option ℕ) (ms : Members) (i : ℕ) (start : Option ℕ) (t : Ty) → getElem? (offsetsOf end ms) i ≡ some start → getElem? (typesIn ms) i ≡ some t → enter k (fieldsOf n z end ms) (path.member i) ≡ good (target (present start) (shapeOf n t))

@@ -6,7 +6,7 @@
 use Prim.Native.Nat.{ℕ, zero, suc, _+_, _*_, _/_, _%_, _^_, _<_, _≤_}
 use mathlib.Core.List.{List, [], _∷_}
 use mathlib.Core.Path.{_≡_, refl, ap, _∙_}
-use mathlib.Core.Logic.{_⊎_, ⊎-elim}
+use mathlib.Core.Logic.{⊎-elim}
 use native.Mathlib.Omega.{arith, pow-step}
 use native.Mathlib.Nat.{zero-add, add-zero, suc-add, one-mul, mul-assoc, pow-suc}
 use native.Mathlib.Numerals.{add-one}
@@ -46,20 +46,10 @@ pub sets-below : (vs b : List ℕ) (p i : ℕ) → i < p → getD (sets b p vs) 
 sets-below [] b p i h = refl
 sets-below (v ∷ vs) b p i h = sets-below vs (set b p v) (suc p) i (omega arith) ∙ getD-set-other b p i v 0 (omega arith)
 
--- and past its end;
+-- and past its end.
 sets-past : (vs b : List ℕ) (p i : ℕ) → p + length vs ≤ i → getD (sets b p vs) i 0 ≡ getD b i 0
 sets-past [] b p i h = refl
 sets-past (v ∷ vs) b p i h = sets-past vs (set b p v) (suc p) i (omega arith) ∙ getD-set-other b p i v 0 (omega arith)
-
--- in between it is what was set.
-pub sets-inside : (vs b : List ℕ) (p n : ℕ) → p + length vs ≤ length b → n < length vs → getD (sets b p vs) (p + n) 0 ≡ getD vs n 0
-sets-inside [] b p n h l = absurd (omega arith)
-sets-inside (v ∷ vs) b p zero h l =
-    let e : p + 0 ≡ p = omega arith in
-    rw e (sets-below vs (set b p v) (suc p) p (omega arith) ∙ getD-set-same b p v 0 (omega arith))
-sets-inside (v ∷ vs) b p (suc n) h l =
-    let e : p + suc n ≡ suc p + n = omega arith in
-    rw e (sets-inside vs (set b p v) (suc p) n (simp length-set (omega arith)) (omega arith))
 
 -- A store changes no byte outside its own.
 pub store-other : (k : ℕ) (b : List ℕ) (at n i : ℕ) → Outside at k i → getD (store k b at n) i 0 ≡ getD b i 0

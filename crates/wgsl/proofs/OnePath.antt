@@ -1,6 +1,6 @@
 -- Each place of an entry has one path, and each path to a scalar leads to a place (specs/Place, specs/Path, specs/Call).
 --
--- In order: the one path to a place of a shape; steps as numbers; the one path to a place of an entry; a path's place.
+-- In order: bytes that begin at one place; steps as numbers; the one path to a place of an entry; a path's place.
 -- Assumes nothing.
 use Prim.Native.Nat.{ℕ, _^_, _<_}
 use mathlib.Core.List.{List, [], _∷_, map, List·Memᴰ, List·Memᴰ·head, Memᴰ·append-right}
@@ -10,19 +10,18 @@ use native.Mathlib.Omega.{arith}
 use Rattle.wgsl.specs.Types.{Scalar}
 use Rattle.wgsl.specs.Size.{present, widthOf}
 use Rattle.wgsl.specs.Said.{good}
-use Rattle.wgsl.specs.Place.{Shape, one, shapeOf, Place, wordPlaces, places}
+use Rattle.wgsl.specs.Place.{one, shapeOf, Place, wordPlaces, places}
 use Rattle.wgsl.specs.Path.{Step, index, member, stepOf, walk}
 use Rattle.wgsl.specs.Call.{targetIn, targetCall, viewCall}
 use Rattle.wgsl.specs.Claim.{Apart}
 use Rattle.wgsl.specs.Demand.{Given, Leading, Words, OnePath}
-use Rattle.wgsl.specs.Shapes.{Sound}
 use Rattle.wgsl.proofs.Said.{then-is, refuse-no}
-use Rattle.wgsl.proofs.Path.{target, target-inside, paths-apart}
-use Rattle.wgsl.proofs.PathPlace.{path-place, PlacePath, place-path}
+use Rattle.wgsl.proofs.Path.{target}
+use Rattle.wgsl.proofs.PathPlace.{path-place, place-path}
 use Rattle.wgsl.proofs.Step.{number-of, step-code, stepOf-code, Below, steps-below}
 use Rattle.wgsl.proofs.Tail.{sized-has}
 use Rattle.wgsl.proofs.Index.{entry-small}
-use Rattle.wgsl.proofs.Call.{laid-is, entry-well-formed}
+use Rattle.wgsl.proofs.EntryFor.{laid-is, entry-well-formed}
 use Rattle.wgsl.proofs.Demand.{fixed, walks, scalar-sized, scalars-apart}
 
 -- ---- the one path to a place of a shape
@@ -32,18 +31,6 @@ same-start : {A : Type 0} {p q : A} (a m n : ℕ) → 0 < m → 0 < n → (p ≡
 same-start a m n g h (inl e) = e
 same-start a m n g h (inr (inl l)) = absurd (omega arith)
 same-start a m n g h (inr (inr l)) = absurd (omega arith)
-
--- Every path to a scalar at the place's offset has the steps of the path that was found.
-pub one-path : (off : ℕ) (x : Shape) (p : Place) → Sound x → (found : PlacePath x off p) → (q : List Step) (u : Scalar) → walk 0 off x q ≡ good (target (p .at) (one u)) → q ≡ found .steps
-unfolding Sound
-one-path off x p sound found q u h =
-    let s = found .scalar-is in
-    let a = p .at in
-    let g = found .leads 0 in
-    same-start a (present (widthOf u)) (present (widthOf s))
-    (target-inside 0 off x q (target a (one u)) sound h .0)
-    (target-inside 0 off x (found .steps) (target a (one s)) sound g .0)
-    (paths-apart 0 off x q (found .steps) a a u s sound h g)
 
 -- ---- steps as numbers
 

@@ -1,12 +1,12 @@
 -- Laws of rounding up (specs/Round).
 --
 -- In order: the largest multiple of a that is at most x (`floor`); `up-multiple`, `up-not-below`, `up-least`; together `up-is-up`; no
--- other number is (`up-unique`); how far up it goes.
+-- other number is (`up-unique`).
 -- Assumes nothing.
-use Prim.Native.Nat.{ℕ, suc, _+_, _-_, _*_, _/_, _%_, _<_, _≤_}
+use Prim.Native.Nat.{ℕ, suc, _+_, _*_, _/_, _%_, _<_, _≤_}
 use mathlib.Core.Path.{_≡_}
 use native.Mathlib.Omega.{arith}
-use native.Mathlib.Nat.{mul-mod-left, lt-div-mul-add, div-lt-iff-lt-mul, mul-le-mul-right, suc-mul, div-add-mod', div-mul-le-self}
+use native.Mathlib.Nat.{mul-mod-left, lt-div-mul-add, div-lt-iff-lt-mul, mul-le-mul-right, suc-mul, div-add-mod'}
 use Rattle.wgsl.specs.Round.{IsUp, up}
 
 floor-above : (x a n : ℕ) → 0 < a → n + a ≤ suc x → n ≤ x / a * a
@@ -44,8 +44,3 @@ up-is-up a n pos =
 pub up-unique : {a n r s : ℕ} → IsUp a n r → IsUp a n s → r ≡ s
 up-unique {a} {n} {r} {s} p q =
     omega (arith, p .least s (q .multiple) (q .not-below), q .least r (p .multiple) (p .not-below))
-
--- Rounding up adds less than the alignment.
-pub up-near : (a n : ℕ) → 0 < a → up a n < n + a
-unfolding up
-up-near a n pos = omega (arith, div-mul-le-self (n + (a - 1)) a)

@@ -20,7 +20,9 @@ use Rattle.layout_values.specs.Value.{valueAt, wordsIn}
 use Rattle.walk_trees.specs.Slot.{packedAs, memberAt, slotAt}
 use Rattle.walk_trees.specs.Tree.{Valued, Left, Tree, EachRoom}
 use Rattle.walk_trees.proofs.TreeOne.{repeated-alike}
-use Rattle.walk_trees.proofs.TreeSteps.{tree-valued, tree-left, each-room, First, left-first, left-none}
+use Rattle.walk_trees.proofs.Many.{tree-valued, tree-left}
+use Rattle.walk_trees.proofs.Room.{each-room}
+use Rattle.walk_trees.proofs.TreeSteps.{First, left-first, left-none}
 use Rattle.words_spots.specs.Spot.{spotStart, spotWords, spotPlaces, SpotsFit, SpottedFrom, Spotted, EachFits}
 
 -- ---- finding them

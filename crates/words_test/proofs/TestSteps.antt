@@ -23,7 +23,9 @@ use Rattle.layout_values.specs.declared.value.Value.{Value}
 use Rattle.layout_values.specs.Value.{valueAt, wordsIn}
 use Rattle.walk_trees.specs.Slot.{partWidth, memberAt, slotAt}
 use Rattle.walk_trees.specs.Tree.{Runs, Many, runs, each, Tree, WordRoom, AllWide, Wide, MemberRoom}
-use Rattle.walk_trees.proofs.TreeSteps.{tree-valued, many-runs, Each, each-entry, Turn, turn-start, turn-next, turn-none, Walk, walk-start, walk-first, walk-room, walk-words, walk-next, walk-none}
+use Rattle.walk_trees.proofs.Many.{tree-valued, many-runs}
+use Rattle.walk_trees.proofs.Room.{Each, each-entry}
+use Rattle.walk_trees.proofs.TreeSteps.{Turn, turn-start, turn-next, turn-none, Walk, walk-start, walk-first, walk-room, walk-words, walk-next, walk-none}
 
 -- ---- a shape tests alike wherever it lies
 

@@ -2,7 +2,7 @@
 use mathlib.Core.Path.{refl}
 use native.Mathlib.Nat.{lt-of-lt-of-le}
 use lib.Pow.{pow-mono}
-use Rattle.wgsl.proofs.BitField.{field-bounded}
+use Rattle.wgsl.proofs.FieldAt.{field-bounded}
 use Rattle.bits.proofs.FieldAt.{mask-fits, field-masked}
 use borrow.Author.Needs.{needs}
 use Rattle.bits.proofs.field.Statement.{statement}

@@ -1,5 +1,5 @@
 -- The top bit is repeated by a sum and a difference (`Words`).
-use Rattle.wgsl.proofs.BitField.{repeated-word}
+use Rattle.wgsl.proofs.FieldAt.{repeated-word}
 use Rattle.bits.proofs.FieldAt.{repeated-sum}
 use borrow.Author.Needs.{needs}
 use mathlib.Core.Path.{refl}

@@ -1,6 +1,6 @@
 -- `typeEntryAt` begins where the trailer says.
 use borrow.Author.Needs.{needs}
-use Rattle.wgsl.specs.File.{typeEntryAt, typeEntryLength}
+use Rattle.wgsl.specs.File.{typeEntryAt}
 use Rattle.convert_rank.proofs.entry_of.Statement.{statement}
 use Rattle.convert_rank.proofs.entry_of.Tie as tie
 

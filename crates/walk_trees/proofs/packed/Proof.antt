@@ -1,7 +1,6 @@
 -- By the size.
 use borrow.Author.Needs.{needs}
 use borrow.Author.Tests.{eq-eqb, ne-eqb}
-use Rattle.wgsl.specs.Round.{limit}
 use Rattle.walk_trees.specs.Slot.{packedAs}
 use Rattle.walk_trees.proofs.packed.Statement.{statement}
 use Rattle.walk_trees.proofs.packed.Tie as tie

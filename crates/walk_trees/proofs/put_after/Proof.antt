@@ -1,7 +1,6 @@
 use mathlib.Core.Path.{sym}
 use native.Mathlib.Omega.{arith}
 use borrow.Author.Needs.{needs}
-use Rattle.wgsl.specs.Round.{limit}
 use Rattle.wgsl.proofs.Power.{power-positive, power-bounded}
 use Rattle.wgsl.proofs.Round.{up-not-below}
 use Rattle.walk_trees.proofs.put_after.Statement.{statement}

@@ -8,7 +8,7 @@ use borrow.Author.Needs.{needs}
 use denote.Ref.{now}
 use lib.ListN.{length, length-set}
 use Rattle.walk_trees.specs.Slot.{SlotAsks}
-use Rattle.walk_trees.proofs.TreeSteps.{tree-valued}
+use Rattle.walk_trees.proofs.Many.{tree-valued}
 use Rattle.words_spots.proofs.Spotted.{Finding, finding-start, finding-first, finding-next, finding-none, member-type}
 use Rattle.words_spots.proofs.spots_of.Statement.{statement}
 use Rattle.words_spots.proofs.spots_of.Tie as tie

@@ -17,7 +17,9 @@ use Rattle.layout_values.specs.declared.value.Value.{Value}
 use Rattle.layout_values.specs.Value.{valueAt, wordsIn}
 use Rattle.walk_trees.specs.Slot.{partWidth}
 use Rattle.walk_trees.specs.Tree.{Tree, Room}
-use Rattle.walk_trees.proofs.TreeSteps.{tree-valued, tree-many, many-referring, depth, depth-below, Each, each-room, walk-first}
+use Rattle.walk_trees.proofs.Many.{tree-valued, tree-many, many-referring, depth, depth-below}
+use Rattle.walk_trees.proofs.Room.{Each, each-room}
+use Rattle.walk_trees.proofs.TreeSteps.{walk-first}
 use Rattle.words_test.proofs.TestSteps.{Says, entry-fine, many-fine, runs-room, says-two, each-there, Turns, turns-start, turns-fine, turns-bad, turns-none, Scanned, scanned-start, scanned-inside, scanned-lower, scanned-tree, scanned-there, scanned-words, scanned-next, scanned-bad, scanned-none}
 use Rattle.words_test.proofs.scan_entry.Reads as entry
 use Rattle.words_test.proofs.scan_entry.Kinds as entry-kinds

@@ -11,7 +11,9 @@ use borrow.Author.Needs.{needs}
 use lib.ListN.{length}
 use Rattle.runs.specs.Fold.{storing}
 use Rattle.walk_trees.specs.Slot.{memberAt}
-use Rattle.walk_trees.proofs.TreeSteps.{tree-valued, tree-many, many-referring, many-runs, depth, depth-below, one-room, one-places, each-entry, each-room, type-is, type-inside, type-tree, member-room, run-places, run-room, Each, Turn, turn-start, turn-next, turn-none, Walk, walk-start, walk-first, walk-room, walk-words, walk-next, walk-none}
+use Rattle.walk_trees.proofs.Many.{tree-valued, tree-many, many-referring, many-runs, depth, depth-below}
+use Rattle.walk_trees.proofs.Room.{one-room, one-places, each-entry, each-room, type-is, type-inside, type-tree, member-room, run-places, run-room, Each}
+use Rattle.walk_trees.proofs.TreeSteps.{Turn, turn-start, turn-next, turn-none, Walk, walk-start, walk-first, walk-room, walk-words, walk-next, walk-none}
 use Rattle.words_spots.proofs.Spotted.{spotted-each, spotted-parts}
 use borrow.Fn.Kinds.{In}
 use borrow.Fn.PlainCycle.{Measures, is, falls, and}

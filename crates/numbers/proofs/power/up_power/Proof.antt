@@ -2,7 +2,7 @@ use Prim.Native.Nat.{ℕ, _^_, _<_, _+_, _-_, _*_, _/_}
 use native.Mathlib.Omega.{arith}
 use mathlib.Core.Path.{_≡_, sym, subst}
 use lib.Bits.{bitAnd}
-use Rattle.wgsl.specs.Round.{up, limit}
+use Rattle.wgsl.specs.Round.{up}
 use Rattle.wgsl.proofs.Power.{power-positive, exponent-small}
 use Rattle.numbers.proofs.Mask.{cleared}
 use Rattle.numbers.proofs.power.up_power.Statement.{statement}

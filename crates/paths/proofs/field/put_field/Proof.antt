@@ -5,7 +5,6 @@ use native.Mathlib.Omega.{arith}
 use denote.Ref.{now}
 use borrow.Author.Needs.{needs}
 use Rattle.wgsl.specs.Number.{store}
-use Rattle.wgsl.specs.Round.{limit}
 use Rattle.wgsl.specs.BitField.{inserted}
 use Rattle.paths.proofs.IntegerOf.{at-offset, word-at, stored-four}
 use Rattle.paths.proofs.field.put_field.Statement.{statement}

@@ -3,7 +3,6 @@ use mathlib.Core.Path.{refl}
 use native.Mathlib.Omega.{arith}
 use borrow.Author.Needs.{needs}
 use Rattle.said.proofs.Answered.{answered-refused, answered-done}
-use Rattle.wgsl.specs.Round.{limit}
 use Rattle.paths.proofs.SetTarget.{stored-large, stored-narrow}
 use Rattle.paths.proofs.set.set_half.Statement.{statement}
 use Rattle.paths.proofs.set.set_half.Tie as tie

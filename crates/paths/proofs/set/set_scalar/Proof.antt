@@ -3,7 +3,6 @@ use mathlib.Core.Path.{refl}
 use native.Mathlib.Omega.{arith}
 use borrow.Author.Needs.{needs}
 use Rattle.said.proofs.Answered.{answered-refused, answered-done, answered-same}
-use Rattle.wgsl.specs.Round.{limit}
 use Rattle.paths.proofs.SetTarget.{set-none, one-scalar, set-one, narrow, wide, set-four}
 use Rattle.paths.proofs.Roomy.{room}
 use Rattle.paths.proofs.set.set_scalar.Statement.{statement}

@@ -1,7 +1,6 @@
 -- A column's scalars lie one after the other, each of the size that the scalar's layout says.
 use native.Mathlib.Omega.{arith}
 use borrow.Author.Needs.{needs}
-use Rattle.wgsl.specs.Round.{limit}
 use Rattle.walk_path.specs.Way.{Enters}
 use Rattle.walk_path.proofs.IndexStep.{column-inside, column-past, scalar-offset, scalar-enters}
 use Rattle.walk_path.proofs.enter.enter_column.Statement.{statement}

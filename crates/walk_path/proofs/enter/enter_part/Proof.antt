@@ -1,7 +1,6 @@
 -- A part lies its number of strides on: a column over the scalar's entry, or the entry itself.
 use native.Mathlib.Omega.{arith}
 use borrow.Author.Needs.{needs}
-use Rattle.wgsl.specs.Round.{limit}
 use Rattle.walk_path.proofs.IndexStep.{entry-inside, part-inside, part-offset, column-size, part-size, column-enters, part-enters}
 use Rattle.walk_path.proofs.enter.enter_part.Statement.{statement}
 use Rattle.walk_path.proofs.enter.enter_part.Tie as tie

@@ -1,7 +1,6 @@
 use native.Mathlib.Omega.{arith}
 use borrow.Author.Needs.{needs}
 use borrow.Author.Tests.{eq-eqb, ne-eqb}
-use Rattle.wgsl.specs.Round.{limit}
 use Rattle.walk_path.specs.Way.{sizeAt}
 use Rattle.walk_path.proofs.enter.size_at.Statement.{statement}
 use Rattle.walk_path.proofs.enter.size_at.Tie as tie

@@ -6,7 +6,6 @@ use native.Mathlib.Omega.{arith}
 use borrow.Author.Needs.{needs}
 use lib.Arith.{lt-of-le-ne}
 use lib.ListN.{length, drop, getD}
-use Rattle.wgsl.specs.Round.{limit}
 use Rattle.wgsl.specs.Types.{Ty}
 use Rattle.wgsl.specs.Said.{refused}
 use Rattle.wgsl.specs.Place.{Shape}
