@@ -9,7 +9,7 @@ use mathlib.Core.Path.{_≡_, refl, sym, _∙_}
 use native.Mathlib.Omega.{arith}
 use borrow.Author.Tests.{leb-true, leb-false}
 use lib.Dec.{leb}
-use Rattle.wgsl.specs.Types.{Scalar, Ty, scalar, scalarKind}
+use Rattle.wgsl.specs.Types.{Scalar, Ty, scalar, scalarKind, structKind}
 use Rattle.wgsl.specs.File.{TypeEntry}
 use Rattle.wgsl.specs.Rank.{outlineOf}
 use Rattle.wgsl.proofs.Fields.{OverScalar}
@@ -20,7 +20,7 @@ use Rattle.convert_rank.proofs.OverScalar.{is-vector, is-matrix, is-ato
 
 module _ {f : List ℕ} {ts : List Ty} {k : ℕ} {t : Ty} {x : TypeEntry} (at : At f ts k t x) where
   -- The type of an entry of kind 7, 8 or 11 is the one over a scalar that its fields say.
-  pub over-scalar-at : 6 < x .kind → (x .kind ≡ 9 → ⊥) → (x .kind ≡ 10 → ⊥) → (x .kind ≡ 12 → ⊥) → OverScalar ts (x .reference) t (overScalar x)
+  pub over-scalar-at : 6 < x .kind → (x .kind ≡ 9 → ⊥) → (x .kind ≡ 10 → ⊥) → (x .kind ≡ structKind → ⊥) → OverScalar ts (x .reference) t (overScalar x)
   over-scalar-at high no-array no-runtime no-struct = go (x .kind - 7) (omega arith)
     where
       over : {make : Scalar → Ty} → OverScalar ts (x .reference) t make → ((s : Scalar) → overScalar x s ≡ make s) → OverScalar ts (x .reference) t (overScalar x)

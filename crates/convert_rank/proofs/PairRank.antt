@@ -11,8 +11,8 @@ use native.Mathlib.Omega.{arith}
 use borrow.Author.Tests.{leb-true, leb-false}
 use lib.Dec.{leb}
 use lib.ListN.{length, getElem?}
-use Rattle.wgsl.specs.Types.{Scalar, Ty, scalar, scalarKind}
-use Rattle.wgsl.specs.File.{trailerOf, TypeEntry, typeEntryAt}
+use Rattle.wgsl.specs.Types.{Scalar, Ty, scalar, scalarKind, structKind}
+use Rattle.wgsl.specs.File.{trailerOf, TypeEntry, typeEntryAt, typeEntryLength}
 use Rattle.wgsl.specs.Rank.{scalarRank, rankOf}
 use Rattle.convert_rank.specs.Ranked.{Pair, overScalar}
 use Rattle.wgsl.proofs.AtEntry.{entry-inside, At, scalar-at, array-at, runtime-at, struct-at, reference-lower}
@@ -21,10 +21,10 @@ use Rattle.convert_rank.proofs.RankOf.{front-other, scalars, array-same
 
 module _ {f : List ℕ} {ts : List Ty} {start a b : ℕ} (p : Pair f ts start a b) where
   -- The bytes of the two entries lie inside the file.
-  pub first-inside : (start ≡ trailerOf f .start) × (start + 12 * a + 12 ≤ length f)
+  pub first-inside : (start ≡ trailerOf f .start) × (start + typeEntryLength * a + typeEntryLength ≤ length f)
   first-inside = (p .start-is, entry-inside f ts (p .accepted) start a (p .start-is) (p .first))
 
-  pub second-inside : (start ≡ trailerOf f .start) × (start + 12 * b + 12 ≤ length f)
+  pub second-inside : (start ≡ trailerOf f .start) × (start + typeEntryLength * b + typeEntryLength ≤ length f)
   second-inside = (p .start-is, entry-inside f ts (p .accepted) start b (p .start-is) (p .second))
 
 -- Entries a and b: their types s and t, their fields x and y.
@@ -55,11 +55,11 @@ module _ {f : List ℕ} {ts : List Ty} {a b : ℕ} {s t : Ty} {x y : TypeEntry} 
           front-other s t (λ e. h (omega (arith, front-kind (two .first) high, front-kind (two .second) high′)))
 
   module _ (same : x .kind ≡ y .kind) where
-    pub structs-same : x .kind ≡ 12 → a ≡ b → some 0 ≡ rankOf s t
+    pub structs-same : x .kind ≡ structKind → a ≡ b → some 0 ≡ rankOf s t
     structs-same e h =
         struct-same (struct-at (two .first) e .type-is) (struct-at (two .second) (sym same ∙ e) .type-is) h
 
-    pub structs-other : x .kind ≡ 12 → (a ≡ b → ⊥) → none ≡ rankOf s t
+    pub structs-other : x .kind ≡ structKind → (a ≡ b → ⊥) → none ≡ rankOf s t
     structs-other e h =
         struct-other (struct-at (two .first) e .type-is) (struct-at (two .second) (sym same ∙ e) .type-is) h
 
@@ -70,7 +70,7 @@ module _ {f : List ℕ} {ts : List Ty} {a b : ℕ} {s t : Ty} {x y : TypeEntry} 
     -- i and j are the entries that the two refer to,
     module _ {i j : ℕ} (i-is : i ≡ x .reference) (j-is : j ≡ y .reference) where
       -- which have lower numbers, so the file has them,
-      pub lower-pair : {start : ℕ} → Pair f ts start a b → 6 < x .kind → (x .kind ≡ 12 → ⊥) → (i < a) × Pair f ts start i j
+      pub lower-pair : {start : ℕ} → Pair f ts start a b → 6 < x .kind → (x .kind ≡ structKind → ⊥) → (i < a) × Pair f ts start i j
       lower-pair p high no-struct =
           let low : i < a = omega (arith, i-is, reference-lower (two .first) high no-struct) in
           let low′ : j < b = omega (arith, j-is, reference-lower (two .second) (omega arith) (λ e. no-struct (same ∙ e))) in (
@@ -103,7 +103,7 @@ module _ {f : List ℕ} {ts : List Ty} {a b : ℕ} {s t : Ty} {x y : TypeEntry} 
         right : {c : Scalar} → getElem? ts (y .reference) ≡ some (scalar c) → scalarKind c ≡ v .kind
         right e = scalar-kind (record { good-file = two .first .good-file; type-is = rw j-is e; fields-are = v-is })
 
-        pub over-scalars-rank : {r : Option ℕ} → 6 < x .kind → (x .kind ≡ 9 → ⊥) → (x .kind ≡ 10 → ⊥) → (x .kind ≡ 12 → ⊥) → ((c d : Scalar) → scalarKind c ≡ u .kind → scalarKind d ≡ v .kind → r ≡ rankOf (overScalar x c) (overScalar y d)) → r ≡ rankOf s t
+        pub over-scalars-rank : {r : Option ℕ} → 6 < x .kind → (x .kind ≡ 9 → ⊥) → (x .kind ≡ 10 → ⊥) → (x .kind ≡ structKind → ⊥) → ((c d : Scalar) → scalarKind c ≡ u .kind → scalarKind d ≡ v .kind → r ≡ rankOf (overScalar x c) (overScalar y d)) → r ≡ rankOf s t
         over-scalars-rank high no-array no-runtime no-struct h =
             let p = over-scalar-at (two .first) high no-array no-runtime no-struct in
             let q = over-scalar-at (two .second) (omega arith) (λ e. no-array (same ∙ e)) (λ e. no-runtime (same ∙ e)) (λ e. no-struct (same ∙ e)) in

@@ -13,7 +13,7 @@ use native.Mathlib.Nat.{eq-or-lt-of-le}
 use borrow.Author.Tests.{eq-eqb, ne-eqb}
 use lib.Dec.{eqb}
 use Rattle.wgsl.specs.Types.{Ty, struct, Members, no-more, member}
-use Rattle.wgsl.specs.File.{between, MemberEntry, memberEntryFrom, givenSize, givenAlign, restIsZero}
+use Rattle.wgsl.specs.File.{between, MemberEntry, memberEntryFrom, givenSize, givenAlign, restIsZero, memberEntryLength}
 use Rattle.wgsl.specs.Rule.{andThen, lower, countOf, isLast, memberAllowed, membersAllowed, isAllowed}
 use Rattle.wgsl.proofs.Said.{when-some, andThen-some}
 use Rattle.layout_values.specs.declared.value.Made.the-variants.{Rule}
@@ -62,9 +62,9 @@ module _ (f : List ℕ) (ts : List Ty) (at : ℕ) where
   unsized-more : (i : ℕ) → Unsized i → (last : Bool) (ms : Members) → membersAt f ts at (suc i) ≡ some ms → allowedSo last ms ≡ false
   unfolding membersAt
   unsized-more i h last ms e =
-      let a = andThen-some (membersAt f ts at i) (joined ts (memberEntryFrom f (at + 12 * i))) e in
-      let j = joined-some ts (memberEntryFrom f (at + 12 * i)) (a .value) ms (a .after) in
-      rw (j .1, allowed-after last (a .value) (j .0) (givenSize (memberEntryFrom f (at + 12 * i))) (givenAlign (memberEntryFrom f (at + 12 * i))), h (a .value) (a .first))
+      let a = andThen-some (membersAt f ts at i) (joined ts (memberEntryFrom f (at + memberEntryLength 1 * i))) e in
+      let j = joined-some ts (memberEntryFrom f (at + memberEntryLength 1 * i)) (a .value) ms (a .after) in
+      rw (j .1, allowed-after last (a .value) (j .0) (givenSize (memberEntryFrom f (at + memberEntryLength 1 * i))) (givenAlign (memberEntryFrom f (at + memberEntryLength 1 * i))), h (a .value) (a .first))
 
   unsized-stays : (i n : ℕ) → i ≤ n → Unsized i → Unsized n
   unfolding allowedSo

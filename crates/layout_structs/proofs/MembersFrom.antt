@@ -10,7 +10,7 @@ use mathlib.Core.Path.{_≡_, refl, sym, ap, _∙_}
 use native.Mathlib.Omega.{arith}
 use lib.ListN.{length, getD, getElem?}
 use Rattle.wgsl.specs.Types.{Ty, struct, Members, no-more, member, everywhere}
-use Rattle.wgsl.specs.File.{typeEntryAt, MemberEntry, memberEntryFrom, memberEntryAt, givenSize, givenAlign, restIsZero}
+use Rattle.wgsl.specs.File.{typeEntryAt, MemberEntry, memberEntryFrom, memberEntryAt, givenSize, givenAlign, restIsZero, memberEntryLength}
 use Rattle.wgsl.specs.Rule.{when, andThen, lower, membersFrom, isWellFormed}
 use Rattle.wgsl.proofs.AtEntry.{getElem-past, getElem-getD}
 use Rattle.layout_values.specs.declared.value.Made.{Made}
@@ -27,7 +27,7 @@ joined ts e ms = when (restIsZero e) (andThen (lower ts (e .type)) (λ t. some (
 -- the first n members whose entries lie from byte `at` on, the last one added last
 unfoldable pub membersAt : List ℕ → List Ty → ℕ → ℕ → Option Members
 membersAt f ts at zero = some no-more
-membersAt f ts at (suc i) = andThen (membersAt f ts at i) (joined ts (memberEntryFrom f (at + 12 * i)))
+membersAt f ts at (suc i) = andThen (membersAt f ts at i) (joined ts (memberEntryFrom f (at + memberEntryLength 1 * i)))
 
 swap : (r : Bool) (o : Option Ty) (ms : Option Members) (ts : List Ty) (size align : Option ℕ) (e : MemberEntry) → andThen (when r (andThen o (λ t. andThen ms (λ x. some (member t size align x))))) (joined ts e) ≡ when r (andThen o (λ t. andThen (andThen ms (joined ts e)) (λ x. some (member t size align x))))
 unfolding when andThen joined appended
@@ -50,12 +50,12 @@ fronted f ts at rest =
 
 front : (f : List ℕ) (ts : List Ty) (at n : ℕ) → membersAt f ts at (suc n) ≡ fronted f ts at (membersAt f ts (at + 12) n)
 unfolding membersAt andThen joined appended
-front f ts at zero = let e : at + 12 * 0 ≡ at = omega arith in rw e
+front f ts at zero = let e : at + memberEntryLength 1 * 0 ≡ at = omega arith in rw e
 front f ts at (suc n) =
-    let e : at + 12 * suc n ≡ at + 12 + 12 * n = omega arith in
+    let e : at + memberEntryLength 1 * suc n ≡ at + 12 + memberEntryLength 1 * n = omega arith in
     rw (front f ts at n, e)
     (swap (restIsZero (memberEntryFrom f at)) (lower ts (memberEntryFrom f at .type)) (membersAt f ts (at + 12) n) ts
-    (givenSize (memberEntryFrom f at)) (givenAlign (memberEntryFrom f at)) (memberEntryFrom f (at + 12 + 12 * n)))
+    (givenSize (memberEntryFrom f at)) (givenAlign (memberEntryFrom f at)) (memberEntryFrom f (at + 12 + memberEntryLength 1 * n)))
 
 next-place : (f : List ℕ) (first : ℕ) → memberPlace f (suc first) ≡ memberPlace f first + 12
 unfolding memberPlace

@@ -14,7 +14,7 @@ use lib.Dec.{eqb}
 use Rattle.wgsl.specs.Types.{Ty, struct, Members, no-more, endsInRuntime, everywhere, everyMember}
 use Rattle.wgsl.specs.Size.{present, membersAlign, membersEnd, offsetsOf, withinLimits}
 use Rattle.wgsl.specs.Round.{withinLimit}
-use Rattle.wgsl.specs.File.{MemberEntry, memberEntryFrom, givenSize, givenAlign, restIsZero}
+use Rattle.wgsl.specs.File.{MemberEntry, memberEntryFrom, givenSize, givenAlign, restIsZero, memberEntryLength}
 use Rattle.wgsl.specs.Rule.{when, andThen, lower, countOf, memberAllowed, membersAllowed, isWellFormed, membersGivenFit}
 use Rattle.wgsl.proofs.Absent.{both-hold, hold-both, some-not-none}
 use Rattle.wgsl.proofs.Said.{when-some}
@@ -71,13 +71,13 @@ rule-told last ms t e h = go (restIsZero e && memberAllowed last t) h
 -- member i of n: its entry, of a lower type, whose layout is l
 pub record Coming (f : List ℕ) (ts : List Ty) (at i n : ℕ) (e : MemberEntry) (l : Value) : Type 0 where
   pub before : i < n
-  pub entry : e ≡ memberEntryFrom f (at + 12 * i)
+  pub entry : e ≡ memberEntryFrom f (at + memberEntryLength 1 * i)
   pub type : Ty
   pub type-is : lower ts (e .type) ≡ some type
   pub layout : l ≡ valueOf (l .reference) type
   pub well-formed : everywhere isWellFormed type ≡ true
 
-pub coming : {f : List ℕ} {ts : List Ty} {at i n : ℕ} {e : MemberEntry} (table : List (List ℕ)) (k r : ℕ) → Lower f table k ts → i < n → e ≡ memberEntryFrom f (at + 12 * i) → r ≡ e .type → r < k → Coming f ts at i n e (valueAt table r)
+pub coming : {f : List ℕ} {ts : List Ty} {at i n : ℕ} {e : MemberEntry} (table : List (List ℕ)) (k r : ℕ) → Lower f table k ts → i < n → e ≡ memberEntryFrom f (at + memberEntryLength 1 * i) → r ≡ e .type → r < k → Coming f ts at i n e (valueAt table r)
 coming {f} {ts} table k r low h e q l =
     let x = lower-found f table k ts r low l in
     record {
@@ -141,7 +141,7 @@ module _ {f : List ℕ} {ts : List Ty} {at i n : ℕ} {e : MemberEntry} {l : Val
       ∙ rw no (and-false (allSized (d .members))))
 
 -- A member whose type is not lower refuses the struct.
-pub reached-past : {f : List ℕ} {ts : List Ty} {at i n : ℕ} {e : MemberEntry} (table : List (List ℕ)) (r k : ℕ) (run : SoFar) → Reached f ts at i n run → Lower f table k ts → i < n → e ≡ memberEntryFrom f (at + 12 * i) → k ≤ e .type → madeOf r (andThen (membersAt f ts at n) (λ ms. some (struct k ms))) ≡ Rule
+pub reached-past : {f : List ℕ} {ts : List Ty} {at i n : ℕ} {e : MemberEntry} (table : List (List ℕ)) (r k : ℕ) (run : SoFar) → Reached f ts at i n run → Lower f table k ts → i < n → e ≡ memberEntryFrom f (at + memberEntryLength 1 * i) → k ≤ e .type → madeOf r (andThen (membersAt f ts at n) (λ ms. some (struct k ms))) ≡ Rule
 unfolding membersAt andThen joined when
 reached-past {f} {ts} {at} {i} {n} {e} table r k run d low l h past =
     refused-members f ts at r i n k l

@@ -11,7 +11,7 @@ use native.Mathlib.Omega.{arith}
 use borrow.Author.Tests.{le-leb, lt-leb}
 use lib.Dec.{leb}
 use Rattle.wgsl.specs.Types.{Ty, struct, no-more}
-use Rattle.wgsl.specs.File.{TypeEntry, trailerOf, between}
+use Rattle.wgsl.specs.File.{TypeEntry, trailerOf, between, memberEntryLength}
 use Rattle.wgsl.specs.Rule.{when, andThen, unused, membersFrom, structMade, countOf, isAllowed}
 use Rattle.file.specs.Members.{membersStart}
 use Rattle.layout_values.specs.declared.value.Made.{Made}
@@ -56,6 +56,6 @@ module _ (f : List ℕ) (ts : List Ty) (k : ℕ) (e : TypeEntry) where
       rw (two-unused (e .columns) (e .rows), u, ← p, ← q, le-leb (first + count) (trailerOf f .members) h) m
 
 -- Where member `first` lies.
-pub place-first : (f : List ℕ) (base first : ℕ) → base ≡ membersStart f → base + 12 * first ≡ memberPlace f first
+pub place-first : (f : List ℕ) (base first : ℕ) → base ≡ membersStart f → base + memberEntryLength 1 * first ≡ memberPlace f first
 unfolding membersStart memberPlace
 place-first f base first e = omega arith

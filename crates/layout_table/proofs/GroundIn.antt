@@ -12,6 +12,7 @@ use Rattle.wgsl.specs.Types.{Ty}
 use Rattle.wgsl.specs.Said.{good, refused, orRefuse}
 use Rattle.wgsl.specs.Rule.{typesOf}
 use Rattle.wgsl.specs.Call.{entryOf}
+use Rattle.wgsl.specs.File.{typeEntryLength, memberEntryLength}
 use Rattle.wgsl.proofs.Said.{good-not-refused, then-good, then-cases, then-is, then-refused}
 use Rattle.wgsl.proofs.AtEntry.{getElem-past}
 use Rattle.said.specs.Refusal.{numberOf, placeOf}
@@ -47,7 +48,7 @@ module _ (f : List ℕ) (t : Trailer) (e : ℕ) (x : Taken f t) where
     type-there : (u : Ty) × (getElem? (x .ts) e ≡ some u)
     type-there = getElem-below (x .ts) e (omega (arith, x .count))
 
-    pub ground-is : {l : Value} {start end : ℕ} (table : List (List ℕ)) → table ≡ valuesOf f (x .ts) → l ≡ valueAt table e → start ≡ t .start + 12 * t .types → end ≡ start + 12 * t .members → good (record { ground = record { value = l; start = start; end = end }; table = table }) ≡ groundIn f e
+    pub ground-is : {l : Value} {start end : ℕ} (table : List (List ℕ)) → table ≡ valuesOf f (x .ts) → l ≡ valueAt table e → start ≡ t .start + typeEntryLength * t .types → end ≡ start + memberEntryLength 1 * t .members → good (record { ground = record { value = l; start = start; end = end }; table = table }) ≡ groundIn f e
     unfolding groundIn entryOf orRefuse groundOf membersStart
     ground-is table values is p q =
         let u = type-there in

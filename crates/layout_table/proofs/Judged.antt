@@ -11,10 +11,10 @@ use mathlib.Core.Path.{_≡_, refl, sym, ap, _∙_}
 use native.Mathlib.Omega.{arith}
 use borrow.Author.Tests.{le-leb, lt-leb, ne-eqb}
 use lib.Dec.{eqb}
-use Rattle.wgsl.specs.Types.{Ty}
+use Rattle.wgsl.specs.Types.{Ty, structKind}
 use Rattle.wgsl.specs.Size.{fitsLimit}
 use Rattle.wgsl.specs.Said.{Said, good, refused, _>>=_, _>>_, refuse, orRefuse}
-use Rattle.wgsl.specs.File.{Trailer, trailerOf, TypeEntry, typeEntryAt, typeEntryFrom, checkTrailer}
+use Rattle.wgsl.specs.File.{Trailer, trailerOf, TypeEntry, typeEntryAt, typeEntryFrom, checkTrailer, typeEntryLength}
 use Rattle.wgsl.specs.Rule.{when, unused, lower, scalarMade, overMade, vectorMade, matrixMade, arrayMade, runtimeMade, atomicMade, andThen, structMade, typeMade, typeOfEntry, isAllowed, givenFits, judged, typesBelow, typesOf}
 use Rattle.wgsl.proofs.Said.{good-not-refused, then-is, then-refused}
 use Rattle.wgsl.proofs.Trailed.{Trailed}
@@ -33,11 +33,11 @@ types-of f r e = then-is _ e
 
 -- Where the entries and the members lie.
 module _ {f : List ℕ} {r : Trailer} {start : ℕ} (t : Trailed f r) (at : start ≡ r .start) where
-  pub entry-is : {e : TypeEntry} (k : ℕ) → e ≡ typeEntryFrom f (start + 12 * k) → e ≡ typeEntryAt f k
+  pub entry-is : {e : TypeEntry} (k : ℕ) → e ≡ typeEntryFrom f (start + typeEntryLength * k) → e ≡ typeEntryAt f k
   unfolding typeEntryAt
   entry-is k h = rw (← t .is, ← at) h
 
-  pub base-is : {types : ℕ} → types ≡ r .types → start + 12 * types ≡ membersStart f
+  pub base-is : {types : ℕ} → types ≡ r .types → start + typeEntryLength * types ≡ membersStart f
   unfolding membersStart
   base-is h = rw (← t .is, ← at, ← h)
 
@@ -75,19 +75,19 @@ module _ (f : List ℕ) (ts : List Ty) (k r : ℕ) {e : TypeEntry} (is : e ≡ t
     unfolding typeOfEntry when typeMade
     entry-scalar h = rw (← is, zeros, le-leb (e .kind) 6 h)
 
-    pub entry-struct : e .kind ≡ 12 → madeOf r (structMade f ts k e) ≡ madeOf r (typeOfEntry f ts k)
+    pub entry-struct : e .kind ≡ structKind → madeOf r (structMade f ts k e) ≡ madeOf r (typeOfEntry f ts k)
     unfolding typeOfEntry when typeMade
     entry-struct h = rw (← is, zeros, h)
 
-    module _ (high : 6 < e .kind) (other : e .kind ≡ 12 → ⊥) where
+    module _ (high : 6 < e .kind) (other : e .kind ≡ structKind → ⊥) where
       pub entry-over : {i : ℕ} (t : Ty) → i ≡ e .reference → lower ts i ≡ some t → madeOf r (overMade (some t) e) ≡ madeOf r (typeOfEntry f ts k)
       unfolding typeOfEntry when typeMade
-      entry-over t q h = rw (← is, zeros, lt-leb (e .kind) 6 high, ne-eqb (e .kind) 12 other, ← q, h)
+      entry-over t q h = rw (← is, zeros, lt-leb (e .kind) 6 high, ne-eqb (e .kind) structKind other, ← q, h)
 
       pub entry-missing : lower ts (e .reference) ≡ none → Rule ≡ madeOf r (typeOfEntry f ts k)
       unfolding typeOfEntry when typeMade madeOf
       entry-missing h =
-          rw (← is, zeros, lt-leb (e .kind) 6 high, ne-eqb (e .kind) 12 other, h, over-missing e)
+          rw (← is, zeros, lt-leb (e .kind) 6 high, ne-eqb (e .kind) structKind other, h, over-missing e)
 
 -- ---- the verdict
 

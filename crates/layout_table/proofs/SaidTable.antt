@@ -10,7 +10,7 @@ use lib.ListN.{length}
 use Rattle.wgsl.specs.Types.{Ty}
 use Rattle.wgsl.specs.Said.{good, refused}
 use Rattle.wgsl.specs.File as wgsl
-use Rattle.wgsl.specs.File.{trailerOf, lengthBy, checkTrailer}
+use Rattle.wgsl.specs.File.{trailerOf, lengthBy, checkTrailer, typeEntryLength, memberEntryLength}
 use Rattle.wgsl.specs.Rule.{typesOf}
 use Rattle.wgsl.proofs.Said.{good-not-refused, then-good, then-cases, then-is, then-refused}
 use Rattle.wgsl.proofs.Trailed.{trailed}
@@ -34,7 +34,7 @@ pub record Taken (f : List ℕ) (t : Trailer) : Type 0 where
   pub start-is : t .start ≡ trailerOf f .start
   pub count : length ts ≡ t .types
   pub few : t .types ≤ 256
-  pub inside : t .start + 12 * t .types + 12 * t .members ≤ length f
+  pub inside : t .start + typeEntryLength * t .types + memberEntryLength 1 * t .members ≤ length f
 
 taken-so : (f : List ℕ) (t : Trailer) (ts : List Ty) → typesOf f ≡ good ts → trailerIs t ≡ trailerOf f → Taken f t
 unfolding lengthBy

@@ -11,7 +11,7 @@ use lib.ListN.{length, take, drop, set, replicate, length-set, length-replicate,
 use lib.Seq.{take-suc-set, drop-set-lt, drop-drop}
 use Rattle.wgsl.specs.Types.{Ty}
 use Rattle.wgsl.specs.Said.{good, refused}
-use Rattle.wgsl.specs.File.{Trailer, lengthBy, TypeEntry, typeEntryAt, typeEntryFrom, checkTrailer}
+use Rattle.wgsl.specs.File.{Trailer, lengthBy, TypeEntry, typeEntryAt, typeEntryFrom, checkTrailer, typeEntryLength, memberEntryLength}
 use Rattle.wgsl.specs.Rule.{typeOfEntry, typesBelow, typesOf}
 use Rattle.wgsl.proofs.Said.{then-is, then-refused}
 use Rattle.wgsl.proofs.Trailed.{Trailed, trailed}
@@ -33,7 +33,7 @@ blank = replicate 8 0
 pub record Filled (f : List ℕ) (r : Trailer) (k : ℕ) (table : List (List ℕ)) : Type 0 where
   pub checked : checkTrailer f ≡ good r
   pub trailer : Trailed f r
-  pub long : length f ≡ r .start + (12 * r .types + 12 * r .members) + 10
+  pub long : length f ≡ r .start + (typeEntryLength * r .types + memberEntryLength 1 * r .members) + 10
   pub turn : k ≤ r .types
   pub types : List Ty
   pub below : typesBelow f k ≡ good types
@@ -65,7 +65,7 @@ module _ {f : List ℕ} {r : Trailer} {k : ℕ} {table : List (List ℕ)} (t : F
   count = below-length f k (t .types) (t .below)
 
   -- what entry k is judged over
-  pub filled-upward : {e : TypeEntry} {start types members : ℕ} → k < r .types → start ≡ r .start → types ≡ r .types → members ≡ r .members → e ≡ typeEntryFrom f (start + 12 * k) → Upward f k e (start + 12 * types) members table (t .types)
+  pub filled-upward : {e : TypeEntry} {start types members : ℕ} → k < r .types → start ≡ r .start → types ≡ r .types → members ≡ r .members → e ≡ typeEntryFrom f (start + typeEntryLength * k) → Upward f k e (start + typeEntryLength * types) members table (t .types)
   filled-upward h at n m e =
       let few = t .trailer .few in
       let high = t .trailer .high in

@@ -10,8 +10,8 @@ use mathlib.Core.Path.{_≡_, refl, sym, _∙_}
 use native.Mathlib.Omega.{arith}
 use borrow.Author.Tests.{eqb-true, eqb-false}
 use lib.Dec.{eqb}
-use Rattle.wgsl.specs.Types.{Ty, Members, struct}
-use Rattle.wgsl.specs.File.{trailerOf, TypeEntry, MemberEntry, memberEntryFrom}
+use Rattle.wgsl.specs.Types.{Ty, Members, struct, structKind}
+use Rattle.wgsl.specs.File.{trailerOf, TypeEntry, MemberEntry, memberEntryFrom, memberEntryLength}
 use Rattle.wgsl.specs.Rule.{andThen, structMade, countOf}
 use Rattle.layout_values.specs.Value.{verdictOn, madeOf}
 use Rattle.layout_values.specs.declared.value.Value.{Value}
@@ -25,21 +25,21 @@ use Rattle.layout_structs.proofs.StructMade.{struct-members, place-first}
 use Rattle.layout_structs.proofs.Reached.{Reached, Coming, reached-past, reached-rule, reached-closes, reached-made}
 use Rattle.layout_table.specs.Table.{Upward}
 
-module _ {f : List ℕ} {k base members first count i : ℕ} {e : TypeEntry} {table : List (List ℕ)} {ts : List Ty} (u : Upward f k e base members table ts) (s : Spans members e first count) (run : SoFar) (d : Reached f ts (base + 12 * first) i count run) where
-  members-make : {x : Made} → 1 ≤ count → madeOf (e .reference) (andThen (membersAt f ts (base + 12 * first) count) (λ ms. some (struct k ms))) ≡ x → x ≡ madeOf (e .reference) (structMade f ts k e)
+module _ {f : List ℕ} {k base members first count i : ℕ} {e : TypeEntry} {table : List (List ℕ)} {ts : List Ty} (u : Upward f k e base members table ts) (s : Spans members e first count) (run : SoFar) (d : Reached f ts (base + memberEntryLength 1 * first) i count run) where
+  members-make : {x : Made} → 1 ≤ count → madeOf (e .reference) (andThen (membersAt f ts (base + memberEntryLength 1 * first) count) (λ ms. some (struct k ms))) ≡ x → x ≡ madeOf (e .reference) (structMade f ts k e)
   members-make {x} l m =
       let n = s .named l in
       let within : first + count ≤ trailerOf f .members = rw (← u .members-is) (s .within) in
       struct-members f ts k e (e .reference) first count x (n .first-is) (n .count-is) (n .zeros) within
-      (from-first f ts (e .reference) (base + 12 * first) count first k x m (place-first f base first (u .base-is)))
+      (from-first f ts (e .reference) (base + memberEntryLength 1 * first) count first k x m (place-first f base first (u .base-is)))
 
   -- ---- members that rule 5 refuses
 
-  pub members-past : {m : MemberEntry} → i < count → m ≡ memberEntryFrom f (base + 12 * first + 12 * i) → k ≤ m .type → Rule ≡ madeOf (e .reference) (structMade f ts k e)
+  pub members-past : {m : MemberEntry} → i < count → m ≡ memberEntryFrom f (base + memberEntryLength 1 * first + memberEntryLength 1 * i) → k ≤ m .type → Rule ≡ madeOf (e .reference) (structMade f ts k e)
   members-past l h past =
       members-make (omega arith) (reached-past table (e .reference) k run d (u .lower) l h past)
 
-  pub members-rule : {m : MemberEntry} {l : Value} (c : Coming f ts (base + 12 * first) i count m l) → stepped.Rule ≡ steppedTo (eqb (i + 1) count) (d .members) (c .type) m → Rule ≡ madeOf (e .reference) (structMade f ts k e)
+  pub members-rule : {m : MemberEntry} {l : Value} (c : Coming f ts (base + memberEntryLength 1 * first) i count m l) → stepped.Rule ≡ steppedTo (eqb (i + 1) count) (d .members) (c .type) m → Rule ≡ madeOf (e .reference) (structMade f ts k e)
   members-rule c h =
       let b : i < count = c .before in
       members-make (omega arith) (reached-rule run d c (e .reference) k h)
@@ -54,7 +54,7 @@ module _ {f : List ℕ} {k base members first count i : ℕ} {e : TypeEntry} {ta
         reached-closes run d last l (omega arith)
 
     -- what `finish` ensures, of these members
-    pub members-made : {x : Made} → e .kind ≡ 12 → (count ≡ 0 → x ≡ Rule) → (1 ≤ count → (j : ℕ) (ms : Members) → Closes run ms → countOf ms ≡ e .count → x ≡ verdictOn (e .reference) (struct j ms)) → x ≡ madeOf (e .reference) (structMade f ts k e)
+    pub members-made : {x : Made} → e .kind ≡ structKind → (count ≡ 0 → x ≡ Rule) → (1 ≤ count → (j : ℕ) (ms : Members) → Closes run ms → countOf ms ≡ e .count → x ≡ verdictOn (e .reference) (struct j ms)) → x ≡ madeOf (e .reference) (structMade f ts k e)
     members-made {x} kind empty all = go (eqb count 0) refl
       where
         go : (b : Bool) → eqb count 0 ≡ b → x ≡ madeOf (e .reference) (structMade f ts k e)

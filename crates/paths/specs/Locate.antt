@@ -4,18 +4,15 @@
 -- Definitions only. Assumes nothing.
 use Prim.Native.Nat.{ℕ}
 use mathlib.Core.Path.{_≡_}
-use mathlib.Core.Bool.{Bool, true, cond, not}
+use mathlib.Core.Bool.{true, cond}
 use mathlib.Core.List.{List}
 use mathlib.Core.Option.{some}
 use lib.ListN.{length, getElem?}
-use Rattle.wgsl.specs.Round.{withinLimit}
 use Rattle.wgsl.specs.Types.{Ty, isOpen, everywhere}
 use Rattle.wgsl.specs.Size.{hasLayout}
-use Rattle.wgsl.specs.Said.{Said, _>>=_, _>>_, refuse}
 use Rattle.wgsl.specs.Rule.{isWellFormed}
 use Rattle.wgsl.specs.Place.{tailOf, extentOf, elementsIn}
-use Rattle.wgsl.specs.Path.{Target}
-use Rattle.wgsl.specs.Call.{entryFor, isShort, targetIn, allowed}
+use Rattle.wgsl.specs.Call.{isShort}
 use Rattle.layout_values.specs.declared.value.Value.{Value}
 use Rattle.layout_values.specs.Value.{valueAt}
 use Rattle.walk_shapes.specs.Basis.{Basis}

@@ -2,15 +2,12 @@
 -- Definitions only. Assumes nothing.
 use Prim.Native.Nat.{ℕ, _+_, _≤_}
 use mathlib.Core.Path.{_≡_}
-use mathlib.Core.List.{List, [], _∷_}
 use mathlib.Core.Option.{some}
 use Rattle.wgsl.specs.Round.{limit}
 use Rattle.wgsl.specs.Types.{Scalar}
 use Rattle.wgsl.specs.Size.{widthOf}
-use Rattle.wgsl.specs.Said.{Said, good, _>>=_, _>>_, orRefuse}
-use Rattle.wgsl.specs.Place.{spanOf, wordPlaces, storeWords, checkWords}
+use Rattle.wgsl.specs.Place.{spanOf}
 use Rattle.wgsl.specs.Path as path
-use Rattle.wgsl.specs.Call.{Done, scalarAt}
 use Rattle.wgsl.specs.Shapes.{Sound}
 use Rattle.said.specs.declared.target.Target.{Target}
 use Rattle.said.specs.Target.{targetIs}

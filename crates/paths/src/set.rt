@@ -12,7 +12,6 @@ ghost use Prim.Native.Nat.{_+_, _≤_};
 ghost use lib.ListN.{length};
 ghost use Rattle.wgsl.specs.Round.{limit};
 ghost use Rattle.wgsl.specs.Types.{Scalar};
-ghost use Rattle.wgsl.specs.Place.{one};
 ghost use Rattle.wgsl.specs.Path as path;
 ghost use Rattle.wgsl.specs.Call.{answerOf, contentsOf, setCall, setTarget, setScalar};
 ghost use Rattle.said.specs.Answer.{saidNumber, Answered};

@@ -8,10 +8,8 @@ use mathlib.Core.Bool.{cond, not, _&&_}
 use mathlib.Core.List.{List}
 use lib.Dec.{eqb, leb}
 use lib.ListN.{length}
-use Rattle.wgsl.specs.Round.{withinLimit}
-use Rattle.wgsl.specs.Types.{Ty, runtimeKind}
-use Rattle.wgsl.specs.Size.{hasLayout, isStorable}
-use Rattle.wgsl.specs.Said.{Said, good, refused, _>>_, refuse}
+use Rattle.wgsl.specs.Types.{runtimeKind}
+use Rattle.wgsl.specs.Said.{Said, good, refused}
 use Rattle.said.specs.Refusal.{numberOf, placeOf}
 use Rattle.layout_values.specs.declared.value.Value.{Value}
 use Rattle.layout_values.specs.Value.{valueAt, wordsIn}

@@ -6,14 +6,10 @@ use Prim.Native.Nat.{ℕ, _+_, _*_, _<_, _≤_}
 use mathlib.Core.Path.{_≡_}
 use mathlib.Core.Bool.{true}
 use mathlib.Core.List.{List, _++_}
-use lib.Dec.{ltb}
-use lib.ListN.{length, drop}
 use Rattle.wgsl.specs.Types.{Ty, runtime, everywhere}
 use Rattle.wgsl.specs.Size.{isStorable}
-use Rattle.wgsl.specs.Said.{Said, good, _>>_, refuse}
 use Rattle.wgsl.specs.Rule.{isWellFormed}
-use Rattle.wgsl.specs.Place.{extentOf, elementsIn, Shape, shapeOf, spanOf, placesOf, places, wordCount, written, wordsRead, checkWords}
-use Rattle.wgsl.specs.Call.{Done, isShort, elementsFor, isWrongCount}
+use Rattle.wgsl.specs.Place.{extentOf, Shape, shapeOf, spanOf, placesOf, places, wordCount}
 use Rattle.wgsl.specs.Shapes.{Opened}
 use Rattle.layout_values.specs.declared.value.Value.{Value}
 use Rattle.layout_values.specs.Value.{valueOf}

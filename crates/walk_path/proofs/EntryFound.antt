@@ -12,7 +12,7 @@ use native.Mathlib.Omega.{arith}
 use borrow.Author.Tests.{eq-eqb, ne-eqb}
 use lib.ListN.{length, getElem?}
 use Rattle.wgsl.specs.Round.{up}
-use Rattle.wgsl.specs.Types.{Scalar, Ty, scalar, vector, matrix, array, runtime, Members, isOpen, scalarKind, kindOf}
+use Rattle.wgsl.specs.Types.{Scalar, Ty, scalar, vector, matrix, array, runtime, Members, isOpen, scalarKind, kindOf, structKind}
 use Rattle.wgsl.specs.Size.{both, isPresent, present, widthOf, vectorSize, vectorAlign, sizeOf, alignOf, hasLayout}
 use Rattle.wgsl.specs.File.{typeEntryAt}
 use Rattle.wgsl.specs.Place.{Shape, one, parts, column, shapeOf, fieldsOf, spanOf}
@@ -45,7 +45,7 @@ pub data EntryFound (ts : List Ty) (table : List (List ℕ)) (n e : ℕ) : Shape
   an-atomic : (s : Scalar) → valueAt table e .kind ≡ 11 → valueAt table e .reference < length table → valueAt table (valueAt table e .reference) .kind ≡ scalarKind s → EntryFound ts table n e (one s)
   -- kinds 7 to 10
   of-parts : {count stride : ℕ} {y : Shape} → 7 ≤ valueAt table e .kind → valueAt table e .kind ≤ 10 → partsAt table n e ≡ count → valueAt table e .stride ≡ stride → Part ts table n (valueAt table e) y → EntryFound ts table n e (parts count stride y)
-  of-members : (z : ℕ) (end : Option ℕ) (ms : Members) → valueAt table e .kind ≡ 12 → EntryFound ts table n e (fieldsOf n z end ms)
+  of-members : (z : ℕ) (end : Option ℕ) (ms : Members) → valueAt table e .kind ≡ structKind → EntryFound ts table n e (fieldsOf n z end ms)
 
 -- ---- types with a size
 

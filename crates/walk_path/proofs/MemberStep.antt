@@ -12,11 +12,11 @@ use mathlib.Core.Path.{_≡_, refl, ap, _∙_}
 use native.Mathlib.Omega.{arith}
 use lib.ListN.{length, take, getElem?}
 use Rattle.wgsl.specs.Round.{limit}
-use Rattle.wgsl.specs.Types.{Ty, scalar, vector, matrix, array, runtime, atomic, struct, Members, no-more, isRuntime, isOpen, kindOf}
+use Rattle.wgsl.specs.Types.{Ty, scalar, vector, matrix, array, runtime, atomic, struct, Members, no-more, isRuntime, isOpen, kindOf, structKind}
 use Rattle.wgsl.specs.Types as types
 use Rattle.wgsl.specs.Size.{isPresent, present, sizeOf, alignOf, hasLayout}
 use Rattle.wgsl.specs.Said.{good, refused}
-use Rattle.wgsl.specs.File.{trailerOf, memberEntryAt, givenSize, givenAlign, typeEntryAt}
+use Rattle.wgsl.specs.File.{trailerOf, memberEntryAt, givenSize, givenAlign, typeEntryAt, memberEntryLength}
 use Rattle.wgsl.specs.Rule.{isLast, countOf, membersFrom}
 use Rattle.wgsl.specs.Place.{Shape, field, extentOf, shapeOf, column, fieldsOf, spanOf}
 use Rattle.wgsl.specs.Path.{member, enter}
@@ -52,7 +52,7 @@ pub record MemberFound (ts : List Ty) (ms : List ℕ) (table : List (List ℕ)) 
 module _ {f : List ℕ} {ts : List Ty} {ms : List ℕ} {table : List (List ℕ)} (basis : Basis f ts ms table) (n e : ℕ) where
   -- ---- a member that is there
 
-  first-found : {m lo : ℕ} {t : Ty} {others : Members} (z : ℕ) → Read f ts table e m t → Ruled (some lo) (types.member t (givenSize (memberEntryAt f m)) (givenAlign (memberEntryAt f m)) others) → MemberFound ts (memberBytes f) table n 12 (m * 12) lo 0 (fieldsOf n z (some lo) (types.member t (givenSize (memberEntryAt f m)) (givenAlign (memberEntryAt f m)) others))
+  first-found : {m lo : ℕ} {t : Ty} {others : Members} (z : ℕ) → Read f ts table e m t → Ruled (some lo) (types.member t (givenSize (memberEntryAt f m)) (givenAlign (memberEntryAt f m)) others) → MemberFound ts (memberBytes f) table n 12 (m * memberEntryLength 1) lo 0 (fieldsOf n z (some lo) (types.member t (givenSize (memberEntryAt f m)) (givenAlign (memberEntryAt f m)) others))
   unfolding SlotsAsk slotIn slotAt hasLayout fieldsOf enter
   first-found {m} {lo} {t} {others} z r x =
       let v = first-ruled x in
@@ -67,11 +67,11 @@ module _ {f : List ℕ} {ts : List Ty} {ms : List ℕ} {table : List (List ℕ)}
         enters = λ j. rw (first-start r x);
       }
 
-  later-found : (m end : ℕ) {i : ℕ} {offset : ℕ} {y rest : Shape} → SlotAsks (memberBytes f) table (m * 12) end → MemberFound ts (memberBytes f) table n 12 (suc m * 12) (slotAt (memberBytes f) table (m * 12) end .end) i rest → MemberFound ts (memberBytes f) table n 12 (m * 12) end (suc i) (field offset y rest)
+  later-found : (m end : ℕ) {i : ℕ} {offset : ℕ} {y rest : Shape} → SlotAsks (memberBytes f) table (m * memberEntryLength 1) end → MemberFound ts (memberBytes f) table n 12 (suc m * memberEntryLength 1) (slotAt (memberBytes f) table (m * memberEntryLength 1) end .end) i rest → MemberFound ts (memberBytes f) table n 12 (m * memberEntryLength 1) end (suc i) (field offset y rest)
   unfolding SlotsAsk slotIn enter
   later-found m end {i} {rest = rest} p x =
-      let next : suc m * 12 ≡ m * 12 + 12 = omega arith in
-      let on : MemberFound ts (memberBytes f) table n 12 (m * 12 + 12) (slotAt (memberBytes f) table (m * 12) end .end) i rest = rw next at x in
+      let next : suc m * memberEntryLength 1 ≡ m * memberEntryLength 1 + 12 = omega arith in
+      let on : MemberFound ts (memberBytes f) table n 12 (m * memberEntryLength 1 + 12) (slotAt (memberBytes f) table (m * memberEntryLength 1) end .end) i rest = rw next at x in
       record {
         slots-ask = (p, on .slots-ask);
         type = on .type;
@@ -82,7 +82,7 @@ module _ {f : List ℕ} {ts : List Ty} {ms : List ℕ} {table : List (List ℕ)}
       }
 
   -- one member, in front of those after it
-  more-found : (c m lo z i : ℕ) (t : Ty) (others : Members) → Read f ts table e m t → membersFrom f (take e ts) c (suc m) ≡ some others → Ruled (some lo) (types.member t (givenSize (memberEntryAt f m)) (givenAlign (memberEntryAt f m)) others) → i < suc c → ((lo′ i′ : ℕ) → Ruled (some lo′) others → i′ < c → MemberFound ts (memberBytes f) table n 12 (suc m * 12) lo′ i′ (fieldsOf n z (some lo′) others)) → MemberFound ts (memberBytes f) table n 12 (m * 12) lo i (fieldsOf n z (some lo) (types.member t (givenSize (memberEntryAt f m)) (givenAlign (memberEntryAt f m)) others))
+  more-found : (c m lo z i : ℕ) (t : Ty) (others : Members) → Read f ts table e m t → membersFrom f (take e ts) c (suc m) ≡ some others → Ruled (some lo) (types.member t (givenSize (memberEntryAt f m)) (givenAlign (memberEntryAt f m)) others) → i < suc c → ((lo′ i′ : ℕ) → Ruled (some lo′) others → i′ < c → MemberFound ts (memberBytes f) table n 12 (suc m * memberEntryLength 1) lo′ i′ (fieldsOf n z (some lo′) others)) → MemberFound ts (memberBytes f) table n 12 (m * memberEntryLength 1) lo i (fieldsOf n z (some lo) (types.member t (givenSize (memberEntryAt f m)) (givenAlign (memberEntryAt f m)) others))
   unfolding fieldsOf
   more-found c m lo z zero t others r are x h later = first-found z r x
   more-found c m lo z (suc i) t others r are x h later =
@@ -90,12 +90,12 @@ module _ {f : List ℕ} {ts : List Ty} {ms : List ℕ} {table : List (List ℕ)}
       (λ (p : isPresent (sizeOf t) ≡ true).
       let next = first-end r x p in
       later-found m lo (first-placeable r x)
-      (rw next (later (slotAt (memberBytes f) table (m * 12) lo .end) i (rw next at (rest-ruled x)) (omega arith))))
+      (rw next (later (slotAt (memberBytes f) table (m * memberEntryLength 1) lo .end) i (rw next at (rest-ruled x)) (omega arith))))
       (λ (p : (isLast others ≡ true) × (isRuntime t ≡ true)).
       absurd (omega (arith, last-none f (take e ts) c (suc m) others are (p .0) .0)))
       (first-ruled x .sized-or-last)
 
-  found : (c m lo z i : ℕ) (members : Members) → membersFrom f (take e ts) c m ≡ some members → m + c ≤ trailerOf f .members → Ruled (some lo) members → i < c → MemberFound ts (memberBytes f) table n 12 (m * 12) lo i (fieldsOf n z (some lo) members)
+  found : (c m lo z i : ℕ) (members : Members) → membersFrom f (take e ts) c m ≡ some members → m + c ≤ trailerOf f .members → Ruled (some lo) members → i < c → MemberFound ts (memberBytes f) table n 12 (m * memberEntryLength 1) lo i (fieldsOf n z (some lo) members)
   unfolding membersFrom
   found zero m lo z i members are within x h = absurd (omega arith)
   found (suc c) m lo z i members are within x h =
@@ -117,7 +117,7 @@ past n z (suc i) end (types.member t size align members) h j = past n z i _ memb
 
 -- ---- none outside a struct
 
-outside : (n i : ℕ) (t : Ty) → (kindOf t ≡ 12 → ⊥) → (j : ℕ) → enter j (shapeOf n t) (member i) ≡ refused 11 j
+outside : (n i : ℕ) (t : Ty) → (kindOf t ≡ structKind → ⊥) → (j : ℕ) → enter j (shapeOf n t) (member i) ≡ refused 11 j
 unfolding kindOf shapeOf column enter
 outside n i (scalar s) h j = refl
 outside n i (vector c s) h j = refl
@@ -147,7 +147,7 @@ module _ {f : List ℕ} {ts : List Ty} {ms : List ℕ} {table : List (List ℕ)}
     stride = ap (λ (l : Value). l .stride) layout
 
   -- A struct's layout names its members.
-  struct-found : {t : Ty} → Refers f ts e (typeEntryAt f e) t → getElem? ts e ≡ some t → valueAt table e .kind ≡ 12 → (i : ℕ) → i < valueAt table e .count → MemberFound ts ms table n (valueAt table e .stride) (valueAt table e .reference * valueAt table e .stride) 0 i (shapeOf n t)
+  struct-found : {t : Ty} → Refers f ts e (typeEntryAt f e) t → getElem? ts e ≡ some t → valueAt table e .kind ≡ structKind → (i : ℕ) → i < valueAt table e .count → MemberFound ts ms table n (valueAt table e .stride) (valueAt table e .reference * valueAt table e .stride) 0 i (shapeOf n t)
   unfolding kindOf shapeOf
   struct-found (to-none s) there is i h = absurd (omega (arith, kind-there basis e (scalar s) there, kind-bounded s))
   struct-found (to-vector s down below) there is i h = absurd (omega (arith, kind-there basis e (vector _ s) there))
@@ -173,7 +173,7 @@ module _ {f : List ℕ} {ts : List Ty} {ms : List ℕ} {table : List (List ℕ)}
 
 module _ {f : List ℕ} {ts : List Ty} {ms : List ℕ} {table : List (List ℕ)} (basis : Basis f ts ms table) where
   -- Outside a struct there is no member,
-  pub member-outside : {n e : ℕ} {x : Shape} → Stands ts n (Entry e) x → (valueAt table e .kind ≡ 12 → ⊥) → (i j : ℕ) → enter j x (member i) ≡ refused 11 j
+  pub member-outside : {n e : ℕ} {x : Shape} → Stands ts n (Entry e) x → (valueAt table e .kind ≡ structKind → ⊥) → (i j : ℕ) → enter j x (member i) ≡ refused 11 j
   member-outside {n} (at-entry {e} {t} there laid) h i j = outside n i t (λ q. h (kind-there basis e t there ∙ q)) j
 
   -- nor past the last one;
@@ -181,7 +181,7 @@ module _ {f : List ℕ} {ts : List Ty} {ms : List ℕ} {table : List (List ℕ)}
   member-past {n} (at-entry {e} {t} there laid) i h j = struct-past basis n e (basis-refers basis e t there) there i h j
 
   -- any other is there.
-  pub member-found : {n e : ℕ} {x : Shape} → Stands ts n (Entry e) x → {l : Value} → l ≡ valueAt table e → l .kind ≡ 12 → (i : ℕ) → i < l .count → MemberFound ts ms table n (l .stride) (l .reference * l .stride) 0 i x
+  pub member-found : {n e : ℕ} {x : Shape} → Stands ts n (Entry e) x → {l : Value} → l ≡ valueAt table e → l .kind ≡ structKind → (i : ℕ) → i < l .count → MemberFound ts ms table n (l .stride) (l .reference * l .stride) 0 i x
   member-found {n} (at-entry {e} {t} there laid) same is i h =
       rw same (struct-found basis n e (basis-refers basis e t there) there (rw same at is) i (rw same at h))
 

@@ -12,7 +12,7 @@ use mathlib.Core.Path.{_≡_, refl, sym, ap, _∙_}
 use native.Mathlib.Omega.{arith}
 use borrow.Author.Tests.{lt-ltb}
 use lib.ListN.{getElem?}
-use Rattle.wgsl.specs.Types.{Ty, scalar, vector, matrix, array, runtime, atomic, struct, scalarKind, kindOf}
+use Rattle.wgsl.specs.Types.{Ty, scalar, vector, matrix, array, runtime, atomic, struct, scalarKind, kindOf, structKind}
 use Rattle.wgsl.specs.Size.{present, strideOf, isStorable}
 use Rattle.wgsl.specs.File.{typeEntryAt}
 use Rattle.wgsl.specs.Place.{parts, shapeOf}
@@ -42,7 +42,7 @@ module _ {f : List ℕ} {ts : List Ty} {ms : List ℕ} {table : List (List ℕ)}
   element-packed : (r : ℕ) (u : Ty) → getElem? ts r ≡ some u → packedAs (valueAt table r) ≡ packedOf u
   element-packed r u there = rw (basis-layout basis r u there) (packed-value (typeEntryAt f r .reference) u)
 
-  value-width : (e r : ℕ) (t : Ty) → Over ts e r t → (kindOf t ≡ 12 → ⊥) → partWidth table (valueOf r t) ≡ partRun t
+  value-width : (e r : ℕ) (t : Ty) → Over ts e r t → (kindOf t ≡ structKind → ⊥) → partWidth table (valueOf r t) ≡ partRun t
   unfolding Over partWidth valueOf kindOf partRun narrowOf
   value-width e r (scalar s) o h =
       let low : scalarKind s < 9 = omega (arith, kind-bounded s) in
@@ -54,7 +54,7 @@ module _ {f : List ℕ} {ts : List Ty} {ms : List ℕ} {table : List (List ℕ)}
   value-width e r (atomic s) o h = refl
   value-width e r (struct k ns) o h = absurd (h refl)
 
-  parts-count : (t : Ty) → (kindOf t ≡ 12 → ⊥) → partsOf t .count ≡ partsIn 0 t
+  parts-count : (t : Ty) → (kindOf t ≡ structKind → ⊥) → partsOf t .count ≡ partsIn 0 t
   unfolding partsOf partsIn kindOf
   parts-count (scalar s) h = refl
   parts-count (vector n s) h = refl
@@ -64,7 +64,7 @@ module _ {f : List ℕ} {ts : List Ty} {ms : List ℕ} {table : List (List ℕ)}
   parts-count (atomic s) h = refl
   parts-count (struct k ns) h = absurd (h refl)
 
-  value-says : (e r : ℕ) (t : Ty) → Over ts e r t → (kindOf t ≡ 12 → ⊥) → Kept t → Says (valueOf r t) 0 t
+  value-says : (e r : ℕ) (t : Ty) → Over ts e r t → (kindOf t ≡ structKind → ⊥) → Kept t → Says (valueOf r t) 0 t
   unfolding valueOf
   value-says e r t o h k =
       record {
@@ -87,7 +87,7 @@ module _ {f : List ℕ} {ts : List Ty} {ms : List ℕ} {table : List (List ℕ)}
   reference-is e t there = ap (λ (l : Value). l .reference) (basis-layout basis e t there)
 
   -- and says the parts of its type, unless that is a struct.
-  pub says-at : (e : ℕ) (t : Ty) → getElem? ts e ≡ some t → (kindOf t ≡ 12 → ⊥) → Kept t → Says (valueAt table e) 0 t
+  pub says-at : (e : ℕ) (t : Ty) → getElem? ts e ≡ some t → (kindOf t ≡ structKind → ⊥) → Kept t → Says (valueAt table e) 0 t
   says-at e t there plain x =
       rw (basis-layout basis e t there) (value-says e (typeEntryAt f e .reference) t (over-at basis e t there) plain x)
 

@@ -11,7 +11,7 @@ use mathlib.Core.Option.{some}
 use mathlib.Core.Path.{_≡_, refl, sym, ap, ap₂, _∙_}
 use native.Mathlib.Omega.{arith}
 use lib.ListN.{getElem?}
-use Rattle.wgsl.specs.Types.{Ty, scalar, vector, matrix, array, runtime, atomic, struct, Members, kindOf}
+use Rattle.wgsl.specs.Types.{Ty, scalar, vector, matrix, array, runtime, atomic, struct, Members, kindOf, structKind}
 use Rattle.wgsl.specs.Size.{present, strideOf, isStorable}
 use Rattle.wgsl.specs.File.{typeEntryAt}
 use Rattle.wgsl.specs.Rule.{countOf}
@@ -68,14 +68,14 @@ module _ {f : List ℕ} {ts : List Ty} {ms : List ℕ} {table : List (List ℕ)}
 
   module _ (e : ℕ) (below : (i : ℕ) (u : Ty) → i < e → getElem? ts i ≡ some u → Kept u → Tree (memberBytes f) table i (shapeOf 0 u)) where
     -- one whose parts are runs
-    runs-tree : (t : Ty) → getElem? ts e ≡ some t → Kept t → (kindOf t ≡ 12 → ⊥) → 0 < partRun t → Tree (memberBytes f) table e (shapeOf 0 t)
+    runs-tree : (t : Ty) → getElem? ts e ≡ some t → Kept t → (kindOf t ≡ structKind → ⊥) → 0 < partRun t → Tree (memberBytes f) table e (shapeOf 0 t)
     runs-tree t there x plain h =
         let says = says-at basis e t there plain x in
         many (valued e t there x) (λ q. plain (sym (kind-is basis e t there) ∙ q)) (λ q. absurd (omega (arith, says .width-is)))
         (runs (runs-say basis says x h))
 
     -- one whose parts are elements of a lower entry's type
-    element-tree : (t u : Ty) → getElem? ts e ≡ some t → Kept t → (kindOf t ≡ 12 → ⊥) → Element u → typeEntryAt f e .reference < e → getElem? ts (typeEntryAt f e .reference) ≡ some u → narrowOf t ≡ narrowOf u → partsOf t .words ≡ fixedWords u → present (partsOf t .stride) ≡ present (strideOf u) → shapeOf 0 t ≡ parts (partsIn 0 t) (present (strideOf u)) (shapeOf 0 u) → Tree (memberBytes f) table e (shapeOf 0 t)
+    element-tree : (t u : Ty) → getElem? ts e ≡ some t → Kept t → (kindOf t ≡ structKind → ⊥) → Element u → typeEntryAt f e .reference < e → getElem? ts (typeEntryAt f e .reference) ≡ some u → narrowOf t ≡ narrowOf u → partsOf t .words ≡ fixedWords u → present (partsOf t .stride) ≡ present (strideOf u) → shapeOf 0 t ≡ parts (partsIn 0 t) (present (strideOf u)) (shapeOf 0 u) → Tree (memberBytes f) table e (shapeOf 0 t)
     element-tree t u there x plain y down found narrow unit stride shape =
         let same = reference-is basis e t there in
         many (valued e t there x) (λ q. plain (sym (kind-is basis e t there) ∙ q)) (λ q. omega arith)

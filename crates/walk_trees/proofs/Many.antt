@@ -10,6 +10,7 @@ use native.Mathlib.Omega.{arith}
 use borrow.Author.Tests.{eqb-true}
 use lib.Dec.{eqb}
 use Rattle.wgsl.specs.Place.{Shape, parts}
+use Rattle.wgsl.specs.Types.{structKind}
 use Rattle.layout_values.specs.declared.value.Value.{Value}
 use Rattle.layout_values.specs.Value.{valueAt}
 use Rattle.walk_trees.specs.Slot.{partWidth, Referring}
@@ -20,11 +21,11 @@ pub tree-valued : {ms : List ℕ} {table : List (List ℕ)} {e : ℕ} {x : Shape
 tree-valued (many R k l m) = R
 tree-valued (members R k l) = R
 
-pub tree-many : {ms : List ℕ} {table : List (List ℕ)} {e : ℕ} {x : Shape} → Tree ms table e x → (valueAt table e .kind ≡ 12 → ⊥) → Many ms table (valueAt table e) x
+pub tree-many : {ms : List ℕ} {table : List (List ℕ)} {e : ℕ} {x : Shape} → Tree ms table e x → (valueAt table e .kind ≡ structKind → ⊥) → Many ms table (valueAt table e) x
 tree-many (many R k l m) h = m
 tree-many (members R k l) h = absurd (h k)
 
-pub tree-left : {ms : List ℕ} {table : List (List ℕ)} {e : ℕ} {x : Shape} → Tree ms table e x → valueAt table e .kind ≡ 12 → Left ms table e (valueAt table e .count) (valueAt table e .reference * valueAt table e .stride) 0 x
+pub tree-left : {ms : List ℕ} {table : List (List ℕ)} {e : ℕ} {x : Shape} → Tree ms table e x → valueAt table e .kind ≡ structKind → Left ms table e (valueAt table e .count) (valueAt table e .reference * valueAt table e .stride) 0 x
 tree-left (many R k l m) h = absurd (k h)
 tree-left (members R k l) h = l
 
@@ -60,7 +61,7 @@ cond-below : (b : Bool) (a n : ℕ) → (b ≡ true → a < n) → 0 < n → con
 cond-below true a n h p = h refl
 cond-below false a n h p = p
 
-pub depth-below : {ms : List ℕ} {table : List (List ℕ)} {e : ℕ} {x : Shape} → Tree ms table e x → (valueAt table e .kind ≡ 12 → ⊥) → depth table (valueAt table e) < 5 * e + 4
+pub depth-below : {ms : List ℕ} {table : List (List ℕ)} {e : ℕ} {x : Shape} → Tree ms table e x → (valueAt table e .kind ≡ structKind → ⊥) → depth table (valueAt table e) < 5 * e + 4
 depth-below {table} {e} (many R k l m) h =
     cond-below (eqb (partWidth table (valueAt table e)) 0) (5 * valueAt table e .reference + 5) (5 * e + 4)
     (λ b. omega (arith, l (eqb-true (partWidth table (valueAt table e)) 0 b))) (omega arith)

@@ -11,6 +11,7 @@ use native.Mathlib.Numerals.{sub-one}
 use native.Mathlib.Omega.{arith}
 use Rattle.wgsl.specs.Place.{Shape, parts, field, spanOf, Place, repeated, placesOf}
 use Rattle.wgsl.specs.Shapes.{shapeWords}
+use Rattle.wgsl.specs.Types.{structKind}
 use Rattle.wgsl.proofs.Count.{places-words}
 use Rattle.runs.specs.Fold.{overPlaces}
 use Rattle.runs.proofs.OverPlaces.{over-append, over-all, over-next, over-none}
@@ -65,7 +66,7 @@ pub record Walk {S : Type 0} (f : Place → ℕ → S → S) (ms : List ℕ) (ta
   pub room : Room rest at bytes next ws
   pub same : (x : Shape) → Tree ms table e x → overPlaces f (placesOf rest at) next s ≡ overPlaces f (placesOf x at) k s₀
 
-pub walk-start : {S : Type 0} (f : Place → ℕ → S → S) {ms : List ℕ} {table : List (List ℕ)} {e at bytes k ws : ℕ} {x : Shape} (s₀ : S) → Tree ms table e x → valueAt table e .kind ≡ 12 → Room x at bytes k ws → Walk f ms table e at bytes k ws s₀ (valueAt table e .count) (valueAt table e .reference * valueAt table e .stride) 0 k s₀
+pub walk-start : {S : Type 0} (f : Place → ℕ → S → S) {ms : List ℕ} {table : List (List ℕ)} {e at bytes k ws : ℕ} {x : Shape} (s₀ : S) → Tree ms table e x → valueAt table e .kind ≡ structKind → Room x at bytes k ws → Walk f ms table e at bytes k ws s₀ (valueAt table e .count) (valueAt table e .reference * valueAt table e .stride) 0 k s₀
 walk-start f {at} {k} {x} s₀ t kind room =
     record {
       rest = x;

@@ -5,7 +5,6 @@
 use Prim.Native.Nat.{ℕ, zero, suc, _+_, _*_, _<_, _≤_}
 use mathlib.Core.Bool.{cond}
 use mathlib.Core.List.{List}
-use mathlib.Core.Option.{Option, some}
 use lib.Dec.{eqb, ltb}
 use lib.ListN.{length}
 use Rattle.layout_members.specs.Given.{orOwn}

@@ -10,6 +10,7 @@ use lib.ListN.{length, getD, set, length-set}
 use lib.Seq.{getD-set-same, getD-set-other}
 use Rattle.wgsl.specs.Place.{Shape, parts, field, spanOf, Place, repeated, placesOf}
 use Rattle.wgsl.specs.Shapes.{shapeWords}
+use Rattle.wgsl.specs.Types.{structKind}
 use Rattle.wgsl.proofs.Count.{places-words}
 use Rattle.runs.specs.Fold.{overPlaces}
 use Rattle.runs.specs.Run.{runPlaces}
@@ -39,7 +40,7 @@ pub record Finding (ms : List ℕ) (table : List (List ℕ)) (e count first step
   pub long : length l ≡ 16
   pub found : (y : Shape) → Tree ms table e y → SpotsFound ms table e count first step j end l y
 
-pub finding-start : (ms : List ℕ) (table : List (List ℕ)) (e : ℕ) (l : List ℕ) → valueAt table e .kind ≡ 12 → length l ≡ 16 → Finding ms table e (valueAt table e .count) (valueAt table e .reference * valueAt table e .stride) (valueAt table e .stride) 0 0 l
+pub finding-start : (ms : List ℕ) (table : List (List ℕ)) (e : ℕ) (l : List ℕ) → valueAt table e .kind ≡ structKind → length l ≡ 16 → Finding ms table e (valueAt table e .count) (valueAt table e .reference * valueAt table e .stride) (valueAt table e .stride) 0 0 l
 finding-start ms table e l kind long =
     let c : valueAt table e .count - 0 ≡ valueAt table e .count = omega arith in
     let m : valueAt table e .reference * valueAt table e .stride + 0 * valueAt table e .stride ≡ valueAt table e .reference * valueAt table e .stride = omega arith in

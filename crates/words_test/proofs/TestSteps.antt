@@ -11,8 +11,9 @@ use borrow.Author.Tests.{lt-ltb}
 use lib.ListN.{length, getD}
 use Rattle.wgsl.specs.Number.{load}
 use Rattle.wgsl.specs.Said.{Said, good, _>>_, refuse}
-use Rattle.wgsl.specs.File.{memberEntryFrom}
+use Rattle.wgsl.specs.File.{memberEntryFrom, memberFieldsLength}
 use Rattle.wgsl.specs.Place.{Shape, one, parts, field, whole, spanOf, Place, wordPlaces, repeated, placesOf, canHold}
+use Rattle.wgsl.specs.Types.{structKind}
 use Rattle.runs.specs.Fold.{overPlaces, testing}
 use Rattle.runs.specs.Run.{runPlaces, partPlaces}
 use Rattle.runs.proofs.OverPlaces.{widths, tested-widths, tested-refused, tested-moved}
@@ -164,7 +165,7 @@ pub record Scanned (ms : List ℕ) (table : List (List ℕ)) (ws : List ℕ) (e 
   pub end : ℕ
   pub walk : Walk (testing ws) ms table e 0 bytes k (length ws) (good tt) left m end next (good tt)
 
-pub scanned-start : {ms : List ℕ} {table : List (List ℕ)} (ws : List ℕ) {e k left m : ℕ} {x : Shape} → Tree ms table e x → valueAt table e .kind ≡ 12 → WordRoom x k (length ws) → left ≡ valueAt table e .count → m ≡ valueAt table e .reference * valueAt table e .stride → Scanned ms table ws e k left m k
+pub scanned-start : {ms : List ℕ} {table : List (List ℕ)} (ws : List ℕ) {e k left m : ℕ} {x : Shape} → Tree ms table e x → valueAt table e .kind ≡ structKind → WordRoom x k (length ws) → left ≡ valueAt table e .count → m ≡ valueAt table e .reference * valueAt table e .stride → Scanned ms table ws e k left m k
 scanned-start ws {x} t kind room c f =
     rw (c, f)
     (record {
@@ -179,7 +180,7 @@ module _ {ms : List ℕ} {table : List (List ℕ)} {ws : List ℕ} {e k left m n
     scanned-room : MemberRoom ms table m (now .end) (walk-first (now .walk) h .y) 0 (now .bytes) next (length ws)
     scanned-room = walk-room (now .walk) h
 
-    pub scanned-inside : m + 12 ≤ length ms
+    pub scanned-inside : m + memberFieldsLength ≤ length ms
     scanned-inside = scanned-room .slot-asks .inside
 
     module _ {ty : ℕ} (read : ty ≡ load 2 ms m) where

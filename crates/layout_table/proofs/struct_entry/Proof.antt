@@ -9,6 +9,7 @@ use lib.Dec.{eqb}
 use lib.ListN.{length}
 use denote.Ref.{now}
 use Rattle.wgsl.specs.Types.{Ty}
+use Rattle.wgsl.specs.File.{memberEntryLength}
 use Rattle.file.specs.Fields.{memberIs}
 use Rattle.layout_structs.specs.SoFar.{Lower, steppedTo}
 use Rattle.layout_structs.proofs.Reached.{Reached, Coming, reached-none, coming, reached-meets, reached-next}
@@ -32,7 +33,7 @@ named l = l .before .before .before
 -- the members lie within the file
 inside : (s : tie.After-span-of Inv-loop μ-loop) →
     let a = s .before .before .args in
-    a .base + 12 * (s .span-of .result .first + s .span-of .result .count) ≤ length (now (a .f))
+    a .base + memberEntryLength 1 * (s .span-of .result .first + s .span-of .result .count) ≤ length (now (a .f))
 inside s =
     let u = s .before .before .pre .1 .1 in
     let w = s .span-of .ensures .within in

@@ -12,6 +12,7 @@ use denote.Ref.{now}
 use lib.ListN.{length}
 use Rattle.wgsl.specs.Number.{load}
 use Rattle.wgsl.specs.Place.{spanOf}
+use Rattle.wgsl.specs.Types.{structKind}
 use Rattle.runs.specs.declared.Scan.the-variants.{Fine}
 use Rattle.layout_values.specs.declared.value.Value.{Value}
 use Rattle.layout_values.specs.Value.{valueAt, wordsIn}
@@ -107,7 +108,7 @@ entry-scan-struct-requires t c κs =
     let kind = ap (λ (r : Value). r .kind) (sym (c .before .before .before .before .value-at .ensures)) ∙ c .if2 .taken in
     (omega (arith, s .pre .0), (s .pre .1 .0, s .pre .1 .1, kind, s .pre .1 .2))
 
-entry-other : (t : ℕ) (c : entry-lts.Else2 (entry-claims t) (entry-at t) entry.Post) → valueAt (now (c .before .before .before .before .before .before .before .args .table)) (c .before .before .before .before .before .before .before .args .e) .kind ≡ 12 → ⊥
+entry-other : (t : ℕ) (c : entry-lts.Else2 (entry-claims t) (entry-at t) entry.Post) → valueAt (now (c .before .before .before .before .before .before .before .args .table)) (c .before .before .before .before .before .before .before .args .e) .kind ≡ structKind → ⊥
 entry-other t c h = c .if2 .left (ap (λ (r : Value). r .kind) (c .before .before .before .before .value-at .ensures) ∙ h)
 
 entry-scan-many-requires : (t : ℕ) → entry-lts.Need-scan-many-requires (entry-claims t) (entry-at t) entry.Post

@@ -1,5 +1,5 @@
 -- The target that `locate` finds has room for a scalar (proofs/Roomy); what is left of the call (proofs/SetTarget). Assumes nothing.
-use mathlib.Core.Path.{_≡_, refl, ap, sym, _∙_}
+use mathlib.Core.Path.{_≡_, refl}
 use mathlib.Core.Bool.{true}
 use denote.Ref.{now}
 use borrow.Author.Needs.{needs}

@@ -1,6 +1,6 @@
 -- By what is found (proofs/ReadType). Assumes nothing.
 use Prim.Native.Nat.{_≤_}
-use mathlib.Core.Path.{ap, sym, _∙_}
+use mathlib.Core.Path.{sym, _∙_}
 use native.Mathlib.Omega.{arith}
 use denote.Ref.{now}
 use lib.ListN.{length}

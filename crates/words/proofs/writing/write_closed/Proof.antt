@@ -1,5 +1,5 @@
 -- By what is found (proofs/WriteType).
-use mathlib.Core.Path.{_≡_, ap, sym, _∙_}
+use mathlib.Core.Path.{_≡_, _∙_}
 use native.Mathlib.Omega.{arith}
 use Rattle.said.proofs.Answered.{answered-refused, answered-same}
 use Rattle.layout_values.specs.Value.{wordsIn}

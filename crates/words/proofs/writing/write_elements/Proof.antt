@@ -1,6 +1,6 @@
 -- By where the elements end (proofs/WriteType).
 use Prim.Native.Nat.{_≤_}
-use mathlib.Core.Path.{_≡_, ap, sym, _∙_}
+use mathlib.Core.Path.{_≡_, sym, _∙_}
 use native.Mathlib.Omega.{arith}
 use denote.Ref.{now}
 use lib.ListN.{length}

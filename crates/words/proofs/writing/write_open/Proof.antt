@@ -1,5 +1,5 @@
 -- By the elements that the words fill (proofs/WriteType).
-use mathlib.Core.Path.{ap, sym, _∙_}
+use mathlib.Core.Path.{sym, _∙_}
 use denote.Ref.{now}
 use Rattle.said.proofs.Answered.{answered-refused, answered-same}
 use Rattle.wgsl.specs.Types.{Ty}

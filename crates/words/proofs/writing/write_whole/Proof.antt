@@ -1,5 +1,5 @@
 -- By what the scan says (crates/walk_decide, proofs/CallSteps).
-use mathlib.Core.Path.{ap, sym, _∙_}
+use mathlib.Core.Path.{_∙_}
 use native.Mathlib.Omega.{arith}
 use Rattle.said.proofs.Answered.{answered-refused, answered-done}
 use Rattle.walk_decide.proofs.CallSteps.{stored-bad, stored-done}
