@@ -112,7 +112,7 @@ unfolding inserted putAt
 insert-none e new offset count b =
     rw (b, add-zero (startOf offset), mod-one new) (omega (arith, split e (startOf offset)))
 
--- ---- two's complement
+-- ---- two's complement: what `patternOf` and `signedOf` are, which the contracts of the calls on i32 cite. No proof needs it.
 
 -- A word is the pattern of the number that it stands for,
 pub signed-pattern : (p : ℕ) → p < 2 ^ 32 → patternOf (signedOf p) ≡ p
