@@ -25,7 +25,7 @@ use Rattle.layout_values.specs.Value.{narrowOf, partsOf, fixedWords, valueOf, v
 use Rattle.layout_values.proofs.VerdictOn.{value-is, verdict-laid}
 use Rattle.layout_structs.specs.declared.Ends.{Ends}
 use Rattle.layout_structs.specs.declared.SoFar.{SoFar}
-use Rattle.layout_structs.specs.declared.SoFar.the-variants as run
+use Rattle.layout_structs.specs.declared.SoFar.the-variants as so-far
 use Rattle.layout_structs.specs.SoFar.{wordsOfMembers, endsOf, structOf, membersFit, soFar, Complete, Ended, Closes}
 use Rattle.layout_structs.proofs.SoFarOf.{limited-is, limited-large}
 use Rattle.layout_structs.proofs.MembersFit.{members-aligned, aligned-positive, open-end, closed-end, struct-fits, past-members, open-fits, closed-fits, closed-past}
@@ -147,37 +147,37 @@ ended-positive p ms e =
 -- ---- what `soFar` tells
 
 -- the cases of `soFar`
-runs : {A : Type 0} (r : SoFar) (ms : Members) → r ≡ soFar ms → (r ≡ run.Good (endsOf ms) → membersGivenFit ms ≡ true → membersFit ms ≡ true → A) → (r ≡ run.TooLarge → membersGivenFit ms ≡ true → membersFit ms ≡ false → A) → (r ≡ run.Unfit → membersGivenFit ms ≡ false → A) → A
+verdicts : {A : Type 0} (r : SoFar) (ms : Members) → r ≡ soFar ms → (r ≡ so-far.Good (endsOf ms) → membersGivenFit ms ≡ true → membersFit ms ≡ true → A) → (r ≡ so-far.TooLarge → membersGivenFit ms ≡ true → membersFit ms ≡ false → A) → (r ≡ so-far.Unfit → membersGivenFit ms ≡ false → A) → A
 unfolding soFar
-runs {A} r ms e placed past unfit = go (membersGivenFit ms) (membersFit ms) refl refl e
+verdicts {A} r ms e placed past unfit = go (membersGivenFit ms) (membersFit ms) refl refl e
   where
-    go : (g f : Bool) → membersGivenFit ms ≡ g → membersFit ms ≡ f → r ≡ cond g (cond f (run.Good (endsOf ms)) run.TooLarge) run.Unfit → A
+    go : (g f : Bool) → membersGivenFit ms ≡ g → membersFit ms ≡ f → r ≡ cond g (cond f (so-far.Good (endsOf ms)) so-far.TooLarge) so-far.Unfit → A
     go true true p q h = placed h p q
     go true false p q h = past h p q
     go false f p q h = unfit h p
 
-no-run : {A : Type 0} → _≡_ {A = ℕ} 0 1 → A
-no-run e = absurd (omega arith)
+no-verdict : {A : Type 0} → _≡_ {A = ℕ} 0 1 → A
+no-verdict e = absurd (omega arith)
 
-pub closes-placed : (p : Ends) (ms : Members) → Closes (run.Good p) ms → Ended p ms
+pub closes-placed : (p : Ends) (ms : Members) → Closes (so-far.Good p) ms → Ended p ms
 closes-placed p ms c =
-    runs (run.Good p) ms (c .verdict) (λ h g f. record { ends = cc; complete = c .complete; given = g; fits = f })
-    (λ h g f. no-run cc) (λ h g. no-run cc)
+    verdicts (so-far.Good p) ms (c .verdict) (λ h g f. record { ends = cc; complete = c .complete; given = g; fits = f })
+    (λ h g f. no-verdict cc) (λ h g. no-verdict cc)
 
 -- Where a given size or align does not fit, that is refusal 6.
-pub closes-unfit : (r k : ℕ) (ms : Members) → Closes run.Unfit ms → verdictOn r (struct k ms) ≡ Given
+pub closes-unfit : (r k : ℕ) (ms : Members) → Closes so-far.Unfit ms → verdictOn r (struct k ms) ≡ Given
 closes-unfit r k ms c =
-    runs run.Unfit ms (c .verdict) (λ h g f. no-run cc) (λ h g f. no-run cc) (λ h g. judged r k ms (c .complete) ∙ rw g)
+    verdicts so-far.Unfit ms (c .verdict) (λ h g f. no-verdict cc) (λ h g f. no-verdict cc) (λ h g. judged r k ms (c .complete) ∙ rw g)
 
 -- Where an offset or the end of the members is past the limit, that is refusal 7.
-pub closes-past : (r k : ℕ) (ms : Members) → Closes run.TooLarge ms → verdictOn r (struct k ms) ≡ Large
+pub closes-past : (r k : ℕ) (ms : Members) → Closes so-far.TooLarge ms → verdictOn r (struct k ms) ≡ Large
 unfolding membersFit
 closes-past r k ms c =
-    runs run.TooLarge ms (c .verdict) (λ h g f. no-run cc)
+    verdicts so-far.TooLarge ms (c .verdict) (λ h g f. no-verdict cc)
     (λ h g f.
     let w = c .complete .well-formed in
     let a = members-aligned ms w (c .complete .allowed) g in
     large r k ms (c .complete) g
     (struct-fits k ms (a .align) (membersEnd (some 0) ms) (a .is) refl
     ∙ past-members (a .align) (membersEnd (some 0) ms) (offsetsOf (some 0) ms) (aligned-positive ms (a .align) w g (a .is)) f))
-    (λ h g. no-run cc)
+    (λ h g. no-verdict cc)

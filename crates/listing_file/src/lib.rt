@@ -18,11 +18,14 @@ ghost use Rattle.wgsl.specs.Types.{Ty};
 ghost use Rattle.wgsl.specs.Said.{good};
 ghost use Rattle.wgsl.specs.Listing.{listed, listingOf};
 ghost use Rattle.listing_text.specs.Put.{Put};
-ghost use Rattle.listing_file.specs.List.{Entries};
+ghost use Rattle.listing_file.specs.List.{listingRoom, Entries};
+
+// The most bytes of a file that is listed.
+const INPUT_LIMIT: usize = 65536;
 
 // Puts the lines of an accepted file's entries.
 fn put_entries(out: &mut [u8], table: &[Row], types: u32) -> usize
-    requires room { ⌜ 8467 ≤ length (now out) ⌝ }
+    requires room { ⌜ listingRoom ≤ length (now out) ⌝ }
     requires entries { ⌜ ((f : List ℕ) × (ts : List Ty) × Entries f (now table) types ts) ⌝ }
     ensures { λ r. ⌜ ((f : List ℕ) (ts : List Ty) → Entries f (now (table .entry)) types ts → Put (now (out .entry)) 0 (listed (good ts)) r (now (out .exit))) ⌝ }
 {
@@ -38,10 +41,10 @@ fn put_entries(out: &mut [u8], table: &[Row], types: u32) -> usize
 
 // Puts the listing of a file at the front of `out` and answers how long it is; later bytes stay.
 pub fn list(file: &[u8], out: &mut [u8]) -> usize
-    requires { ⌜ 8467 ≤ length (now out) ⌝ }
+    requires { ⌜ listingRoom ≤ length (now out) ⌝ }
     ensures { λ r. ⌜ Put (now (out .entry)) 0 (listingOf (now (file .entry))) r (now (out .exit)) ⌝ }
 {
-    if 65536 < file.len() {
+    if INPUT_LIMIT < file.len() {
         return put_refused(out, 0, 17, 0);
     }
     match check_trailer(file) {

@@ -2,7 +2,7 @@
 pub mod HeldOf
 pub mod Begins
 pub mod TargetCall
-pub mod Roomy
+pub mod InBuffer
 pub mod SetTarget
 pub mod PartLength
 pub mod IntegerOf

@@ -11,7 +11,7 @@ use Rattle.wgsl.specs.Said.{Said, good, refused}
 use Rattle.wgsl.specs.Place.{spanOf}
 use Rattle.wgsl.specs.Path as path
 use Rattle.wgsl.specs.Call.{viewCall, partOf, targetCall}
-use Rattle.paths.proofs.Roomy.{target-room}
+use Rattle.paths.proofs.InBuffer.{target-room}
 
 -- the bytes of the target; none where refused
 abbrev pub partLength : Said path.Target → ℕ

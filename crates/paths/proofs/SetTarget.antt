@@ -21,7 +21,7 @@ use Rattle.wgsl.proofs.Said.{then-is, then-refused}
 use Rattle.layout_values.proofs.ScalarMade.{kind-bounded}
 use Rattle.said.specs.Target.{kindIn}
 use Rattle.said.specs.declared.target.Target.{Target}
-use Rattle.paths.specs.Set.{Narrow, Roomy}
+use Rattle.paths.specs.Set.{Narrow, InBuffer}
 
 -- ---- once the target is found
 
@@ -52,7 +52,7 @@ scalar-shape (parts n stride x) h = absurd (omega arith)
 scalar-shape (field offset x rest) h = absurd (omega arith)
 scalar-shape (whole z) h = absurd (omega arith)
 
-pub set-none : {t : Target} {u : path.Target} {bytes : ℕ} → Roomy t u bytes → (w : ℕ) (b : List ℕ) → 6 < t .scalar → setTarget u w b ≡ refused 14 0
+pub set-none : {t : Target} {u : path.Target} {bytes : ℕ} → InBuffer t u bytes → (w : ℕ) (b : List ℕ) → 6 < t .scalar → setTarget u w b ≡ refused 14 0
 unfolding setTarget orRefuse _>>=_
 set-none {u = u} x w b h = rw (no-scalar (u .shape) (rw (x .is) at h)) refl
 
@@ -64,7 +64,7 @@ pub record OneScalar (t : Target) (u : path.Target) : Type 0 where
   pub size-is : present (widthOf scalar) ≡ t .size
   pub above : 0 < present (widthOf scalar)
 
-pub one-scalar : {t : Target} {u : path.Target} {bytes : ℕ} → Roomy t u bytes → t .scalar ≤ 6 → OneScalar t u
+pub one-scalar : {t : Target} {u : path.Target} {bytes : ℕ} → InBuffer t u bytes → t .scalar ≤ 6 → OneScalar t u
 unfolding Sound spanOf
 one-scalar {u = u} x h =
     let y = scalar-shape (u .shape) (rw (x .is) at h) in

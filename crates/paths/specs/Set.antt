@@ -17,7 +17,7 @@ pub record Narrow (s : Scalar) : Type 0 where
   pub width-is : widthOf s ≡ some 2
 
 -- the target u as the code has it, inside a buffer of so many bytes
-pub record Roomy (t : Target) (u : path.Target) (bytes : ℕ) : Type 0 where
+pub record InBuffer (t : Target) (u : path.Target) (bytes : ℕ) : Type 0 where
   pub is : t ≡ targetIs u
   pub sound : Sound (u .shape)
   pub inside : u .offset + spanOf (u .shape) ≤ bytes

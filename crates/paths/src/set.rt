@@ -15,7 +15,7 @@ ghost use Rattle.wgsl.specs.Types.{Scalar};
 ghost use Rattle.wgsl.specs.Path as path;
 ghost use Rattle.wgsl.specs.Call.{answerOf, contentsOf, setCall, setTarget, setScalar};
 ghost use Rattle.said.specs.Answer.{saidNumber, Answered};
-ghost use Rattle.paths.specs.Set.{Roomy, Narrow};
+ghost use Rattle.paths.specs.Set.{InBuffer, Narrow};
 
 // 16 for an f16, and its two bytes at `at`.
 fn set_half(at: usize, word: u32, buf: &mut [u8]) -> Number
@@ -31,8 +31,8 @@ fn set_half(at: usize, word: u32, buf: &mut [u8]) -> Number
 
 // 14, 16, and the scalar's bytes.
 fn set_scalar(t: Target, word: u32, buf: &mut [u8]) -> Number
-    requires { ⌜ ((u : path.Target) × Roomy t u (length (now buf))) ⌝ }
-    ensures { λ r. ⌜ ((u : path.Target) → Roomy t u (length (now (buf .entry))) → Answered (setTarget u word (now (buf .entry))) r (now (buf .entry)) (now (buf .exit))) ⌝ }
+    requires { ⌜ ((u : path.Target) × InBuffer t u (length (now buf))) ⌝ }
+    ensures { λ r. ⌜ ((u : path.Target) → InBuffer t u (length (now (buf .entry))) → Answered (setTarget u word (now (buf .entry))) r (now (buf .entry)) (now (buf .exit))) ⌝ }
 {
     if LAST_SCALAR < t.scalar {
         return Number::Refused(Refusal::Count);

@@ -2,7 +2,7 @@
 use mathlib.Core.Path.{ap, sym, _∙_}
 use borrow.Author.Needs.{needs}
 use Rattle.paths.specs.Field.{foundIn}
-use Rattle.paths.proofs.Roomy.{reached-good, reached-refused}
+use Rattle.paths.proofs.InBuffer.{reached-good, reached-refused}
 use Rattle.paths.proofs.IntegerOf.{integer-refused, integer-found}
 use Rattle.paths.proofs.field.integer_at.Statement.{statement}
 use Rattle.paths.proofs.field.integer_at.Tie as tie

@@ -1,4 +1,4 @@
--- The target that `locate` finds has room for a scalar (proofs/Roomy); what is left of the call (proofs/SetTarget). Assumes nothing.
+-- The target that `locate` finds has room for a scalar (proofs/InBuffer); what is left of the call (proofs/SetTarget). Assumes nothing.
 use mathlib.Core.Path.{_≡_, refl}
 use mathlib.Core.Bool.{true}
 use denote.Ref.{now}
@@ -9,8 +9,8 @@ use Rattle.wgsl.specs.Path as path
 use Rattle.wgsl.specs.Call.{setCall, targetCall}
 use Rattle.said.specs.Refusal.{numberOf, placeOf}
 use Rattle.said.proofs.Answered.{answered-refused, answered-same}
-use Rattle.paths.specs.Set.{Roomy}
-use Rattle.paths.proofs.Roomy.{reached-refused, roomy}
+use Rattle.paths.specs.Set.{InBuffer}
+use Rattle.paths.proofs.InBuffer.{reached-refused, in-buffer}
 use Rattle.paths.proofs.SetTarget.{set-refused, set-found}
 use Rattle.paths.proofs.set.set.Statement.{statement}
 use Rattle.paths.proofs.set.set.Tie as tie
@@ -18,10 +18,10 @@ use Rattle.paths.proofs.set.set.Tie as tie
 -- the target, found
 found : (c : tie.After-t) →
     let a = c .before .before .before .before .before .before .args in
-    (u : path.Target) × (targetCall true (now (a .file)) (a .entry) (now (a .path)) (now (a .buf)) ≡ good u) × Roomy (c .t .given .0 .0) u (length (now (a .buf)))
+    (u : path.Target) × (targetCall true (now (a .file)) (a .entry) (now (a .path)) (now (a .buf)) ≡ good u) × InBuffer (c .t .given .0 .0) u (length (now (a .buf)))
 found c =
     let a = c .before .before .before .before .before .before .args in
-    roomy true _ _ _ _ (rw (c .t .given .1) at (c .before .before .locate .ensures (now (a .buf)) refl))
+    in-buffer true _ _ _ _ (rw (c .t .given .1) at (c .before .before .locate .ensures (now (a .buf)) refl))
 
 -- or none
 stopped : (c : tie.After-r) →

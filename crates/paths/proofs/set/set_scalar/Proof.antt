@@ -4,7 +4,7 @@ use native.Mathlib.Omega.{arith}
 use borrow.Author.Needs.{needs}
 use Rattle.said.proofs.Answered.{answered-refused, answered-done, answered-same}
 use Rattle.paths.proofs.SetTarget.{set-none, one-scalar, set-one, narrow, wide, set-four}
-use Rattle.paths.proofs.Roomy.{room}
+use Rattle.paths.proofs.InBuffer.{room}
 use Rattle.paths.proofs.set.set_scalar.Statement.{statement}
 use Rattle.paths.proofs.set.set_scalar.Tie as tie
 

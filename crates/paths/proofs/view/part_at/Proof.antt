@@ -1,4 +1,4 @@
--- The part is that of the target that `locate` finds, or of none (proofs/Roomy). Assumes nothing.
+-- The part is that of the target that `locate` finds, or of none (proofs/InBuffer). Assumes nothing.
 use Prim.Native.Nat.{ℕ, _+_}
 use mathlib.Core.Path.{_≡_}
 use mathlib.Core.List.{List}
@@ -8,7 +8,7 @@ use borrow.Author.Needs.{needs}
 use lib.ListN.{length, replicate, length-replicate}
 use Rattle.wgsl.specs.Call.{viewCall, targetCall}
 use Rattle.paths.specs.View.{PartIs}
-use Rattle.paths.proofs.Roomy.{part-there, part-none}
+use Rattle.paths.proofs.InBuffer.{part-there, part-none}
 use Rattle.paths.proofs.view.part_at.Statement.{statement}
 use Rattle.paths.proofs.view.part_at.Tie as tie
 

@@ -21,7 +21,7 @@ use Rattle.wgsl.proofs.EntryFor.{laid-good, entry-sound}
 use Rattle.wgsl.proofs.IsShort.{short-no}
 use Rattle.said.specs.declared.target.Target.{Target}
 use Rattle.said.specs.Target.{targetIs, reached}
-use Rattle.paths.specs.Set.{Roomy}
+use Rattle.paths.specs.Set.{InBuffer}
 use Rattle.paths.specs.View.{PartIs}
 
 -- ---- what the code has
@@ -38,7 +38,7 @@ reached-refused (refused number place) e = cc
 -- ---- inside the buffer
 
 module _ (stored : Bool) (f : List ℕ) (e : ℕ) (path b : List ℕ) where
-  pub target-room : {t : Target} {u : steps.Target} → t ≡ targetIs u → targetCall stored f e path b ≡ good u → Roomy t u (length b)
+  pub target-room : {t : Target} {u : steps.Target} → t ≡ targetIs u → targetCall stored f e path b ≡ good u → InBuffer t u (length b)
   unfolding targetCall targetIn withinLimit
   target-room {u = u} is h =
       let s = then-good (entryFor stored f e b) _ h in
@@ -56,18 +56,18 @@ module _ (stored : Bool) (f : List ℕ) (e : ℕ) (path b : List ℕ) where
       }
 
   -- the target that the code has
-  pub roomy : {t : Target} → good t ≡ reached (targetCall stored f e path b) → (u : steps.Target) × (targetCall stored f e path b ≡ good u) × Roomy t u (length b)
-  roomy h =
+  pub in-buffer : {t : Target} → good t ≡ reached (targetCall stored f e path b) → (u : steps.Target) × (targetCall stored f e path b ≡ good u) × InBuffer t u (length b)
+  in-buffer h =
       let x = reached-good (targetCall stored f e path b) h in
       (x .0, x .1, target-room (x .2) (x .1))
 
 -- The bytes that the code has of it lie inside.
-pub room : {t : Target} {u : steps.Target} {bytes : ℕ} → Roomy t u bytes → t .offset + t .size ≤ bytes
+pub room : {t : Target} {u : steps.Target} {bytes : ℕ} → InBuffer t u bytes → t .offset + t .size ≤ bytes
 room x = rw (x .is) (x .inside)
 
 -- ---- its part
 
-part-of : {t : Target} (u : steps.Target) (b : List ℕ) → Roomy t u (length b) → PartIs (record { from = t .offset; to = t .offset + t .size }) (good u) b
+part-of : {t : Target} (u : steps.Target) (b : List ℕ) → InBuffer t u (length b) → PartIs (record { from = t .offset; to = t .offset + t .size }) (good u) b
 unfolding partOf partStart
 part-of u b x = record {
   start-is = ap (λ (t : Target). t .offset) (x .is);
@@ -79,7 +79,7 @@ part-of u b x = record {
 module _ (f : List ℕ) (e : ℕ) (path b : List ℕ) where
   pub part-there : {t : Target} → good t ≡ reached (viewCall f e path b) → PartIs (record { from = t .offset; to = t .offset + t .size }) (viewCall f e path b) b
   unfolding viewCall targetCall
-  part-there h = let x = roomy false f e path b h in rw (x .1) (part-of (x .0) b (x .2))
+  part-there h = let x = in-buffer false f e path b h in rw (x .1) (part-of (x .0) b (x .2))
 
   -- where refused, the empty one at the start
   pub part-none : {number place : ℕ} → refused number place ≡ reached (viewCall f e path b) → PartIs (record { from = 0; to = 0 }) (viewCall f e path b) b
