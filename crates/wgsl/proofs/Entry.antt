@@ -55,7 +55,7 @@ unfolding numbersOf
 size-limit t z w e = number-limit t z w (List·Memᴰ·head (rw e))
 
 -- The alignment of a well-formed type is at most 4,294,967,295.
-align-limit : (t : Ty) (a : ℕ) → everywhere isWellFormed t ≡ true → alignOf t ≡ some a → a ≤ limit
+pub align-limit : (t : Ty) (a : ℕ) → everywhere isWellFormed t ≡ true → alignOf t ≡ some a → a ≤ limit
 unfolding numbersOf
 align-limit t a w e = number-limit t a w (List·Memᴰ·tail (List·Memᴰ·head (rw e)))
 

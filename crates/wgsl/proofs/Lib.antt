@@ -22,6 +22,7 @@ pub mod Members
 pub mod Laid
 pub mod Closed
 pub mod Entry
+pub mod Stride
 pub mod Count
 pub mod Opened
 pub mod Index
@@ -39,6 +40,7 @@ pub mod OnePath
 pub mod ScalarRank
 pub mod Rank
 pub mod Case
+pub mod StrideCase
 pub mod BitFieldCase
 pub mod Bit
 pub mod FieldAt

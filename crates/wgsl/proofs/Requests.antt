@@ -1,27 +1,64 @@
 -- What is claimed of the definitions of document 02, request by request. Each proof is one citation: read the statements.
 --
--- Here: E2, bit fields. That the places of refusals fit and what the calls have in common with those of 01 stands in Claims.
+-- Here: E1, strides; E2, bit fields. That the places of refusals fit and what the calls have in common with those of 01 stands in Claims.
 -- Assumes nothing.
-use Prim.Native.Nat.{ℕ, _+_, _-_, _%_, _^_, _<_, _≤_}
+use Prim.Native.Nat.{ℕ, _+_, _-_, _%_, _^_, _<_, _≤_, max}
 use mathlib.Core.Bool.{true, false, cond}
 use mathlib.Core.List.{List}
+use mathlib.Core.Option.{Option, some}
 use mathlib.Core.Path.{_≡_}
 use lib.Dec.{T}
 use lib.IntN.{pos, _-ℤ_}
-use lib.ListN.{length, getD}
+use lib.ListN.{length, getD, getElem?}
 use Rattle.wgsl.specs.Number.{load}
-use Rattle.wgsl.specs.Types.{Scalar}
+use Rattle.wgsl.specs.Round.{up, limit}
+use Rattle.wgsl.specs.Types.{Scalar, Ty, array, runtime, everywhere}
+use Rattle.wgsl.specs.Size.{sizeOf, alignOf, ownStrideOf}
 use Rattle.wgsl.specs.Said.{good}
+use Rattle.wgsl.specs.Rule.{isWellFormed, typesOf}
 use Rattle.wgsl.specs.Place.{wordCount}
 use Rattle.wgsl.specs.Call.{Done, setCall}
 use Rattle.wgsl.specs.BitField.{startOf, bitsOf, bitAt, extractedU32, extractedI32, repeatedTop, inserted, signedOf, bitExtracted, bitInserted}
 use Rattle.wgsl.specs.BitFieldCase.{fieldCasesPass}
 use Rattle.wgsl.specs.BitFieldCall.{isInteger, isSigned, FoundInteger, integerAt, extractCall, insertCall}
-use Rattle.wgsl.specs.Claim.{GoodIf, CanField}
+use Rattle.wgsl.specs.Claim.{IsStride, ByElement, GoodIf, CanField}
 use Rattle.wgsl.specs.Demand.{Given, Leading, SetThenRead}
+use Rattle.wgsl.specs.StrideCase.{strideCasesPass}
+use Rattle.wgsl.proofs.Stride as stride
+use Rattle.wgsl.proofs.StrideCase.{stride-cases-pass}
 use Rattle.wgsl.proofs.BitField as field
 use Rattle.wgsl.proofs.BitFieldCase.{field-cases-pass}
 use Rattle.wgsl.proofs.BitFieldCall as calls
+
+-- ---- E1: strides
+
+-- "for any type with size and alignment, the size rounded up to the alignment; for a runtime array, its element's stride; else absent":
+-- these three say what a type's stride is, and nothing else is that.
+pub strides : (t : Ty) → IsStride t (ownStrideOf t)
+strides = stride.stride-is
+
+pub strides-unique : (t : Ty) {r s : Option ℕ} → IsStride t r → IsStride t s → r ≡ s
+strides-unique = stride.stride-unique
+
+-- "the element's number, which is 01's stride of an array": the elements of every accepted array lie by it,
+pub array-by-element : (k : ℕ) (t : Ty) → everywhere isWellFormed (array k t) ≡ true → ByElement (array k t) t (λ n. k)
+array-by-element = stride.array-stride
+
+-- and those of every accepted runtime array, of any number of elements.
+pub runtime-by-element : (t : Ty) → everywhere isWellFormed (runtime t) ≡ true → ByElement (runtime t) t (λ n. n)
+runtime-by-element = stride.runtime-stride
+
+-- Of a type with size and alignment it is the larger of the two: every size is a multiple of the alignment, but for a vector's of three.
+pub stride-is-larger : (t : Ty) (a z : ℕ) → everywhere isWellFormed t ≡ true → alignOf t ≡ some a → sizeOf t ≡ some z → up a z ≡ max a z
+stride-is-larger = stride.up-larger
+
+-- It is at most 4,294,967,295 for every entry of an accepted file, so no file is refused for it.
+pub strides-within-limit : (f : List ℕ) (ts : List Ty) → typesOf f ≡ good ts → (k : ℕ) (t : Ty) → getElem? ts k ≡ some t → (n : ℕ) → ownStrideOf t ≡ some n → n ≤ limit
+strides-within-limit = stride.entry-stride
+
+-- The request's own numbers, and its listing.
+pub stride-cases : T strideCasesPass
+stride-cases = stride-cases-pass
 
 -- ---- E2: bits
 

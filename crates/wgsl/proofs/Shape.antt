@@ -13,7 +13,7 @@ use Rattle.wgsl.specs.Claim.{Ordered}
 use Rattle.wgsl.specs.Shapes.{Divides, From, Sound}
 
 -- a multiple of a multiple is a multiple
-multiple-trans : (w a m : ℕ) → a % w ≡ 0 → m % a ≡ 0 → m % w ≡ 0
+pub multiple-trans : (w a m : ℕ) → a % w ≡ 0 → m % a ≡ 0 → m % w ≡ 0
 multiple-trans w a m h k =
     let e : a / w * w ≡ a = omega (arith, div-add-mod' a w) in
     let f : m / a * a ≡ m = omega (arith, div-add-mod' m a) in

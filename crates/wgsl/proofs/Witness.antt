@@ -14,15 +14,15 @@ use native.Mathlib.Omega.{arith}
 use lib.ListN.{getD, take, drop, getElem?, replicate}
 use Rattle.wgsl.specs.Number.{load, bytesOf, store}
 use Rattle.wgsl.specs.Round.{IsUp, up, IsPower, powerBelow, isPower, limit, withinLimit}
-use Rattle.wgsl.specs.Types.{u32, f32, Ty, scalar, matrix, struct, no-more, member, isRuntime, endsInRuntime, isOpen, everywhere, everyMember}
-use Rattle.wgsl.specs.Size.{both, givenOr, isPresent, present, widthOf, vec3Align, vectorSize, vectorAlign, startAfter, endAfter, memberStart, memberEnd, sizeOf, alignOf, membersAlign, membersEnd, strideOf, minSizeOf, offsetsOf, innerNumbersOf, numbersOf, withinLimits, fitsLimit, hasLayout, isStored, isPlain, isStorable}
+use Rattle.wgsl.specs.Types.{u32, f32, f16, Ty, scalar, vector, matrix, array, runtime, struct, no-more, member, isRuntime, endsInRuntime, isOpen, everywhere, everyMember}
+use Rattle.wgsl.specs.Size.{both, givenOr, isPresent, present, widthOf, vec3Align, vectorSize, vectorAlign, startAfter, endAfter, memberStart, memberEnd, sizeOf, alignOf, membersAlign, membersEnd, strideOf, ownStrideOf, minSizeOf, offsetsOf, innerNumbersOf, numbersOf, withinLimits, fitsLimit, hasLayout, isStored, isPlain, isStorable}
 use Rattle.wgsl.specs.Said.{good, _>>=_, _>>_, refuse, orRefuse}
 use Rattle.wgsl.specs.File.{trailerOf, lengthBy, typeEntryFrom, typeEntryAt, memberEntryFrom, memberEntryAt, sizeIsGiven, alignIsGiven, givenSize, givenAlign, restIsZero, between, checkTrailer}
 use Rattle.wgsl.specs.Rule.{when, andThen, unused, scalarOfKind, scalarIn, lower, membersFrom, scalarMade, vectorMade, matrixMade, arrayMade, runtimeMade, atomicMade, structMade, overMade, typeMade, typeOfEntry, isMatrixScalar, isAtomicScalar, isLast, countOf, memberAllowed, membersAllowed, isAllowed, atLeast, givenSizeFits, isMultiple, givenAlignFits, membersGivenFit, givenFits, isWellFormed, judged, typesBelow, typesOf}
 use Rattle.wgsl.specs.Place.{tailAt, membersTail, tailOf, extentBy, extentOf, elementsBy, elementsIn, one, column, shapeOf, fieldsOf, spanOf, wordPlaces, repeated, placesOf, places, wordCount, storeWords, written, wordsRead, canHold, checkWords}
 use Rattle.wgsl.specs.Path.{stepOf, enter, walk}
 use Rattle.wgsl.specs.Call.{Done, checkOf, entryOf, allowed, entryFor, isShort, readElements, readType, readCall, elementsFor, isWrongCount, writeWords, writeElements, writeType, writeCall, targetIn, targetCall, viewCall, scalarAt, setScalar, setTarget, setCall}
-use Rattle.wgsl.specs.Claim.{Lowest, Ordered, typesIn, memberStep, CanRead, CanWrite, CanView, CanSet, CanField, Wrote, Read}
+use Rattle.wgsl.specs.Claim.{Lowest, ByElement, Ordered, typesIn, memberStep, CanRead, CanWrite, CanView, CanSet, CanField, Wrote, Read}
 use Rattle.wgsl.specs.BitField.{startOf, bitsOf, bitAt, fieldAt, repeatedTop, extractedU32, extractedI32, putAt, inserted, isInside, bitExtracted, bitInserted}
 use Rattle.wgsl.specs.BitFieldCall.{isInteger, isSigned, integerOf, integerAt, wordOf, extractedAs, extractCall, insertCall}
 use Rattle.wgsl.specs.Demand.{Given, Leading, SetThenRead, OnePath}
@@ -109,6 +109,12 @@ pub record Witnesses : Type 0 where
   pub struct-given : Given structWithSize 1 rubbish
   pub struct-leading : Leading structWithSize 1 rubbish inStruct 20 u32
   pub struct-demand : SetThenRead struct-given inStruct 20 u32 5 nine
+  -- E1
+  pub strides-unique : ownStrideOf (vector 3 f16) ≡ some 8
+  pub array-by-element : ByElement (array 4 (vector 3 f32)) (vector 3 f32) (λ n. 4)
+  pub runtime-by-element : ByElement (runtime (vector 3 f32)) (vector 3 f32) (λ n. n)
+  pub stride-is-larger : up 16 12 ≡ 16
+  pub strides-within-limit : 48 ≤ limit
   -- E2
   pub extract-signed-bit : bitAt (extractedI32 2_048 0 12) 31 ≡ true
   pub insert-only : 4_080 ≡ inserted 0 255 4 8
@@ -123,7 +129,7 @@ pub record Witnesses : Type 0 where
   pub extraction-after-insertion : extractCall structWithSize 1 inStruct (insertion .contents) 4 8 ≡ good 255
 
 pub witnesses : Witnesses
-unfolding load bytesOf up powerBelow isPower withinLimit isRuntime endsInRuntime isOpen everywhere everyMember both givenOr isPresent present widthOf vec3Align vectorSize vectorAlign startAfter endAfter sizeOf alignOf membersAlign membersEnd strideOf minSizeOf offsetsOf innerNumbersOf numbersOf withinLimits fitsLimit hasLayout isStored isPlain isStorable _>>=_ _>>_ refuse orRefuse trailerOf lengthBy typeEntryFrom typeEntryAt memberEntryFrom memberEntryAt sizeIsGiven alignIsGiven givenSize givenAlign restIsZero between checkTrailer when andThen unused scalarOfKind scalarIn lower membersFrom scalarMade vectorMade matrixMade arrayMade runtimeMade atomicMade structMade overMade typeMade typeOfEntry isMatrixScalar isAtomicScalar isLast countOf memberAllowed membersAllowed isAllowed atLeast givenSizeFits isMultiple givenAlignFits membersGivenFit givenFits judged typesBelow typesOf tailAt membersTail tailOf extentBy extentOf elementsBy elementsIn column shapeOf fieldsOf spanOf wordPlaces repeated placesOf places wordCount wordsRead stepOf enter walk entryOf allowed entryFor isShort readElements readType readCall targetIn targetCall viewCall typeEntry memberGiven memberEntry trailer arrayOfU32 openStruct matrixOfF32 structWithSize memberStart memberEnd memberStep store storeWords written canHold checkWords elementsFor isWrongCount writeWords writeElements writeType writeCall scalarAt setScalar setTarget setCall typesIn isWellFormed checkOf startOf bitsOf bitAt fieldAt repeatedTop extractedU32 extractedI32 putAt inserted isInside bitExtracted bitInserted isInteger isSigned integerOf integerAt wordOf extractedAs extractCall insertCall fiveAndSix sixAndSeven matrixTypes nine rubbish inMatrix inStruct
+unfolding load bytesOf up powerBelow isPower withinLimit isRuntime endsInRuntime isOpen everywhere everyMember both givenOr isPresent present widthOf vec3Align vectorSize vectorAlign startAfter endAfter sizeOf alignOf membersAlign membersEnd strideOf ownStrideOf minSizeOf offsetsOf innerNumbersOf numbersOf withinLimits fitsLimit hasLayout isStored isPlain isStorable _>>=_ _>>_ refuse orRefuse trailerOf lengthBy typeEntryFrom typeEntryAt memberEntryFrom memberEntryAt sizeIsGiven alignIsGiven givenSize givenAlign restIsZero between checkTrailer when andThen unused scalarOfKind scalarIn lower membersFrom scalarMade vectorMade matrixMade arrayMade runtimeMade atomicMade structMade overMade typeMade typeOfEntry isMatrixScalar isAtomicScalar isLast countOf memberAllowed membersAllowed isAllowed atLeast givenSizeFits isMultiple givenAlignFits membersGivenFit givenFits judged typesBelow typesOf tailAt membersTail tailOf extentBy extentOf elementsBy elementsIn column shapeOf fieldsOf spanOf wordPlaces repeated placesOf places wordCount wordsRead stepOf enter walk entryOf allowed entryFor isShort readElements readType readCall targetIn targetCall viewCall typeEntry memberGiven memberEntry trailer arrayOfU32 openStruct matrixOfF32 structWithSize memberStart memberEnd memberStep store storeWords written canHold checkWords elementsFor isWrongCount writeWords writeElements writeType writeCall scalarAt setScalar setTarget setCall typesIn isWellFormed checkOf startOf bitsOf bitAt fieldAt repeatedTop extractedU32 extractedI32 putAt inserted isInside bitExtracted bitInserted isInteger isSigned integerOf integerAt wordOf extractedAs extractCall insertCall fiveAndSix sixAndSeven matrixTypes nine rubbish inMatrix inStruct
 witnesses =
     let types : typesBelow matrixOfF32 2 ≡ good matrixTypes = refl in
     let entry : entryOf matrixOfF32 1 ≡ good (matrix 3 3 f32) = refl in
@@ -185,6 +191,11 @@ witnesses =
       matrix-path = claims.place-has-one-path given (record { at = 36; width = 4 }) (claims.path-has-place given leading);
       struct-given = sized;
       struct-leading = second;
+      strides-unique = requests.strides-unique (vector 3 f16) (requests.strides (vector 3 f16)) (requests.strides (vector 3 f16));
+      array-by-element = requests.array-by-element 4 (vector 3 f32) refl;
+      runtime-by-element = requests.runtime-by-element (vector 3 f32) refl;
+      stride-is-larger = requests.stride-is-larger (vector 3 f32) 16 12 refl refl refl;
+      strides-within-limit = requests.strides-within-limit matrixOfF32 matrixTypes refl 1 (matrix 3 3 f32) refl 48 refl;
       extract-signed-bit = requests.extract-signed-bit 2_048 0 12 31 (omega arith) (omega arith);
       insert-only = requests.insert-only 0 255 4 8 4_080 (omega arith) (omega arith) (λ j low. requests.insert-bit 0 255 4 8 j);
       extract-whole = requests.extract-whole 7 0 32 (omega arith) refl refl;

@@ -15,7 +15,7 @@ use lib.ListN.{length, getElem?, take, drop}
 use lib.Dec.{eqb, ltb}
 use Rattle.wgsl.specs.Round.{withinLimit}
 use Rattle.wgsl.specs.Types.{Scalar, Ty, isOpen}
-use Rattle.wgsl.specs.Size.{present, sizeOf, alignOf, minSizeOf, hasLayout, isStorable}
+use Rattle.wgsl.specs.Size.{present, sizeOf, alignOf, minSizeOf, ownStrideOf, hasLayout, isStorable}
 use Rattle.wgsl.specs.Said.{Said, good, refused, _>>=_, _>>_, refuse, orRefuse}
 use Rattle.wgsl.specs.Rule.{typesOf}
 use Rattle.wgsl.specs.Place.{Shape, one, parts, field, whole, shapeOf, spanOf, wordPlaces, places, wordCount, extentOf, elementsIn, storeWords, written, wordsRead, checkWords}
@@ -54,14 +54,15 @@ minSizeCall f e = do
   t ← entryOf f e
   orRefuse 9 0 (minSizeOf t)
 
--- "(the layout answer marks it absent instead)"
+-- "(the layout answer marks it absent instead)"; E1: "The layout answer of every entry is to carry its stride as well"
 pub record Layout : Type 0 where
   pub size : Option ℕ
   pub align : Option ℕ
   pub minSize : Option ℕ
+  pub stride : Option ℕ
 
 unfoldable pub layoutOf : Ty → Layout
-layoutOf t = record { size = sizeOf t; align = alignOf t; minSize = minSizeOf t }
+layoutOf t = record { size = sizeOf t; align = alignOf t; minSize = minSizeOf t; stride = ownStrideOf t }
 
 unfoldable pub layoutCall : List ℕ → ℕ → Said Layout
 layoutCall f e = do

@@ -1,6 +1,6 @@
 -- What the laws of proofs/Claims say: the predicates that they use, in the order of the laws.
 --
--- In order: bytes; the lowest bad entry; places; where members lie; paths; the entry that a call is about; when a call is good; what a
+-- In order: bytes; the lowest bad entry; strides; places; where members lie; paths; the entry that a call is about; when a call is good; what a
 -- call leaves; the places of refusals.
 -- Not here: demand 3 (`Demand`).
 -- Definitions only. Assumes nothing.
@@ -8,12 +8,12 @@ use Prim.Native.Nat.{ℕ, zero, suc, _+_, _*_, _^_, _<_, _≤_}
 use mathlib.Core.Bool.{true, false}
 use mathlib.Core.List.{List, [], _∷_, map}
 use mathlib.Core.Logic.{_⊎_}
-use mathlib.Core.Option.{none, some}
+use mathlib.Core.Option.{Option, none, some}
 use mathlib.Core.Path.{_≡_}
 use lib.ListN.{length, getD, take, drop}
-use Rattle.wgsl.specs.Round.{limit}
-use Rattle.wgsl.specs.Types.{Scalar, Ty, Members, no-more, member, isOpen}
-use Rattle.wgsl.specs.Size.{present, widthOf, fitsLimit, hasLayout, isStorable}
+use Rattle.wgsl.specs.Round.{up, limit}
+use Rattle.wgsl.specs.Types.{Scalar, Ty, runtime, Members, no-more, member, isRuntime, isOpen}
+use Rattle.wgsl.specs.Size.{present, widthOf, sizeOf, alignOf, strideOf, ownStrideOf, fitsLimit, hasLayout, isStorable}
 use Rattle.wgsl.specs.Said.{Said, good, refused}
 use Rattle.wgsl.specs.Rule.{typeOfEntry, isAllowed, givenFits, typesBelow}
 use Rattle.wgsl.specs.Place.{extentOf, elementsIn, Shape, one, parts, field, shapeOf, Place, places, wordCount, wordsRead}
@@ -50,6 +50,23 @@ pub record Lowest (f : List ℕ) (n number place : ℕ) : Type 0 where
   pub types : List Ty
   pub good-below : typesBelow f place ≡ good types
   pub broken : Broken f types place number
+
+-- ---- strides
+
+-- r is a type's stride (E1), in its three cases
+pub record IsStride (t : Ty) (r : Option ℕ) : Type 0 where
+  -- "for any type with size and alignment, the size rounded up to the alignment;"
+  pub rounded : (a z : ℕ) → alignOf t ≡ some a → sizeOf t ≡ some z → r ≡ some (up a z)
+  -- "for a runtime array, its element's stride;"
+  pub of-element : (u : Ty) → t ≡ runtime u → r ≡ ownStrideOf u
+  -- "else absent."
+  pub absent : isRuntime t ≡ false → (alignOf t ≡ none) ⊎ (sizeOf t ≡ none) → r ≡ none
+
+-- "the element's number, which is 01's stride of an array": a type has parts of type `element`, and each begins that number after the one
+-- before, whatever is written, read or walked. `count` of them where there are n elements of a runtime array.
+pub record ByElement (t element : Ty) (count : ℕ → ℕ) : Type 0 where
+  pub array-stride : ownStrideOf element ≡ strideOf element
+  pub shape : (n : ℕ) → shapeOf n t ≡ parts (count n) (present (ownStrideOf element)) (shapeOf n element)
 
 -- ---- places
 

@@ -17,4 +17,5 @@ pub mod BitFieldCall
 pub mod Claim
 pub mod Demand
 pub mod Case
+pub mod StrideCase
 pub mod Shapes

@@ -9,7 +9,7 @@ use mathlib.Core.Option.{Option, none, some}
 use lib.ListN.{length}
 use lib.Dec.{ltb}
 use Rattle.wgsl.specs.Types.{Ty}
-use Rattle.wgsl.specs.Size.{sizeOf, alignOf}
+use Rattle.wgsl.specs.Size.{sizeOf, alignOf, ownStrideOf}
 use Rattle.wgsl.specs.Said.{Said, good, refused}
 use Rattle.wgsl.specs.File.{between}
 use Rattle.wgsl.specs.Rule.{typesOf}
@@ -50,9 +50,17 @@ unfoldable pub orDash : Option ℕ → List ℕ
 orDash (some n) = decimal n
 orDash none = dash
 
--- entry k: its number, its size and its alignment
+-- entry k: its number, its size, its alignment and, "a fourth column" (E1), its stride
 unfoldable pub entryLine : ℕ → Ty → List ℕ
-entryLine k t = decimal k ++ space ++ orDash (sizeOf t) ++ space ++ orDash (alignOf t) ++ newline
+entryLine k t =
+    decimal k
+    ++ space
+    ++ orDash (sizeOf t)
+    ++ space
+    ++ orDash (alignOf t)
+    ++ space
+    ++ orDash (ownStrideOf t)
+    ++ newline
 
 -- the lines of the entries from number k on
 unfoldable pub entryLines : ℕ → List Ty → List ℕ

@@ -1,7 +1,7 @@
 -- Sizes, alignments, minimum sizes, strides and offsets (01, "Sizes and places"; WGSL, "Alignment and size", "Structure layout").
 --
--- In order: absent numbers; scalars; vectors; every type; minimum sizes; where members start; the numbers of a type that the limit
--- applies to; layouts.
+-- In order: absent numbers; scalars; vectors; every type; strides; minimum sizes; where members start; the numbers of a type that the
+-- limit applies to; layouts.
 -- Not here: rounding up and the limit (`Round`), where the scalars lie (`Place`).
 -- Numbers are unbounded. `none` is 01's "absent".
 -- Definitions only. Assumes nothing.
@@ -114,6 +114,16 @@ unfoldable mutual
 -- "Stride of an array: up(element alignment, element size)", of an array of elements of this type
 unfoldable pub strideOf : Ty → Option ℕ
 strideOf t = both up (alignOf t) (sizeOf t)
+
+-- E1: "for any type with size and alignment, the size rounded up to the alignment; for a runtime array, its element's stride; else absent."
+unfoldable pub ownStrideOf : Ty → Option ℕ
+ownStrideOf (scalar s) = both up (alignOf (scalar s)) (sizeOf (scalar s))
+ownStrideOf (vector n s) = both up (alignOf (vector n s)) (sizeOf (vector n s))
+ownStrideOf (matrix c r s) = both up (alignOf (matrix c r s)) (sizeOf (matrix c r s))
+ownStrideOf (array n t) = both up (alignOf (array n t)) (sizeOf (array n t))
+ownStrideOf (runtime t) = ownStrideOf t
+ownStrideOf (atomic s) = both up (alignOf (atomic s)) (sizeOf (atomic s))
+ownStrideOf (struct k ms) = both up (alignOf (struct k ms)) (sizeOf (struct k ms))
 
 -- "A runtime array has .. no size; its minimum size is one stride; any other type's is its size."
 unfoldable pub minSizeOf : Ty → Option ℕ
