@@ -2,8 +2,8 @@
  *
  *     struct Limits { board: u32, position: vec3<f32>, frost: f32, window: vec2<f32>, on: u32 }
  *
- * Where does each member lie, and where are the gaps? A view of each member tells. Then the program fills a block and reads it back, and
- * sets the frost limit alone, by its path.
+ * Where does each member lie, and where are the gaps? A view of each member tells, and the layout how far the blocks of an array lie
+ * apart. Then the program fills a block and reads it back, and sets the frost limit alone, by its path.
  */
 #include <inttypes.h>
 #include <stdio.h>
@@ -80,6 +80,16 @@ static int print_layout(const uint8_t *block) {
     return 0;
 }
 
+/* How far the elements of an array begin from each other: of blocks, and of positions, which are shorter than that. */
+static int print_strides(void) {
+    lepugaso_layout block, position;
+    if (lepugaso_layout_of(limits, sizeof limits, LIMITS, &block).refusal) return 1;
+    if (lepugaso_layout_of(limits, sizeof limits, members[POSITION].entry, &position).refusal) return 1;
+    printf("in an array: a Limits every %" PRIu64 " bytes, a %s of %" PRIu64 " bytes every %" PRIu64 "\n\n", block.stride,
+           members[POSITION].type, position.size, position.stride);
+    return 0;
+}
+
 /* A block from its words, one for each scalar in order, and back; 0 if both are answered. */
 static int print_block(uint8_t *block) {
     uint32_t words[] = {7, bits(12), bits(4.5f), bits(0.25f), bits(-1.5f), bits(20), bits(7), 1}, read[WORDS];
@@ -139,7 +149,7 @@ static void print_refusals(uint8_t *block) {
 int main(void) {
     uint8_t block[SIZE];
     memset(block, 0xFF, SIZE);
-    if (print_layout(block) || print_block(block) || print_set(block)) return 1;
+    if (print_layout(block) || print_strides() || print_block(block) || print_set(block)) return 1;
     print_refusals(block);
     return 0;
 }

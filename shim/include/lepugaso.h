@@ -50,11 +50,15 @@ typedef struct lepugaso_answer {
     uint64_t value;
 } lepugaso_answer;
 
-/* The three numbers of an entry's type, in bytes; LEPUGASO_ABSENT where it has none. */
+/* The four numbers of an entry's type, in bytes; LEPUGASO_ABSENT where it has none. `stride` is how far the elements of an array of it
+ * begin from each other: its size rounded up to its alignment, 16 for a vec3<f32> of 12 bytes. Of a runtime array, which has no size, it is
+ * that of its own elements. The struct grew: it had 24 bytes before `stride` came, and has 32, so that a program which was compiled with
+ * the older header has to be compiled anew. */
 typedef struct lepugaso_layout {
     uint64_t size;
     uint64_t align;
     uint64_t min_size;
+    uint64_t stride;
 } lepugaso_layout;
 
 #define LEPUGASO_ABSENT UINT64_MAX
@@ -109,8 +113,8 @@ lepugaso_answer lepugaso_align(const uint8_t *file, size_t file_len, uint32_t en
  * 9: a type that has neither, as a struct that ends in a runtime array. */
 lepugaso_answer lepugaso_min_size(const uint8_t *file, size_t file_len, uint32_t entry);
 
-/* All three numbers of entry `entry` into `out`, LEPUGASO_ABSENT for each that it has not. The value is 0. Refuses 1 to 7, then 8, and
- * leaves `out` as it was. */
+/* All four numbers of entry `entry` into `out`, LEPUGASO_ABSENT for each that it has not: a struct that ends in a runtime array has an
+ * alignment alone. The value is 0. Refuses 1 to 7, then 8, and leaves `out` as it was. */
 lepugaso_answer lepugaso_layout_of(const uint8_t *file, size_t file_len, uint32_t entry, lepugaso_layout *out);
 
 /* How far WGSL's automatic conversion from entry `from` to entry `to` is: 0 for the same type, else 1 to 7; of two ranks the lower is

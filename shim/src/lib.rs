@@ -11,12 +11,13 @@ mod surface;
 use lent::Lent;
 use surface::*;
 
-/// The three numbers of an entry, absent ones as `u64::MAX`.
+/// The four numbers of an entry, absent ones as `u64::MAX`.
 #[repr(C)]
 pub struct Layout {
     size: u64,
     align: u64,
     min_size: u64,
+    stride: u64,
 }
 
 /// The answer where a pointer cannot be what C says it is: none of document 01's numbers, which come after it.
@@ -79,7 +80,7 @@ pub unsafe extern "C" fn lepugaso_min_size(file: *const u8, file_len: usize, ent
     }
 }
 
-/// All three numbers of an entry's type, into `out`.
+/// All four numbers of an entry's type, into `out`.
 ///
 /// # Safety
 /// As `lepugaso_check`.
@@ -91,8 +92,8 @@ pub unsafe extern "C" fn lepugaso_layout_of(
     out: *mut Layout,
 ) -> Crossing {
     match (Lent::new(file, file_len), Lent::new(out, 1)) {
-        // SAFETY: as above; the caller lends `out` to be written, it has passed the tests, no byte of it is the file's, and three `u64` in
-        // a row are an array of three.
+        // SAFETY: as above; the caller lends `out` to be written, it has passed the tests, no byte of it is the file's, and four `u64` in
+        // a row are an array of four.
         (Some(file), Some(out)) if out.is_apart_from(&file) => unsafe {
             lepugaso_surface_layout(file.start(), file.count(), entry, out.start().cast())
         },

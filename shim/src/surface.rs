@@ -14,7 +14,7 @@ extern "C" {
     pub fn lepugaso_surface_size(file: *const u8, file_len: usize, entry: u32) -> Crossing;
     pub fn lepugaso_surface_align(file: *const u8, file_len: usize, entry: u32) -> Crossing;
     pub fn lepugaso_surface_min_size(file: *const u8, file_len: usize, entry: u32) -> Crossing;
-    pub fn lepugaso_surface_layout(file: *const u8, file_len: usize, entry: u32, out: *mut [u64; 3]) -> Crossing;
+    pub fn lepugaso_surface_layout(file: *const u8, file_len: usize, entry: u32, out: *mut [u64; 4]) -> Crossing;
     pub fn lepugaso_surface_rank(file: *const u8, file_len: usize, from: u32, to: u32) -> Crossing;
     pub fn lepugaso_surface_common(
         file: *const u8,

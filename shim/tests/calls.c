@@ -43,7 +43,7 @@ static void refused_files(void) {
         uint32_t refusal = bad_files[k].refusal, place = bad_files[k].place;
         size_t length = bad_files[k].length;
         const uint8_t *file = lent(bad_files[k].bytes, length);
-        lepugaso_layout out = {1, 2, 3};
+        lepugaso_layout out = {1, 2, 3, 4};
         uint32_t word = 5;
         uint8_t buf[] = {6, 7, 8, 9};
         EXPECT(lepugaso_check(file, length), refusal, place, 0);
@@ -51,7 +51,7 @@ static void refused_files(void) {
         EXPECT(lepugaso_align(file, length, 0), refusal, place, 0);
         EXPECT(lepugaso_min_size(file, length, 0), refusal, place, 0);
         EXPECT(lepugaso_layout_of(file, length, 0, &out), refusal, place, 0);
-        HOLDS(out.size == 1 && out.align == 2 && out.min_size == 3);
+        HOLDS(out.size == 1 && out.align == 2 && out.min_size == 3 && out.stride == 4);
         EXPECT(lepugaso_rank(file, length, 0, 0), refusal, place, 0);
         EXPECT(lepugaso_common(file, length, list, 1), refusal, place, 0);
         EXPECT(lepugaso_write(file, length, 0, list, 1, buf, sizeof buf), refusal, place, 0);
@@ -88,19 +88,54 @@ static void questions(const uint8_t *file, size_t length) {
     EXPECT(lepugaso_min_size(file, length, 9), LEPUGASO_REFUSED_ABSENT, 0, 0);
 }
 
-static void layouts(const uint8_t *file, size_t length) {
+#define NONE LEPUGASO_ABSENT
+
+/* The four numbers of an entry. */
+static void laid(const uint8_t *file, size_t length, uint32_t entry, uint64_t size, uint64_t align, uint64_t min_size, uint64_t stride) {
     lepugaso_layout *out = (void *)fresh(sizeof *out);
-    EXPECT(lepugaso_layout_of(file, length, 8, out), 0, 0, 0);
-    HOLDS(out->size == 32 && out->align == 16 && out->min_size == 32);
-    EXPECT(lepugaso_layout_of(file, length, 7, out), 0, 0, 0);
-    HOLDS(out->size == LEPUGASO_ABSENT && out->align == 16 && out->min_size == 16);
-    EXPECT(lepugaso_layout_of(file, length, 5, out), 0, 0, 0);
-    HOLDS(out->size == 12 && out->align == LEPUGASO_ABSENT && out->min_size == 12);
-    EXPECT(lepugaso_layout_of(file, length, 4, out), 0, 0, 0);
-    HOLDS(out->size == LEPUGASO_ABSENT && out->align == LEPUGASO_ABSENT && out->min_size == LEPUGASO_ABSENT);
-    *out = (lepugaso_layout){1, 2, 3};
+    EXPECT(lepugaso_layout_of(file, length, entry, out), 0, 0, 0);
+    HOLDS(out->size == size && out->align == align && out->min_size == min_size && out->stride == stride);
+}
+
+static void layouts(const uint8_t *file, size_t length) {
+    laid(file, length, 8, 32, 16, 32, 32);
+    laid(file, length, 7, NONE, 16, 16, 16);
+    laid(file, length, 5, 12, NONE, 12, NONE);
+    laid(file, length, 4, NONE, NONE, NONE, NONE);
+    laid(file, length, 9, NONE, 16, NONE, NONE);
+    laid(file, length, 10, 4294967292u, 4, 4294967292u, 4294967292u);
+    lepugaso_layout *out = (void *)fresh(sizeof *out);
+    *out = (lepugaso_layout){1, 2, 3, 4};
     EXPECT(lepugaso_layout_of(file, length, 12, out), LEPUGASO_REFUSED_ENTRY, 0, 0);
-    HOLDS(out->size == 1 && out->align == 2 && out->min_size == 3);
+    HOLDS(out->size == 1 && out->align == 2 && out->min_size == 3 && out->stride == 4);
+}
+
+/* A stride is the size rounded up to the alignment (E1), of a runtime array its element's. */
+static const uint8_t strided[] = {
+    F16,              /* 0 */
+    VECTOR(3, 0),     /* 1: vec3<f16>, 6 bytes */
+    MATRIX(2, 3, 0),  /* 2: mat2x3<f16> */
+    RUNTIME_ARRAY(1), /* 3: of vec3<f16> */
+    F32,              /* 4 */
+    VECTOR(3, 4),     /* 5: vec3<f32>, 12 bytes */
+    ARRAY(5, 4),      /* 6: of vec3<f32> */
+    I32,              /* 7 */
+    ATOMIC(7),        /* 8 */
+    STRUCT(0, 2),     /* 9: vec3<f16>, f16 */
+    MEMBER(1), MEMBER(0),
+    TRAILER(10, 2),
+};
+
+static void strides(void) {
+    const uint8_t *file = lent(strided, sizeof strided);
+    laid(file, sizeof strided, 0, 2, 2, 2, 2);
+    laid(file, sizeof strided, 1, 6, 8, 6, 8);
+    laid(file, sizeof strided, 2, 16, 8, 16, 16);
+    laid(file, sizeof strided, 3, NONE, 8, 8, 8);
+    laid(file, sizeof strided, 5, 12, 16, 12, 16);
+    laid(file, sizeof strided, 6, 64, 16, 64, 64);
+    laid(file, sizeof strided, 8, 4, 4, 4, 4);
+    laid(file, sizeof strided, 9, 8, 8, 8, 8);
 }
 
 static lepugaso_answer common(const uint8_t *file, size_t length, size_t count, uint32_t a, uint32_t b, uint32_t c) {
@@ -522,6 +557,7 @@ int main(void) {
     refused_files();
     questions(file, sizeof good);
     layouts(file, sizeof good);
+    strides();
     conversions(file, sizeof good);
     stored_values();
     write_refusals();

@@ -87,7 +87,7 @@ static void questions(const uint8_t *file, size_t length) {
     EXPECT(lepugaso_align(file, length, LAST), 0, 0, 16);
     EXPECT(lepugaso_min_size(file, length, LAST), 0, 0, SIZE);
     EXPECT(lepugaso_layout_of(file, length, LAST, out), 0, 0, 0);
-    HOLDS(out->size == SIZE && out->align == 16 && out->min_size == SIZE);
+    HOLDS(out->size == SIZE && out->align == 16 && out->min_size == SIZE && out->stride == SIZE);
     EXPECT(lepugaso_rank(file, length, LAST, LAST), 0, 0, 0);
     EXPECT(lepugaso_common(file, length, (const uint32_t[]){LAST}, 1), 0, 0, LAST);
 }
@@ -138,7 +138,7 @@ static void no_entries(const uint8_t *file, size_t length) {
     lepugaso_layout *out = (void *)fresh(sizeof *out);
     uint32_t *word = (void *)fresh(sizeof *word);
     uint8_t *buf = fresh(4);
-    *out = (lepugaso_layout){1, 2, 3};
+    *out = (lepugaso_layout){1, 2, 3, 4};
     *word = 5;
     memcpy(buf, "abcd", 4);
     for (uint32_t bit = 8; bit < 32; bit++) {
@@ -165,7 +165,7 @@ static void no_entries(const uint8_t *file, size_t length) {
             HOLDS(part == buf && part_len == 0);
         }
     }
-    HOLDS(out->size == 1 && out->align == 2 && out->min_size == 3);
+    HOLDS(out->size == 1 && out->align == 2 && out->min_size == 3 && out->stride == 4);
     HOLDS(*word == 5 && memcmp(buf, "abcd", 4) == 0);
 }
 

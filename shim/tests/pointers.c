@@ -9,7 +9,7 @@ static const uint8_t file[] = {U32, F32, TRAILER(2, 0)};
 static void bad_file(const uint8_t *at, size_t length) {
     static const uint32_t list[] = {0};
     static const uint8_t bytes[4];
-    lepugaso_layout out = {1, 2, 3};
+    lepugaso_layout out = {1, 2, 3, 4};
     uint32_t word = 5;
     uint8_t buf[] = {6, 7, 8, 9};
     REFUSED(lepugaso_check(at, length));
@@ -17,7 +17,7 @@ static void bad_file(const uint8_t *at, size_t length) {
     REFUSED(lepugaso_align(at, length, 0));
     REFUSED(lepugaso_min_size(at, length, 0));
     REFUSED(lepugaso_layout_of(at, length, 0, &out));
-    HOLDS(out.size == 1 && out.align == 2 && out.min_size == 3);
+    HOLDS(out.size == 1 && out.align == 2 && out.min_size == 3 && out.stride == 4);
     REFUSED(lepugaso_rank(at, length, 0, 0));
     REFUSED(lepugaso_common(at, length, list, 1));
     REFUSED(lepugaso_write(at, length, 0, list, 1, buf, sizeof buf));
@@ -92,6 +92,7 @@ static void results(void) {
     REFUSED(lepugaso_layout_of(NULL, 0, 0, NULL));
     REFUSED(lepugaso_layout_of(file, sizeof file, 0, (lepugaso_layout *)(void *)((uint8_t *)out + 4)));
     REFUSED(lepugaso_layout_of(file, sizeof file, 0, (lepugaso_layout *)(UINTPTR_MAX - 15)));
+    REFUSED(lepugaso_layout_of(file, sizeof file, 0, (lepugaso_layout *)(UINTPTR_MAX - 23))); /* its last number past the end */
     /* An empty file shares no byte with the result that it lies in. */
     EXPECT(lepugaso_layout_of((const uint8_t *)out + 8, 0, 0, out), LEPUGASO_REFUSED_SHORT_FILE, 0, 0);
 }
@@ -105,7 +106,7 @@ static void overlaps(void) {
         lepugaso_layout layouts[256 / sizeof(lepugaso_layout)];
     } memory, expected;
     lepugaso_layout *out = &memory.layouts[RESULT / sizeof *out];
-    lepugaso_layout four = {4, 4, 4};
+    lepugaso_layout four = {4, 4, 4, 4};
     for (size_t at = RESULT - sizeof file - 2; at <= RESULT + sizeof *out + 2; at++) {
         int shared = at < RESULT + sizeof *out && RESULT < at + sizeof file;
         memset(&memory, 0xA5, sizeof memory);

@@ -51,9 +51,11 @@ pub fn say_layout(a: Answer) {
             let size = s.size;
             let align = s.align;
             let min = s.min;
+            let stride = s.stride;
             say_maybe(size, b" ");
             say_maybe(align, b" ");
-            say_maybe(min, b"\n");
+            say_maybe(min, b" ");
+            say_maybe(stride, b"\n");
         }
         Answer::Refused(r) => {
             say_refused(r);

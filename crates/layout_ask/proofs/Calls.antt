@@ -1,7 +1,7 @@
 -- What the check and the four questions say (crates/wgsl, specs/Call), read from the table's answer and from a layout in it.
 --
--- In order: 0 for an absent number; minimum sizes; the check; the layout of an entry; what it tells: the three numbers asked alone, and
--- all at once.
+-- In order: 0 for an absent number; minimum sizes; the check; the layout of an entry; what it tells: three numbers asked alone, and all
+-- four at once.
 -- Assumes nothing.
 use Prim.Native.Nat.{ℕ, _≤_}
 use mathlib.Core.Bool.{true}
@@ -11,7 +11,7 @@ use mathlib.Core.Path.{_≡_, refl, sym, ap, _∙_}
 use native.Mathlib.Omega.{arith}
 use borrow.Author.Tests.{eq-eqb, ne-eqb}
 use Rattle.wgsl.specs.Types.{Ty, scalar, vector, matrix, array, runtime, atomic, struct, everywhere, kindOf}
-use Rattle.wgsl.specs.Size.{present, sizeOf, alignOf, minSizeOf}
+use Rattle.wgsl.specs.Size.{present, sizeOf, alignOf, minSizeOf, ownStrideOf}
 use Rattle.wgsl.specs.Said.{Said, good, refused, _>>=_, orRefuse}
 use Rattle.wgsl.specs.File.{checkTrailer}
 use Rattle.wgsl.specs.Rule.{isWellFormed}
@@ -19,6 +19,7 @@ use Rattle.wgsl.specs.Call.{checkOf, entryOf, sizeCall, alignCall, minSizeCall,
 use Rattle.wgsl.proofs.Said.{good-not-refused, then-good, then-cases, then-is, then-refused}
 use Rattle.wgsl.proofs.Passed.{runtime-passed}
 use Rattle.wgsl.proofs.Entry.{size-positive, align-positive, stride-positive}
+use Rattle.wgsl.proofs.Stride.{own-stride-positive}
 use Rattle.wgsl.proofs.EntryFor.{entry-well-formed}
 use Rattle.said.specs.Refusal.{numberOf, placeOf}
 use Rattle.said.specs.declared.refusal.Refusal.{Refusal}
@@ -180,16 +181,18 @@ module _ (f : List ℕ) (e : ℕ) (a : ValueFound) (says : saidValue a ≡ value
       unfolding minSizeCall
       ask-min-size h = ask-number minSizeOf least-positive least same h
 
-      -- "(the layout answer marks it absent instead)"
-      pub ask-layout : {size align min : Option ℕ} → size ≡ marked (l .size) → align ≡ marked (l .align) → min ≡ marked least → good (record { size = size; align = align; minSize = min }) ≡ layoutCall f e
+      -- "(the layout answer marks it absent instead)"; its stride as well
+      pub ask-layout : (own : ℕ) → ((t : Ty) → l ≡ valueOf (l .reference) t → everywhere isWellFormed t ≡ true → own ≡ present (ownStrideOf t)) → {size align min stride : Option ℕ} → size ≡ marked (l .size) → align ≡ marked (l .align) → min ≡ marked least → stride ≡ marked own → good (record { size = size; align = align; minSize = min; stride = stride }) ≡ layoutCall f e
       unfolding layoutCall layoutOf valueOf
-      ask-layout p q r =
+      ask-layout own stride p q r s =
           ask-is _ _ (λ t v w.
           rw (
             p,
             q,
             r,
+            s,
             marked-is sizeOf sizes-positive t w (ap (λ (x : Value). x .size) v),
             marked-is alignOf align-positive t w (ap (λ (x : Value). x .align) v),
             marked-is minSizeOf least-positive t w (same t v),
+            marked-is ownStrideOf own-stride-positive t w (stride t v w),
           ))

@@ -1,5 +1,5 @@
-// The layout library: is a file good, and what size, alignment and minimum size has an entry. The check and the four questions of
-// document 01, over the promises of crates/layout_table.
+// The layout library: is a file good, and what size, alignment, minimum size and stride has an entry. The check and the four questions
+// of document 01, over the promises of crates/layout_table.
 use file::kinds::RUNTIME;
 use file::trailer::Trailered;
 use file::trailer::check_trailer;
@@ -9,6 +9,7 @@ use layout_table::accept;
 use layout_table::find;
 use layout_values::value::Value;
 use layout_values::value::blank;
+use layout_values::value::stride_of;
 use said::answer::Answer;
 use said::answer::Maybe;
 use said::answer::Number;
@@ -120,7 +121,7 @@ pub fn min_size(file: &[u8], entry: u32) -> Number
     }
 }
 
-// All three numbers of an entry's type, absent ones marked.
+// All four numbers of an entry's type, absent ones marked: size, alignment, minimum size, stride.
 // Refuses 1 to 7 (file), 8.
 pub fn layout(file: &[u8], entry: u32) -> Answer
     ensures { λ r. ⌜ saidAnswer r ≡ layoutCall (now (file .entry)) entry ⌝ }
@@ -130,6 +131,7 @@ pub fn layout(file: &[u8], entry: u32) -> Answer
             size: mark(l.size),
             align: mark(l.align),
             min: mark(least(l)),
+            stride: mark(stride_of(l)),
         }),
         ValueFound::Refused(r) => Answer::Refused(r),
     }

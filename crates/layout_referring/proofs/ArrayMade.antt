@@ -1,6 +1,6 @@
 -- What becomes of an array's entry (crates/wgsl, specs/Rule, specs/Size), by what is known of its fields and of its element.
 --
--- In order: the words of an element; then, of an entry, its fields; the rules; an element with no alignment; an element that has one: numbers
+-- In order: the words of an element; then, of an entry, its fields; the rules; an element with no alignment; one that has one; any: numbers
 -- past the limit, the layout.
 -- Assumes nothing.
 use Prim.Native.Nat.{ℕ, zero, suc, _*_, _<_, _≤_}
@@ -9,17 +9,18 @@ use mathlib.Core.List.{[], _∷_}
 use mathlib.Core.Option.{none, some}
 use mathlib.Core.Path.{_≡_, refl, sym, ap, _∙_}
 use native.Mathlib.Omega.{arith}
-use native.Mathlib.Nat.{mul-le-mul-right}
+use native.Mathlib.Nat.{mul-zero}
 use borrow.Author.Tests.{le-leb, lt-leb}
 use Rattle.wgsl.specs.Round.{up, withinLimit}
 use Rattle.wgsl.specs.Types.{Ty, array, isOpen, everywhere, kindOf}
-use Rattle.wgsl.specs.Size.{both, isPresent, present, sizeOf, alignOf, strideOf, minSizeOf, innerNumbersOf, numbersOf, withinLimits, fitsLimit, hasLayout}
+use Rattle.wgsl.specs.Size.{both, isPresent, present, sizeOf, alignOf, strideOf, ownStrideOf, minSizeOf, innerNumbersOf, numbersOf, withinLimits, fitsLimit, hasLayout}
 use Rattle.wgsl.specs.File.{TypeEntry}
 use Rattle.wgsl.specs.Rule.{when, andThen, unused, arrayMade, isAllowed, givenFits, isWellFormed}
 use Rattle.numbers.specs.Limit.{limited}
 use Rattle.numbers.specs.declared.limit.Limited.the-variants.{Is, TooLarge}
 use Rattle.layout_referring.proofs.Limited.{limited-is, limited-large}
-use Rattle.layout_values.proofs.ValueOf.{Element, element, align-within, words-within, no-words}
+use Rattle.layout_values.proofs.ValueOf.{unaligned, Element, element, align-within, words-within, no-words}
+use Rattle.layout_values.proofs.StrideOf.{element-stride, unaligned-stride}
 use Rattle.layout_values.specs.Value.{narrowOf, partsOf, fixedWords, wordsIn, valueOf, verdictOn, madeOf}
 use Rattle.layout_values.specs.declared.value.Value.{Value}
 use Rattle.layout_values.specs.declared.value.Made.the-variants.{Laid, Rule, Large}
@@ -67,65 +68,78 @@ module _ (e : TypeEntry) (t : Ty) where
       -- ---- an element with no alignment
 
       -- "A number made from an absent one is absent": such an array has neither size nor layout.
-      pub array-unaligned : (l : Value) → l ≡ valueOf (l .reference) t → isOpen t ≡ false → alignOf t ≡ none → madeOf (e .reference) (arrayMade (some t) e) ≡ Laid (record { kind = 9; narrow = l .narrow; reference = e .reference; count = e .count; unit = 0; stride = 0; size = 0; align = 0 })
+      none-laid : (l : Value) → l ≡ valueOf (l .reference) t → isOpen t ≡ false → alignOf t ≡ none → madeOf (e .reference) (arrayMade (some t) e) ≡ Laid (record { kind = 9; narrow = l .narrow; reference = e .reference; count = e .count; unit = 0; stride = 0; size = 0; align = 0 })
       unfolding fitsLimit withinLimits numbersOf minSizeOf innerNumbersOf strideOf sizeOf alignOf both valueOf kindOf narrowOf partsOf present hasLayout isPresent
-      array-unaligned l is h q =
+      none-laid l is h q =
           let narrow : narrowOf t ≡ l .narrow = sym (ap (λ (x : Value). x .narrow) is) in
           array-allowed h ∙ rw (q, narrow)
 
       -- ---- an element that has one
 
-      module _ (l : Value) (x : Element t l) where
-        size-is : sizeOf (array (e .count) t) ≡ some (e .count * up (l .align) (l .size))
+      module _ (l : Value) (x : Element t l) (stride : ℕ) (own : stride ≡ present (ownStrideOf t)) where
+        number : (up (l .align) (l .size) ≡ stride) × (stride ≤ 4294967295)
+        number = element-stride t l x stride own
+
+        size-is : sizeOf (array (e .count) t) ≡ some (e .count * stride)
         unfolding sizeOf both
-        size-is = rw (x .align-is, x .size-is)
+        size-is = rw (x .align-is, x .size-is, number .0)
 
-        past : 4294967295 < e .count * up (l .align) (l .size) → madeOf (e .reference) (arrayMade (some t) e) ≡ Large
+        -- "Array: count x stride", past the limit
+        large : limited (e .count * stride) ≡ TooLarge → madeOf (e .reference) (arrayMade (some t) e) ≡ Large
         unfolding fitsLimit withinLimits numbersOf withinLimit
-        past h =
-            array-allowed (x .closed)
-            ∙ rw (size-is, lt-leb (e .count * up (l .align) (l .size)) 4294967295 h)
+        large h = array-allowed (x .closed) ∙ rw (size-is, lt-leb _ _ (limited-large _ h))
 
-        -- "Stride of an array: up(element alignment, element size)", past the limit
-        pub array-apart : limited (up (l .align) (l .size)) ≡ TooLarge → madeOf (e .reference) (arrayMade (some t) e) ≡ Large
-        array-apart h =
-            past (omega (arith, limited-large _ h, mul-le-mul-right (up (l .align) (l .size)) full))
+        module _ (size : ℕ) (whole : limited (e .count * stride) ≡ Is size) where
+          fits : fitsLimit (array (e .count) t) ≡ true
+          unfolding fitsLimit withinLimits numbersOf minSizeOf innerNumbersOf strideOf sizeOf both withinLimit
+          fits =
+              rw (
+                x .align-is,
+                x .size-is,
+                number .0,
+                le-leb _ _ (limited-is _ size whole .1),
+                le-leb _ _ (number .1),
+                le-leb _ _ (align-within t l x),
+              )
 
-        module _ (stride : ℕ) (apart : limited (up (l .align) (l .size)) ≡ Is stride) where
-          stride-is : up (l .align) (l .size) ≡ stride
-          stride-is = limited-is _ stride apart .0
+          laid : madeOf (e .reference) (arrayMade (some t) e) ≡ Laid (record { kind = 9; narrow = l .narrow; reference = e .reference; count = e .count; unit = wordsIn l; stride = stride; size = size; align = l .align })
+          unfolding valueOf kindOf narrowOf partsOf present fixedWords hasLayout isPresent isOpen sizeOf alignOf strideOf both
+          laid =
+              array-allowed (x .closed)
+              ∙ rw (
+                fits,
+                x .words-is,
+                x .narrow-is,
+                x .align-is,
+                x .size-is,
+                or-true (isOpen t),
+                number .0,
+                limited-is _ size whole .0,
+              )
 
-          -- "Array: count x stride", past the limit
-          pub array-large : limited (e .count * stride) ≡ TooLarge → madeOf (e .reference) (arrayMade (some t) e) ≡ Large
-          array-large h = past (rw stride-is (limited-large _ h))
+      -- ---- any element
 
-          module _ (size : ℕ) (whole : limited (e .count * stride) ≡ Is size) where
-            fits : fitsLimit (array (e .count) t) ≡ true
-            unfolding fitsLimit withinLimits numbersOf minSizeOf innerNumbersOf strideOf sizeOf both withinLimit
-            fits =
-                let apart-within = limited-is _ stride apart .1 in
-                let whole-within = limited-is _ size whole .1 in
-                rw (
-                  x .align-is,
-                  x .size-is,
-                  stride-is,
-                  le-leb _ _ whole-within,
-                  le-leb stride _ (rw stride-is at apart-within),
-                  le-leb _ _ (align-within t l x),
-                )
+      module _ (l : Value) (is : l ≡ valueOf (l .reference) t) (w : everywhere isWellFormed t ≡ true) (closed : isOpen t ≡ false) (stride : ℕ) (own : stride ≡ present (ownStrideOf t)) where
+        no-stride : l .align ≡ 0 → stride ≡ 0
+        no-stride q = unaligned-stride t stride closed (unaligned t l is w q) own
 
-            -- The layout of an array.
-            pub array-laid : madeOf (e .reference) (arrayMade (some t) e) ≡ Laid (record { kind = 9; narrow = l .narrow; reference = e .reference; count = e .count; unit = wordsIn l; stride = stride; size = size; align = l .align })
-            unfolding valueOf kindOf narrowOf partsOf present fixedWords hasLayout isPresent isOpen sizeOf alignOf strideOf both
-            array-laid =
-                array-allowed (x .closed)
-                ∙ rw (
-                  fits,
-                  x .words-is,
-                  x .narrow-is,
-                  x .align-is,
-                  x .size-is,
-                  or-true (isOpen t),
-                  stride-is,
-                  limited-is _ size whole .0,
-                )
+        -- "Array: count x stride", past the limit
+        pub array-large : limited (e .count * stride) ≡ TooLarge → madeOf (e .reference) (arrayMade (some t) e) ≡ Large
+        array-large h = go (l .align) refl
+          where
+            go : (a : ℕ) → l .align ≡ a → madeOf (e .reference) (arrayMade (some t) e) ≡ Large
+            go zero q =
+                let none-there : e .count * stride ≡ 0 = rw (no-stride q) (mul-zero (e .count)) in
+                absurd (omega (arith, limited-large _ h, none-there))
+            go (suc a) q = large l (element t l is w closed (omega arith)) stride own h
+
+        -- The layout of an array.
+        pub array-laid : (size : ℕ) → limited (e .count * stride) ≡ Is size → madeOf (e .reference) (arrayMade (some t) e) ≡ Laid (record { kind = 9; narrow = l .narrow; reference = e .reference; count = e .count; unit = wordsIn l; stride = stride; size = size; align = l .align })
+        array-laid size h = go (l .align) refl
+          where
+            go : (a : ℕ) → l .align ≡ a → madeOf (e .reference) (arrayMade (some t) e) ≡ Laid (record { kind = 9; narrow = l .narrow; reference = e .reference; count = e .count; unit = wordsIn l; stride = stride; size = size; align = l .align })
+            go zero q =
+                let none-there : e .count * stride ≡ 0 = rw (no-stride q) (mul-zero (e .count)) in
+                let none-long : size ≡ 0 = sym (limited-is _ size h .0) ∙ none-there in
+                rw (no-words t l is w q, no-stride q, none-long, q) (none-laid l is closed (unaligned t l is w q))
+            go (suc a) q = laid l (element t l is w closed (omega arith)) stride own size h

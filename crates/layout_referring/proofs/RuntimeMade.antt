@@ -1,22 +1,20 @@
 -- What becomes of a runtime array's entry (crates/wgsl, specs/Rule, specs/Size), by what is known of its fields and of its element.
 --
--- In order: the fields; the rules; an element that has an alignment: a stride past the limit, the layout.
+-- In order: the fields; the rules; an element that has an alignment: the layout.
 -- Assumes nothing.
-use Prim.Native.Nat.{ℕ}
+use Prim.Native.Nat.{ℕ, _≤_}
 use mathlib.Core.Bool.{true, false, cond, and-false, or-true}
 use mathlib.Core.List.{[], _∷_}
 use mathlib.Core.Option.{none, some}
 use mathlib.Core.Path.{_≡_, _∙_}
-use borrow.Author.Tests.{le-leb, lt-leb}
+use borrow.Author.Tests.{le-leb}
 use Rattle.wgsl.specs.Round.{up, withinLimit}
 use Rattle.wgsl.specs.Types.{Ty, runtime, isOpen, kindOf}
-use Rattle.wgsl.specs.Size.{both, isPresent, present, sizeOf, alignOf, strideOf, minSizeOf, innerNumbersOf, numbersOf, withinLimits, fitsLimit, hasLayout}
+use Rattle.wgsl.specs.Size.{both, isPresent, present, sizeOf, alignOf, strideOf, ownStrideOf, minSizeOf, innerNumbersOf, numbersOf, withinLimits, fitsLimit, hasLayout}
 use Rattle.wgsl.specs.File.{TypeEntry}
 use Rattle.wgsl.specs.Rule.{when, andThen, unused, runtimeMade, isAllowed, givenFits}
-use Rattle.numbers.specs.Limit.{limited}
-use Rattle.numbers.specs.declared.limit.Limited.the-variants.{Is, TooLarge}
-use Rattle.layout_referring.proofs.Limited.{limited-is, limited-large}
 use Rattle.layout_values.proofs.ValueOf.{Element, align-within}
+use Rattle.layout_values.proofs.StrideOf.{element-stride}
 use Rattle.layout_values.specs.Value.{narrowOf, partsOf, fixedWords, wordsIn, valueOf, verdictOn, madeOf}
 use Rattle.layout_values.specs.declared.value.Value.{Value}
 use Rattle.layout_values.specs.declared.value.Made.the-variants.{Laid, Rule, Large}
@@ -53,20 +51,16 @@ module _ (e : TypeEntry) (t : Ty) where
       unfolding verdictOn isAllowed givenFits isPresent
       runtime-allowed = runtime-made ∙ rw (x .closed, x .align-is, x .size-is)
 
-      -- "its minimum size is one stride", past the limit
-      pub runtime-apart : limited (up (l .align) (l .size)) ≡ TooLarge → madeOf (e .reference) (runtimeMade (some t) e) ≡ Large
-      unfolding fitsLimit withinLimits numbersOf minSizeOf innerNumbersOf strideOf sizeOf both withinLimit
-      runtime-apart h =
-          runtime-allowed
-          ∙ rw (x .align-is, x .size-is, lt-leb (up (l .align) (l .size)) 4294967295 (limited-large _ h), and-false)
+      -- The layout of a runtime array: its stride is the element's.
+      module _ (stride : ℕ) (own : stride ≡ present (ownStrideOf t)) where
+        number : (up (l .align) (l .size) ≡ stride) × (stride ≤ 4294967295)
+        number = element-stride t l x stride own
 
-      module _ (stride : ℕ) (apart : limited (up (l .align) (l .size)) ≡ Is stride) where
         fits : fitsLimit (runtime t) ≡ true
         unfolding fitsLimit withinLimits numbersOf minSizeOf innerNumbersOf strideOf sizeOf both withinLimit
         fits =
-            simp (x .align-is, x .size-is, le-leb _ _ (limited-is _ stride apart .1), le-leb _ _ (align-within t l x))
+            simp (x .align-is, x .size-is, number .0, le-leb _ _ (number .1), le-leb _ _ (align-within t l x))
 
-        -- The layout of a runtime array.
         pub runtime-laid : madeOf (e .reference) (runtimeMade (some t) e) ≡ Laid (record { kind = 10; narrow = l .narrow; reference = e .reference; count = 0; unit = wordsIn l; stride = stride; size = 0; align = l .align })
         unfolding valueOf kindOf narrowOf partsOf present fixedWords hasLayout isPresent isOpen sizeOf alignOf strideOf both
         runtime-laid =
@@ -78,5 +72,5 @@ module _ (e : TypeEntry) (t : Ty) where
               x .align-is,
               x .size-is,
               or-true (isOpen t),
-              limited-is _ stride apart .0,
+              number .0,
             )

@@ -17,10 +17,10 @@ use layout_values::scalars::zeros;
 use layout_values::value::Made;
 use layout_values::value::Value;
 use layout_values::value::opens;
+use layout_values::value::stride_of;
 use layout_values::value::words_of;
 use numbers::limit::Limited;
 use numbers::limit::product;
-use numbers::limit::round_up;
 ghost use mathlib.Core.Path.{_≡_};
 ghost use mathlib.Core.Option.{some};
 ghost use mathlib.Core.Bool.{true};
@@ -109,7 +109,7 @@ pub fn matrix(e: TypeEntry, l: Value) -> Made
     })
 }
 
-// "9 array: reference, count at least 1"; an array's element isn't open.
+// "9 array: reference, count at least 1"; an array's element isn't open. Where it has no stride, neither has the array a size.
 pub fn array(e: TypeEntry, l: Value) -> Made
     requires { ⌜ Known l ⌝ }
     ensures { λ r. ⌜ ((t : Ty) → l ≡ valueOf (l .reference) t → everywhere isWellFormed t ≡ true → r ≡ madeOf (e .reference) (arrayMade (some t) (entryIs e))) ⌝ }
@@ -124,24 +124,7 @@ pub fn array(e: TypeEntry, l: Value) -> Made
     if opens(l) {
         return Made::Rule;
     }
-    let align = l.align;
-    let element = l.size;
-    let unit = words_of(l);
-    if align == 0 {
-        return Made::Laid(Value {
-            kind: ARRAY,
-            narrow: l.narrow,
-            reference: e.reference,
-            count,
-            unit: 0,
-            stride: 0,
-            size: 0,
-            align: 0,
-        });
-    }
-    let Limited::Is(stride) = round_up(align, element) else {
-        return Made::Large;
-    };
+    let stride = stride_of(l);
     let Limited::Is(size) = product(count, stride) else {
         return Made::Large;
     };
@@ -150,10 +133,10 @@ pub fn array(e: TypeEntry, l: Value) -> Made
         narrow: l.narrow,
         reference: e.reference,
         count,
-        unit,
+        unit: words_of(l),
         stride,
         size,
-        align,
+        align: l.align,
     })
 }
 
@@ -172,16 +155,13 @@ pub fn runtime(e: TypeEntry, l: Value) -> Made
     if align == 0 {
         return Made::Rule;
     }
-    let Limited::Is(stride) = round_up(align, l.size) else {
-        return Made::Large;
-    };
     Made::Laid(Value {
         kind: RUNTIME,
         narrow: l.narrow,
         reference: e.reference,
         count: 0,
         unit: words_of(l),
-        stride,
+        stride: stride_of(l),
         size: 0,
         align,
     })

@@ -5,5 +5,6 @@ pub mod VectorAlign
 pub mod SizeOf
 pub mod WordsIn
 pub mod ValueOf
+pub mod StrideOf
 pub mod NarrowOf
 pub mod ValuesOf

@@ -51,6 +51,24 @@ module _ (t : Ty) (l : Value) (is : l ≡ valueOf (l .reference) t) (w : everywh
           absurd (omega (arith, align-positive t a w q))
       go none q = refl
 
+  -- A size of 0 stands for none.
+  pub unsized : l .size ≡ 0 → sizeOf t ≡ none
+  unfolding present
+  unsized e = go (sizeOf t) refl
+    where
+      go : (o : Option ℕ) → sizeOf t ≡ o → o ≡ none
+      go (some z) q =
+          let zero : z ≡ 0 = sym (size-is ∙ ap present q) ∙ e in
+          absurd (omega (arith, size-positive t z w q))
+      go none q = refl
+
+  -- Any other is the type's.
+  pub aligned : (l .align ≡ 0 → ⊥) → alignOf t ≡ some (l .align)
+  aligned h = there (alignOf t) (omega (arith, align-is, h)) ∙ ap some (sym align-is)
+
+  pub sized : (l .size ≡ 0 → ⊥) → sizeOf t ≡ some (l .size)
+  sized h = there (sizeOf t) (omega (arith, size-is, h)) ∙ ap some (sym size-is)
+
   -- ---- whether a type is open stands in its layout
 
   pub size-closed : (l .size ≡ 0 → ⊥) → isOpen t ≡ false

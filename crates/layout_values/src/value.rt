@@ -1,10 +1,12 @@
 // What the table holds of an entry: its value, eight numbers, and their names.
+use file::kinds::RUNTIME;
 use file::kinds::STRUCT;
 ghost use mathlib.Core.Path.{_≡_};
 ghost use mathlib.Core.Bool.{true};
 ghost use Prim.Native.Nat.{_<_, _≤_};
 ghost use lib.ListN.{length};
 ghost use Rattle.wgsl.specs.Types.{Ty, everywhere, isOpen};
+ghost use Rattle.wgsl.specs.Size.{present, ownStrideOf};
 ghost use Rattle.wgsl.specs.Rule.{isWellFormed};
 ghost use Rattle.wgsl.specs.Round.{limit};
 ghost use Rattle.layout_values.specs.Value.{valueOf, wordsIn, rowOf, valueAt, blankTable};
@@ -102,6 +104,26 @@ pub fn opens(l: Value) -> bool
         return false;
     }
     l.align != 0
+}
+
+// The stride of a type: its size rounded up to its alignment, of a runtime array its element's; 0 where it has none. Nothing is rounded:
+// every size is a multiple of the alignment, but for that of a vector of three, which is below it.
+pub fn stride_of(l: Value) -> u32
+    ensures { λ r. ⌜ ((t : Ty) → l ≡ valueOf (l .reference) t → everywhere isWellFormed t ≡ true → r ≡ present (ownStrideOf t)) ⌝ }
+{
+    if l.kind == RUNTIME {
+        return l.stride;
+    }
+    if l.size == 0 {
+        return 0;
+    }
+    if l.align == 0 {
+        return 0;
+    }
+    if l.size < l.align {
+        return l.align;
+    }
+    l.size
 }
 
 // The words of a type, with no element of a runtime array; 0 where it has no layout.

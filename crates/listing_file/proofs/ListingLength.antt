@@ -11,15 +11,15 @@ use native.Mathlib.Omega.{arith}
 use lib.Dec.{ltb}
 use lib.ListN.{length, length-append}
 use Rattle.wgsl.specs.Types.{Ty}
-use Rattle.wgsl.specs.Size.{sizeOf, alignOf}
+use Rattle.wgsl.specs.Size.{sizeOf, alignOf, ownStrideOf}
 use Rattle.wgsl.specs.Said.{Said, good, refused}
 use Rattle.wgsl.specs.File.{between}
 use Rattle.wgsl.specs.Rule.{typesOf}
-use Rattle.wgsl.specs.Listing.{entriesText, refusedText, atText, space, newline, dash, decimal, orDash, entryLine, entryLines, refusedLine, listed, inputLimit, listingOf}
+use Rattle.wgsl.specs.Listing.{entriesText, refusedText, atText, space, newline, dash, decimal, orDash, column, entryLine, entryLines, refusedLine, listed, inputLimit, listingOf}
 use Rattle.wgsl.proofs.Accepted.{accepted}
-use Rattle.listing_text.specs.Put.{Put, marked, line, heading}
+use Rattle.listing_text.specs.Put.{Put, line, heading}
 use Rattle.listing_text.proofs.Decimal.{decimal-length}
-use Rattle.listing_text.proofs.Lines.{marked-length}
+use Rattle.listing_text.proofs.Lines.{column-length as marked-length}
 use Rattle.listing_text.proofs.PutLaws.{put-length}
 
 -- ---- lines
@@ -29,26 +29,32 @@ unfolding orDash dash
 orDash-length none = omega arith
 orDash-length (some n) = decimal-length n
 
--- a number and two texts of at most ten signs
-parted-length : (k : ℕ) (x y : List ℕ) → length x ≤ 10 → length y ≤ 10 → length (decimal k ++ space ++ x ++ space ++ y ++ newline) ≤ 33
-unfolding space newline
-parted-length k x y p q = simp length-append (omega (arith, decimal-length k))
+column-length : (o : Option ℕ) → length (column o) ≤ 11
+unfolding column space
+column-length o = omega (arith, orDash-length o)
 
-pub line-length : (k size align : ℕ) → length (line k size align) ≤ 33
+-- a number and three texts of at most eleven signs
+columns-length : (k : ℕ) (x y z : List ℕ) → length x ≤ 11 → length y ≤ 11 → length z ≤ 11 → length (decimal k ++ x ++ y ++ z ++ newline) ≤ 44
+unfolding newline
+columns-length k x y z p q r = simp length-append (omega (arith, decimal-length k))
+
+pub line-length : (k size align stride : ℕ) → length (line k size align stride) ≤ 44
 unfolding line
-line-length k size align = parted-length k (marked size) (marked align) (marked-length size) (marked-length align)
+line-length k size align stride = columns-length k _ _ _ (marked-length size) (marked-length align) (marked-length stride)
 
 pub heading-length : (types : ℕ) → length (heading types) ≤ 19
 unfolding heading entriesText newline
 heading-length types = simp length-append (omega (arith, decimal-length types))
 
-entryLines-length : (k : ℕ) (ts : List Ty) → length (entryLines k ts) ≤ 33 * length ts
+entryLines-length : (k : ℕ) (ts : List Ty) → length (entryLines k ts) ≤ 44 * length ts
 unfolding entryLines entryLine
 entryLines-length k [] = omega arith
 entryLines-length k (t ∷ ts) =
-    let size = orDash (sizeOf t) in
-    let align = orDash (alignOf t) in
-    let l = parted-length k size align (orDash-length (sizeOf t)) (orDash-length (alignOf t)) in
+    let size = column (sizeOf t) in
+    let align = column (alignOf t) in
+    let stride = column (ownStrideOf t) in
+    let l =
+    columns-length k size align stride (column-length (sizeOf t)) (column-length (alignOf t)) (column-length (ownStrideOf t)) in
     rw (length-append (entryLine k t) (entryLines (suc k) ts)) (omega (arith, entryLines-length (suc k) ts))
 
 refusedLine-length : (number place : ℕ) → length (refusedLine number place) ≤ 33
@@ -62,7 +68,7 @@ refusedLine-length number place =
 
 -- ---- a whole listing
 
-listed-length : (f : List ℕ) (s : Said (List Ty)) → typesOf f ≡ s → length (listed s) ≤ 8467
+listed-length : (f : List ℕ) (s : Said (List Ty)) → typesOf f ≡ s → length (listed s) ≤ 11283
 unfolding listed heading
 listed-length f (good ts) e =
     let x = accepted f ts e in
@@ -70,14 +76,14 @@ listed-length f (good ts) e =
     (omega (arith, heading-length (length ts), entryLines-length 0 ts))
 listed-length f (refused number place) e = omega (arith, refusedLine-length number place)
 
-listing-length : (f : List ℕ) → length (listingOf f) ≤ 8467
+listing-length : (f : List ℕ) → length (listingOf f) ≤ 11283
 unfolding listingOf
 listing-length f = go (ltb inputLimit (length f))
   where
-    go : (b : Bool) → length (cond b (refusedLine 17 0) (listed (typesOf f))) ≤ 8467
+    go : (b : Bool) → length (cond b (refusedLine 17 0) (listed (typesOf f))) ≤ 11283
     go true = omega (arith, refusedLine-length 17 0)
     go false = listed-length f (typesOf f) refl
 
 -- It ends inside a buffer that has room for the longest.
-pub listing-inside : {b after : List ℕ} {r : ℕ} (f : List ℕ) → 8467 ≤ length b → Put b 0 (listingOf f) r after → r ≤ length after
+pub listing-inside : {b after : List ℕ} {r : ℕ} (f : List ℕ) → 11283 ≤ length b → Put b 0 (listingOf f) r after → r ≤ length after
 listing-inside f h p = omega (arith, p .next, listing-length f, put-length p)

@@ -15,21 +15,22 @@ use borrow.Author.Tests.{lt-ltb, le-ltb}
 use lib.ListN.{length, drop, getElem?}
 use lib.Seq.{drop-length}
 use Rattle.wgsl.specs.Types.{Ty, everywhere}
-use Rattle.wgsl.specs.Size.{present, sizeOf, alignOf}
+use Rattle.wgsl.specs.Size.{present, sizeOf, alignOf, ownStrideOf}
 use Rattle.wgsl.specs.Said.{Said, good, refused}
 use Rattle.wgsl.specs.File.{typeEntryAt}
 use Rattle.wgsl.specs.Rule.{isWellFormed, typesOf}
-use Rattle.wgsl.specs.Listing.{orDash, entryLine, entryLines, refusedLine, listed, inputLimit, listingOf}
+use Rattle.wgsl.specs.Listing.{orDash, column, entryLine, entryLines, refusedLine, listed, inputLimit, listingOf}
 use Rattle.wgsl.proofs.Accepted.{accepted-well-formed, refused-place}
 use Rattle.wgsl.proofs.Entry.{size-positive, align-positive}
+use Rattle.wgsl.proofs.Stride.{own-stride-positive}
 use Rattle.said.specs.Refusal.{numberOf, placeOf}
 use Rattle.said.specs.declared.refusal.Refusal.{Refusal}
 use Rattle.file.specs.declared.trailer.Trailer.{Trailer}
 use Rattle.layout_values.specs.Value.{valueOf, valueAt, valuesOf}
-use Rattle.layout_values.proofs.ValuesOf.{table-at}
+use Rattle.layout_values.proofs.ValuesOf.{table-at, own-reference}
 use Rattle.layout_values.specs.declared.value.Value.{Value}
 use Rattle.layout_table.proofs.SaidTable.{Taken}
-use Rattle.listing_text.specs.Put.{Put, marked, line, heading}
+use Rattle.listing_text.specs.Put.{Put, marked, markedColumn, line, heading}
 use Rattle.listing_text.proofs.Lines.{marked-absent, marked-number}
 use Rattle.listing_text.proofs.PutLaws.{put-then, put-length}
 use Rattle.listing_file.specs.List.{Entries}
@@ -43,13 +44,15 @@ unfolding present orDash
 marked-present none h = marked-absent 0 refl
 marked-present (some n) h = let l : 1 ≤ n = h n refl in marked-number n (λ z. omega arith)
 
-line-is : (k r : ℕ) (l : Value) (t : Ty) → l ≡ valueOf r t → everywhere isWellFormed t ≡ true → line k (l .size) (l .align) ≡ entryLine k t
-unfolding line entryLine valueOf
-line-is k r l t e w =
+line-is : (k r stride : ℕ) (l : Value) (t : Ty) → l ≡ valueOf r t → everywhere isWellFormed t ≡ true → stride ≡ present (ownStrideOf t) → line k (l .size) (l .align) stride ≡ entryLine k t
+unfolding line markedColumn entryLine column valueOf
+line-is k r stride l t e w own =
     rw (
       e,
+      own,
       marked-present (sizeOf t) (λ n h. omega (arith, size-positive t n w h)),
       marked-present (alignOf t) (λ n h. align-positive t n w h),
+      marked-present (ownStrideOf t) (λ n h. own-stride-positive t n w h),
     )
 
 -- ---- the values of the entries
@@ -60,21 +63,26 @@ next [] k h = absurd (omega arith)
 next (t ∷ ts) zero h = (t, refl, refl)
 next (t ∷ ts) (suc k) h = next ts k (omega arith)
 
+-- what `stride_of` ensures of the stride of a value
+abbrev StrideOf : Value → ℕ → Type 0
+StrideOf l stride = (t : Ty) → l ≡ valueOf (l .reference) t → everywhere isWellFormed t ≡ true → stride ≡ present (ownStrideOf t)
+
 -- The lines that are left begin with that of entry k.
-lines-next : {f : List ℕ} {table : List (List ℕ)} {types : ℕ} {ts : List Ty} (k : ℕ) → Entries f table types ts → k < types → line k (valueAt table k .size) (valueAt table k .align) ++ entryLines (suc k) (drop (suc k) ts) ≡ entryLines k (drop k ts)
+lines-next : {f : List ℕ} {table : List (List ℕ)} {types : ℕ} {ts : List Ty} (k stride : ℕ) → Entries f table types ts → k < types → StrideOf (valueAt table k) stride → line k (valueAt table k .size) (valueAt table k .align) stride ++ entryLines (suc k) (drop (suc k) ts) ≡ entryLines k (drop k ts)
 unfolding entryLines
-lines-next {f} {table} {types} {ts} k e h =
+lines-next {f} {table} {types} {ts} k stride e h own =
     let low : k < length ts = omega (arith, e .count) in
     let x = next ts k low in
     let is : valueAt table k ≡ valueOf (typeEntryAt f k .reference) (x .0) = rw (e .table-is) (table-at f ts k (x .0) (x .1)) in
-    rw (x .2, line-is k _ (valueAt table k) (x .0) is (e .well-formed k (x .0) (x .1)))
+    let well = e .well-formed k (x .0) (x .1) in
+    rw (x .2, line-is k _ stride (valueAt table k) (x .0) is well (own (x .0) (own-reference _ (x .0) is) well))
 
 -- ---- the turns of the loop: what is left to put, from here, gives what all lines give from the start
 
 pub record Going (table : List (List ℕ)) (types : ℕ) (out₀ : List ℕ) (at₀ : ℕ) (out : List ℕ) (at k : ℕ) : Type 0 where
   pub few : types ≤ 256
   pub turn : k ≤ types
-  pub high : at ≤ 19 + 33 * k
+  pub high : at ≤ 19 + 44 * k
   pub same : length out ≡ length out₀
   pub left : (f : List ℕ) (ts : List Ty) → Entries f table types ts → (r : ℕ) (after : List ℕ) → Put out at (entryLines k (drop k ts)) r after → Put out₀ at₀ (entryLines 0 ts) r after
 
@@ -89,15 +97,15 @@ going-none {types = types} h p =
     }
 
 module _ {table : List (List ℕ)} {types at₀ at k : ℕ} {out₀ out : List ℕ} (g : Going table types out₀ at₀ out at k) where
-  pub going-more : {r : ℕ} {after : List ℕ} → k < types → Put out at (line k (valueAt table k .size) (valueAt table k .align)) r after → Going table types out₀ at₀ after r (k + 1)
-  going-more h p =
+  pub going-more : {r stride : ℕ} {after : List ℕ} → k < types → StrideOf (valueAt table k) stride → Put out at (line k (valueAt table k .size) (valueAt table k .align) stride) r after → Going table types out₀ at₀ after r (k + 1)
+  going-more {stride = stride} h own p =
       record {
         few = g .few;
         turn = omega arith;
-        high = omega (arith, g .high, p .next, line-length k (valueAt table k .size) (valueAt table k .align));
+        high = omega (arith, g .high, p .next, line-length k (valueAt table k .size) (valueAt table k .align) stride);
         same = put-length p ∙ g .same;
         left = λ f ts is s end q.
-            g .left f ts is s end (rw (← lines-next k is h) (put-then p (rw (add-one k) at q)));
+            g .left f ts is s end (rw (← lines-next k stride is h own) (put-then p (rw (add-one k) at q)));
       }
 
   -- The heading and all lines.

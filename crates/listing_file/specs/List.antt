@@ -13,7 +13,7 @@ use Rattle.layout_values.specs.Value.{valuesOf}
 
 -- room for any listing: its heading, and 256 lines
 abbrev pub listingRoom : ℕ
-listingRoom = 8_467
+listingRoom = 11_283
 
 pub record Entries (f : List ℕ) (table : List (List ℕ)) (types : ℕ) (ts : List Ty) : Type 0 where
   pub table-is : table ≡ valuesOf f ts

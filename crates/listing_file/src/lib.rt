@@ -5,6 +5,7 @@ use layout_table::Checked;
 use layout_table::fill;
 use layout_values::value::Row;
 use layout_values::value::blank;
+use layout_values::value::stride_of;
 use layout_values::value::value_at;
 use listing_text::put_heading;
 use listing_text::put_line;
@@ -33,7 +34,7 @@ fn put_entries(out: &mut [u8], table: &[Row], types: u32) -> usize
     let mut k: u32 = 0;
     while k < types {
         let l = value_at(table, k as usize);
-        at = put_line(out, at, k, l.size, l.align);
+        at = put_line(out, at, k, l.size, l.align, stride_of(l));
         k += 1;
     }
     at

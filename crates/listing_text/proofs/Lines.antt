@@ -9,8 +9,8 @@ use native.Mathlib.Omega.{arith}
 use borrow.Author.Tests.{le-leb, lt-leb, eq-eqb, ne-eqb}
 use lib.ListN.{length}
 use Rattle.wgsl.specs.File.{between}
-use Rattle.wgsl.specs.Listing.{refusedText, atText, newline, dash, decimal, orDash, refusedLine}
-use Rattle.listing_text.specs.Put.{marked}
+use Rattle.wgsl.specs.Listing.{refusedText, atText, space, newline, dash, decimal, orDash, refusedLine}
+use Rattle.listing_text.specs.Put.{marked, markedColumn}
 use Rattle.listing_text.proofs.Decimal.{decimal-length}
 
 pub marked-absent : (n : ℕ) → n ≡ 0 → marked n ≡ dash
@@ -28,6 +28,10 @@ marked-length n =
     (λ (e : n ≡ 0). rw (marked-absent n e) (omega arith))
     (λ (h : 0 < n). rw (marked-number n (λ e. omega arith)) (decimal-length n))
     (eq-zero-or-pos n)
+
+pub column-length : (n : ℕ) → length (markedColumn n) ≤ 11
+unfolding markedColumn space
+column-length n = omega (arith, marked-length n)
 
 module _ (number place : ℕ) where
   pub refusedLine-low : number < 5 → refusedLine number place ≡ refusedText ++ decimal number ++ newline

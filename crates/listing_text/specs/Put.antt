@@ -19,8 +19,11 @@ pub record Put (before : List ℕ) (at : ℕ) (text : List ℕ) (r : ℕ) (after
 unfoldable pub marked : ℕ → List ℕ
 marked n = orDash (cond (eqb n 0) none (some n))
 
-unfoldable pub line : ℕ → ℕ → ℕ → List ℕ
-line k size align = decimal k ++ space ++ marked size ++ space ++ marked align ++ newline
+unfoldable pub markedColumn : ℕ → List ℕ
+markedColumn n = space ++ marked n
+
+unfoldable pub line : ℕ → ℕ → ℕ → ℕ → List ℕ
+line k size align stride = decimal k ++ markedColumn size ++ markedColumn align ++ markedColumn stride ++ newline
 
 unfoldable pub heading : ℕ → List ℕ
 heading types = entriesText ++ decimal types ++ newline

@@ -2,7 +2,7 @@
 ghost use Prim.Native.Nat.{_+_, _≤_};
 ghost use lib.ListN.{length};
 ghost use Rattle.wgsl.specs.Listing.{decimal, refusedLine};
-ghost use Rattle.listing_text.specs.Put.{Put, marked, line, heading};
+ghost use Rattle.listing_text.specs.Put.{Put, marked, markedColumn, line, heading};
 
 // Puts the text at `at` and answers where it ends; every other byte stays.
 pub fn put(out: &mut [u8], at: usize, text: &[u8]) -> usize
@@ -43,17 +43,25 @@ pub fn put_marked(out: &mut [u8], at: usize, n: u32) -> usize
     put_decimal(out, at, n)
 }
 
-// Puts the line of an entry: its number, its size and its alignment, 0 standing for an absent one.
-pub fn put_line(out: &mut [u8], at: usize, k: u32, size: u32, align: u32) -> usize
-    requires { ⌜ at + 33 ≤ length (now out) ⌝ }
-    ensures { λ r. ⌜ Put (now (out .entry)) at (line k size align) r (now (out .exit)) ⌝ }
+// Puts a column after the first: a space, and a number or a dash.
+pub fn put_column(out: &mut [u8], at: usize, n: u32) -> usize
+    requires { ⌜ at + 11 ≤ length (now out) ⌝ }
+    ensures { λ r. ⌜ Put (now (out .entry)) at (markedColumn n) r (now (out .exit)) ⌝ }
+{
+    let a = put(out, at, b" ");
+    put_marked(out, a, n)
+}
+
+// Puts the line of an entry: its number, its size, its alignment and its stride, 0 standing for an absent one.
+pub fn put_line(out: &mut [u8], at: usize, k: u32, size: u32, align: u32, stride: u32) -> usize
+    requires { ⌜ at + 44 ≤ length (now out) ⌝ }
+    ensures { λ r. ⌜ Put (now (out .entry)) at (line k size align stride) r (now (out .exit)) ⌝ }
 {
     let a = put_decimal(out, at, k);
-    let b = put(out, a, b" ");
-    let c = put_marked(out, b, size);
-    let d = put(out, c, b" ");
-    let e = put_marked(out, d, align);
-    put(out, e, b"\n")
+    let b = put_column(out, a, size);
+    let c = put_column(out, b, align);
+    let d = put_column(out, c, stride);
+    put(out, d, b"\n")
 }
 
 // Puts the first line of a listing.

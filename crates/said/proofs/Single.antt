@@ -80,7 +80,7 @@ single-number = single saidNumber numberFrom number-told
 pub single-done : (before : List ℕ) (said : Said call.Done) (a b : Number) (x y : List ℕ) → saidNumber a ≡ call.answerOf said → saidNumber b ≡ call.answerOf said → x ≡ call.contentsOf before said → y ≡ call.contentsOf before said → (a ≡ b) × (x ≡ y)
 single-done before said a b x y p q r s = (single-number a b p q, r ∙ sym s)
 
--- ---- the three numbers of an entry
+-- ---- the four numbers of an entry
 
 abbrev maybeFrom : Option ℕ → Maybe
 maybeFrom none = Maybe.Absent
@@ -91,11 +91,18 @@ maybe-told Maybe.Absent = refl
 maybe-told (Maybe.Is n) = refl
 
 abbrev answerFrom : Said call.Layout → Answer
-answerFrom (good l) = Answer.Is (record { size = maybeFrom (l .size); align = maybeFrom (l .align); min = maybeFrom (l .minSize) })
+answerFrom (good l) =
+    Answer.Is (record {
+      size = maybeFrom (l .size);
+      align = maybeFrom (l .align);
+      min = maybeFrom (l .minSize);
+      stride = maybeFrom (l .stride);
+    })
 answerFrom (refused number place) = Answer.Refused (refusalFrom place number)
 
 answer-told : (a : Answer) → answerFrom (saidAnswer a) ≡ a
-answer-told (Answer.Is s) = rw (maybe-told (s .size), maybe-told (s .align), maybe-told (s .min))
+answer-told (Answer.Is s) =
+    rw (maybe-told (s .size), maybe-told (s .align), maybe-told (s .min), maybe-told (s .stride))
 answer-told (Answer.Refused r) = ap Answer.Refused (refusal-told r)
 
 -- Two answers that the claim of layout allows are the same.

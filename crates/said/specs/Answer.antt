@@ -22,7 +22,13 @@ maybeOf Maybe.Absent = none
 maybeOf (Maybe.Is n) = some n
 
 abbrev pub layoutIs : Sizes → wgsl.Layout
-layoutIs s = record { size = maybeOf (s .size); align = maybeOf (s .align); minSize = maybeOf (s .min) }
+layoutIs s =
+    record {
+      size = maybeOf (s .size);
+      align = maybeOf (s .align);
+      minSize = maybeOf (s .min);
+      stride = maybeOf (s .stride);
+    }
 
 abbrev pub saidAnswer : Answer → Said wgsl.Layout
 saidAnswer (Answer.Is s) = good (layoutIs s)

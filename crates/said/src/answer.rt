@@ -13,10 +13,12 @@ pub enum Maybe {
     Is(u32),
 }
 
+// The numbers of an entry: size, alignment, minimum size, stride.
 pub struct Sizes {
     pub size: Maybe,
     pub align: Maybe,
     pub min: Maybe,
+    pub stride: Maybe,
 }
 
 pub enum Answer {

@@ -1,6 +1,6 @@
 -- An answer as the numbers that cross to C.
 --
--- In order: an answer that is a number; the three numbers of a layout; the bytes of a view; places.
+-- In order: an answer that is a number; the four numbers of a layout; the bytes of a view; places.
 -- Definitions only. Assumes nothing.
 use Prim.Native.Nat.{ℕ, _%_, _^_}
 use mathlib.Core.List.{List, [], _∷_}
@@ -18,7 +18,7 @@ abbrev pub crossed : Said ℕ → Crossing
 crossed (good v) = record { refusal = 0; place = 0; value = v }
 crossed (refused number place) = record { refusal = number; place = place % 2 ^ 32; value = 0 }
 
--- an absent number is the largest of 64 bits, which no size and no alignment is
+-- an absent number is the largest of 64 bits, which no size, no alignment and no stride is
 abbrev pub crossedMaybe : Option ℕ → ℕ
 crossedMaybe (some n) = n
 crossedMaybe none = 18446744073709551615
@@ -28,9 +28,10 @@ abbrev pub told : Said Layout → Said ℕ
 told (good l) = good 0
 told (refused number place) = refused number place
 
--- what the three numbers lent hold at the end: "A refusal changes nothing lent"
+-- what the four numbers lent hold at the end: "A refusal changes nothing lent"
 abbrev pub laidOut : Said Layout → List ℕ → List ℕ
-laidOut (good l) before = crossedMaybe (l .size) ∷ crossedMaybe (l .align) ∷ crossedMaybe (l .minSize) ∷ []
+laidOut (good l) before =
+    crossedMaybe (l .size) ∷ crossedMaybe (l .align) ∷ crossedMaybe (l .minSize) ∷ crossedMaybe (l .stride) ∷ []
 laidOut (refused number place) before = before
 
 -- what the one number lent holds at the end, beside the offset of a view

@@ -77,9 +77,9 @@ pub extern "C" fn lepugaso_surface_min_size(file: &[u8], entry: u32) -> Crossing
     cross(lepugaso::min_size(file, entry))
 }
 
-// A good answer is in `out`: the size, the alignment, the minimum size.
+// A good answer is in `out`: the size, the alignment, the minimum size, the stride.
 #[no_mangle]
-pub extern "C" fn lepugaso_surface_layout(file: &[u8], entry: u32, out: &mut [u64; 3]) -> Crossing
+pub extern "C" fn lepugaso_surface_layout(file: &[u8], entry: u32, out: &mut [u64; 4]) -> Crossing
     ensures answer { λ r. ⌜ r ≡ crossed (told (layoutCall (now (file .entry)) entry)) ⌝ }
     ensures out { λ r. ⌜ now (out .exit) ≡ laidOut (layoutCall (now (file .entry)) entry) (now (out .entry)) ⌝ }
 {
@@ -88,7 +88,13 @@ pub extern "C" fn lepugaso_surface_layout(file: &[u8], entry: u32, out: &mut [u6
             let size = s.size;
             let align = s.align;
             let min = s.min;
-            *out = [cross_maybe(size), cross_maybe(align), cross_maybe(min)];
+            let stride = s.stride;
+            *out = [
+                cross_maybe(size),
+                cross_maybe(align),
+                cross_maybe(min),
+                cross_maybe(stride),
+            ];
             cross(Number::Is(0))
         }
         Answer::Refused(r) => cross(Number::Refused(r)),

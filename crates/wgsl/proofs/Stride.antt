@@ -26,7 +26,7 @@ use Rattle.wgsl.proofs.Shape.{multiple-trans}
 use Rattle.wgsl.proofs.Passed.{passed, array-passed, runtime-passed}
 use Rattle.wgsl.proofs.Align.{vector-align}
 use Rattle.wgsl.proofs.Accepted.{accepted-well-formed}
-use Rattle.wgsl.proofs.Entry.{align-positive, align-limit, size-positive, size-limit}
+use Rattle.wgsl.proofs.Entry.{align-positive, align-limit, size-positive, size-limit, stride-positive}
 
 -- ---- its three cases
 
@@ -102,7 +102,7 @@ stride-unique (struct k ms) p q = rounded-only (struct k ms) _ _ refl p q
 -- ---- of an element
 
 -- what is not open is no runtime array
-closed-not-runtime : (t : Ty) → isOpen t ≡ false → isRuntime t ≡ false
+pub closed-not-runtime : (t : Ty) → isOpen t ≡ false → isRuntime t ≡ false
 unfolding isOpen isRuntime
 closed-not-runtime (scalar s) e = refl
 closed-not-runtime (vector n s) e = refl
@@ -181,22 +181,31 @@ up-larger t a z w e h =
     let some-there : 0 < z = omega (arith, size-positive t z w h) in
     ⊎-elim (up-same a z aligned some-there) (up-whole a z aligned some-there) (size-by-align t a z w e h)
 
-rounded-limit : (t : Ty) (n : ℕ) → everywhere isWellFormed t ≡ true → both up (alignOf t) (sizeOf t) ≡ some n → n ≤ limit
+-- What holds of the stride of an array of any well-formed type holds of a type's own.
+own-by-array : (P : ℕ → Type 0) → ((t : Ty) (n : ℕ) → everywhere isWellFormed t ≡ true → strideOf t ≡ some n → P n) → (t : Ty) (n : ℕ) → everywhere isWellFormed t ≡ true → ownStrideOf t ≡ some n → P n
+unfolding ownStrideOf strideOf
+own-by-array P h (scalar s) = h (scalar s)
+own-by-array P h (vector k s) = h (vector k s)
+own-by-array P h (matrix c r s) = h (matrix c r s)
+own-by-array P h (array k t) = h (array k t)
+own-by-array P h (runtime t) = λ n w. own-by-array P h t n (runtime-passed t w .below)
+own-by-array P h (atomic s) = h (atomic s)
+own-by-array P h (struct k ms) = h (struct k ms)
+
+-- It is above 0,
+pub own-stride-positive : (t : Ty) (n : ℕ) → everywhere isWellFormed t ≡ true → ownStrideOf t ≡ some n → 1 ≤ n
+own-stride-positive = own-by-array (λ n. 1 ≤ n) (λ t n w e. omega (arith, stride-positive t n w e))
+
+rounded-limit : (t : Ty) (n : ℕ) → everywhere isWellFormed t ≡ true → strideOf t ≡ some n → n ≤ limit
+unfolding strideOf
 rounded-limit t n w e =
     let b = both-some up (alignOf t) (sizeOf t) n e in
     let larger = up-larger t (b .left) (b .right) w (b .left-is) (b .right-is) in
     omega (arith, b .is, larger, align-limit t (b .left) w (b .left-is), size-limit t (b .right) w (b .right-is))
 
--- It is within the limit,
+-- and within the limit,
 pub stride-limit : (t : Ty) (n : ℕ) → everywhere isWellFormed t ≡ true → ownStrideOf t ≡ some n → n ≤ limit
-unfolding ownStrideOf
-stride-limit (scalar s) = rounded-limit (scalar s)
-stride-limit (vector k s) = rounded-limit (vector k s)
-stride-limit (matrix c r s) = rounded-limit (matrix c r s)
-stride-limit (array k t) = rounded-limit (array k t)
-stride-limit (runtime t) = λ n w. stride-limit t n (runtime-passed t w .below)
-stride-limit (atomic s) = rounded-limit (atomic s)
-stride-limit (struct k ms) = rounded-limit (struct k ms)
+stride-limit = own-by-array (λ n. n ≤ limit) rounded-limit
 
 -- of every entry of an accepted file.
 pub entry-stride : (f : List ℕ) (ts : List Ty) → typesOf f ≡ good ts → (k : ℕ) (t : Ty) → getElem? ts k ≡ some t → (n : ℕ) → ownStrideOf t ≡ some n → n ≤ limit

@@ -50,17 +50,13 @@ unfoldable pub orDash : Option ℕ → List ℕ
 orDash (some n) = decimal n
 orDash none = dash
 
+-- a column after the first
+unfoldable pub column : Option ℕ → List ℕ
+column n = space ++ orDash n
+
 -- entry k: its number, its size, its alignment and, "a fourth column" (E1), its stride
 unfoldable pub entryLine : ℕ → Ty → List ℕ
-entryLine k t =
-    decimal k
-    ++ space
-    ++ orDash (sizeOf t)
-    ++ space
-    ++ orDash (alignOf t)
-    ++ space
-    ++ orDash (ownStrideOf t)
-    ++ newline
+entryLine k t = decimal k ++ column (sizeOf t) ++ column (alignOf t) ++ column (ownStrideOf t) ++ newline
 
 -- the lines of the entries from number k on
 unfoldable pub entryLines : ℕ → List Ty → List ℕ

@@ -12,7 +12,7 @@ use Rattle.wgsl.specs.Types.{bool, u32, f32, f16, abstractInt, Ty, scala
 use Rattle.wgsl.specs.Size.{ownStrideOf}
 use Rattle.wgsl.specs.Said.{Said, good, refused}
 use Rattle.wgsl.specs.Call.{Layout, layoutCall}
-use Rattle.wgsl.specs.Listing.{entriesText, space, newline, dash, decimal, listingOf}
+use Rattle.wgsl.specs.Listing.{entriesText, newline, decimal, column, listingOf}
 use Rattle.wgsl.specs.Case.{is, plain, typeEntry, memberEntry, trailer, openStruct, allPass}
 
 -- ---- what a case says
@@ -35,8 +35,8 @@ reads (m ∷ ms) [] = false
 reads (m ∷ ms) (n ∷ ns) = eqb m n && reads ms ns
 
 -- a line of the listing, of its four columns
-unfoldable pub columns : List ℕ → List ℕ → List ℕ → List ℕ → List ℕ
-columns a b c d = a ++ space ++ b ++ space ++ c ++ space ++ d ++ newline
+unfoldable pub columns : ℕ → Option ℕ → Option ℕ → Option ℕ → List ℕ
+columns k size align stride = decimal k ++ column size ++ column align ++ column stride ++ newline
 
 -- ---- files
 
@@ -56,9 +56,9 @@ listingText =
     entriesText
     ++ decimal 3
     ++ newline
-    ++ columns (decimal 0) (decimal 4) (decimal 4) (decimal 4)
-    ++ columns (decimal 1) (decimal 12) (decimal 16) (decimal 16)
-    ++ columns (decimal 2) (decimal 32) (decimal 16) (decimal 32)
+    ++ columns 0 (some 4) (some 4) (some 4)
+    ++ columns 1 (some 12) (some 16) (some 16)
+    ++ columns 2 (some 32) (some 16) (some 32)
 
 -- abstract int, and bool with vec3 of it
 unfoldable pub absentFile : List ℕ
@@ -69,9 +69,9 @@ absentText =
     entriesText
     ++ decimal 3
     ++ newline
-    ++ columns (decimal 0) dash dash dash
-    ++ columns (decimal 1) (decimal 4) (decimal 4) (decimal 4)
-    ++ columns (decimal 2) (decimal 12) dash dash
+    ++ columns 0 none none none
+    ++ columns 1 (some 4) (some 4) (some 4)
+    ++ columns 2 (some 12) none none
 
 -- ---- the cases
 

@@ -1,5 +1,5 @@
 //! Document 01's rules, written from its text: which file is refused, with what number and place, and what the calls answer; and document
-//! 02's on bit fields. It decides where Lepugaso and the Rust may differ (the rows of docs/DIFFERENCES.md), and what Lepugaso has to say
+//! 02's on strides and bit fields. It decides where Lepugaso and the Rust may differ (the rows of docs/DIFFERENCES.md), and what Lepugaso has to say
 //! there.
 use crate::file::{Entry, Member, Table};
 use crate::question::{self, Answer, Field, Question, with_buffer, with_part, with_words};
@@ -13,6 +13,7 @@ const LIMIT: u64 = 4_294_967_295;
 pub struct Laid {
     pub size: Option<u64>,
     pub align: Option<u64>,
+    /// of an array: from one element to the next
     pub stride: Option<u64>,
     pub open: bool,
     /// the runtime array that it is or ends in
@@ -76,6 +77,12 @@ fn array(count: Option<u64>, element: usize, l: Laid) -> Laid {
         words: count.unwrap_or(0).saturating_mul(l.words),
         holds_bool: l.holds_bool,
     }
+}
+
+/// E1: "for any type with size and alignment, the size rounded up to the alignment; for a runtime array, its element's stride; else absent"
+fn own_stride(l: &Laid) -> Option<u64> {
+    let runtime = l.stride.filter(|_| l.open);
+    runtime.or(l.align.zip(l.size).map(|(a, s)| up(a, s)))
 }
 
 /// A member of a struct: its alignment, and where it begins and ends (nowhere if it is a runtime array).
@@ -674,7 +681,7 @@ pub fn answer(checked: &Result<Good, Refusal>, nodes: &[u64], q: &Question) -> D
         Question::Size(e) => told(of(e).size, 9),
         Question::Align(e) => told(of(e).align, 9),
         Question::MinSize(e) => told(least(of(e)), 9),
-        Question::Layout(e) => format!("{} {} {}", marked(of(e).size), marked(of(e).align), marked(least(of(e)))),
+        Question::Layout(e) => [of(e).size, of(e).align, least(of(e)), own_stride(of(e))].map(marked).join(" "),
         Question::Rank(a, b) => told(rank(&good.table, *a, *b).map(u64::from), 18),
         Question::Common(list) => told(common(&good.table, list).map(u64::from), 18),
         Question::Write(e, words, buffer) => {

@@ -1,7 +1,7 @@
-//! Questions, their lines and those of their answers (oracle/README.md, version 4).
+//! Questions, their lines and those of their answers (oracle/README.md, version 5).
 
-pub const HEAD: &str = "questions 4";
-pub const ANSWERS_HEAD: &str = "answers 4";
+pub const HEAD: &str = "questions 5";
+pub const ANSWERS_HEAD: &str = "answers 5";
 
 #[derive(Clone)]
 pub enum Question {

@@ -111,6 +111,16 @@ fn marked(n: Option<u32>) -> String {
     n.map_or("-".into(), |n| n.to_string())
 }
 
+/// The Rust tells no stride of a type: it is what an array of two takes more than an array of one. Of a runtime array its element's.
+fn stride(ty: &Type) -> Option<u32> {
+    let element = match ty {
+        Type::Array(element, None) => element,
+        ty => ty,
+    };
+    let array = |n| Type::Array(Box::new(element.clone()), Some(n)).size_of();
+    Some(array(2)?.wrapping_sub(array(1)?))
+}
+
 fn common(types: &[Option<Type>], list: &[u32]) -> Option<Option<u32>> {
     let tys: Vec<&Type> = list.iter().map(|e| types.get(*e as usize)?.as_ref()).collect::<Option<_>>()?;
     let found = convert_all_ty(tys.iter().copied());
@@ -363,9 +373,9 @@ pub fn answer(types: &[Option<Type>], checked: &Result<Good, Refusal>, q: &Quest
         Question::Size(e) => of(e).map(|t| told(t.size_of(), 9)),
         Question::Align(e) => of(e).map(|t| told(t.align_of(), 9)),
         Question::MinSize(e) => of(e).map(|t| told(t.min_size_of(), 9)),
-        Question::Layout(e) => {
-            of(e).map(|t| format!("{} {} {}", marked(t.size_of()), marked(t.align_of()), marked(t.min_size_of())))
-        }
+        Question::Layout(e) => of(e).map(|t| {
+            [t.size_of(), t.align_of(), t.min_size_of(), stride(t)].map(marked).join(" ")
+        }),
         Question::Rank(a, b) => of(a).zip(of(b)).map(|(a, b)| told(conversion_rank(a, b), 18)),
         Question::Common(list) => common(types, list).map(|n| told(n, 18)),
         Question::Write(e, words, buffer) => {

@@ -1,4 +1,4 @@
--- Each answer is a law of `Calls`, over what `layout_of`, `mark` and `least` ensure.
+-- Each answer is a law of `Calls`, over what `value_of`, `mark`, `least` and `stride_of` ensure.
 use Rattle.wgsl.specs.Call.{layoutCall}
 use Rattle.layout_ask.proofs.Calls.{ask-refused, ask-layout}
 use borrow.Author.Needs.{needs}
@@ -7,10 +7,11 @@ use Rattle.layout_ask.proofs.layout.Tie as tie
 
 returns : tie.Need-returns
 returns c =
-    let found = c .before .before .before .before .before .before .before .value-of in
-    ask-layout _ _ (found .result) (found .ensures) _ (c .before .before .before .before .before .l .given .1) _
-    (c .before .least .ensures) (c .before .before .before .mark .ensures) (c .before .before .mark2 .ensures)
-    (c .mark3 .ensures)
+    let m = c .before .before in
+    let found = m .before .before .before .before .before .before .before .value-of in
+    ask-layout _ _ (found .result) (found .ensures) _ (m .before .before .before .before .before .l .given .1) _
+    (m .before .least .ensures) _ (c .before .stride-of .ensures) (m .before .before .before .mark .ensures)
+    (m .before .before .mark2 .ensures) (m .mark3 .ensures) (c .mark4 .ensures)
 
 returns-2 : tie.Need-returns-2
 unfolding layoutCall
@@ -22,4 +23,4 @@ pub layout-spec : {M : Type 1} → statement M
 layout-spec =
     tie.close (tie.spec
     (λ c κs. search needs) (λ c. search needs) (λ c κs. search needs) (λ c κs. search needs) (λ c κs. search needs)
-    (λ c κs. search needs) (λ c. search needs) returns returns-2)
+    (λ c κs. search needs) (λ c κs. search needs) (λ c κs. search needs) (λ c. search needs) returns returns-2)

@@ -1,4 +1,4 @@
--- Each answer is a law of `RuntimeMade`, at the element's numbers (`element` of `Presence`); its words fit by what is required of l.
+-- Each answer is a law of `RuntimeMade`, at the element's numbers (`element` of `ValueOf`); its words fit by what is required of l.
 use mathlib.Core.Bool.{true}
 use mathlib.Core.List.{[], _∷_}
 use mathlib.Core.Path.{_≡_, sym, _∙_}
@@ -8,7 +8,7 @@ use Rattle.wgsl.specs.Rule.{unused, isWellFormed}
 use Rattle.layout_values.specs.Value.{valueOf}
 use Rattle.layout_values.proofs.Unused.{unused-three, denied, granted}
 use Rattle.layout_values.proofs.ValueOf.{unaligned, Element, element, words-within}
-use Rattle.layout_referring.proofs.RuntimeMade.{runtime-used, runtime-open, runtime-unaligned, runtime-apart, runtime-laid}
+use Rattle.layout_referring.proofs.RuntimeMade.{runtime-used, runtime-open, runtime-unaligned, runtime-laid}
 use borrow.Author.Needs.{needs}
 use Rattle.layout_referring.proofs.runtime.Statement.{statement}
 use Rattle.layout_referring.proofs.runtime.Tie as tie
@@ -35,28 +35,19 @@ returns-3 : tie.Need-returns-3
 returns-3 c t is w =
     sym (runtime-unaligned _ t (free (c .before .before .before)) (unaligned t _ is w (c .if3 .taken)))
 
+words-of-requires : tie.Need-words-of-requires
+words-of-requires c κs =
+    let k = c .before .before .before .before .before .pre in
+    words-within (k .type) _ (known c (k .type) (k .is) (k .well-formed))
+
 returns-4 : tie.Need-returns-4
 returns-4 c t is w =
     let r = c .before .before in
-    sym (runtime-apart _ t (free (r .before .before .before .before)) _ (known (r .before) t is w)
-    (sym (r .round-up .ensures) ∙ c .enum-told .given .1))
-
-words-of-requires : tie.Need-words-of-requires
-words-of-requires c κs =
-    let r = c .before .before .before in
-    let k = r .before .before .before .before .before .before .pre in
-    words-within (k .type) _ (known (r .before) (k .type) (k .is) (k .well-formed))
-
-returns-5 : tie.Need-returns-5
-returns-5 c t is w =
-    let s = c .before .before in
-    let r = s .before .before in
-    rw (c .words-of .ensures)
-    (sym (runtime-laid _ t (free (r .before .before .before .before)) _ (known (r .before) t is w) _
-    (sym (r .round-up .ensures) ∙ s .stride .given .1)))
+    rw (c .before .words-of .ensures)
+    (sym (runtime-laid _ t (free (r .before .before .before)) _ (known r t is w) _ (c .stride-of .ensures t is w)))
 
 pub runtime-spec : {M : Type 1} → statement M
 runtime-spec =
     tie.close (tie.spec
-    (λ c κs. search needs) returns (λ c κs. search needs) returns-2 returns-3 (λ c κs. search needs) (λ c. search needs)
-    (λ c. search needs) returns-4 words-of-requires returns-5)
+    (λ c κs. search needs) returns (λ c κs. search needs) returns-2 returns-3 words-of-requires (λ c κs. search needs)
+    returns-4)

@@ -30,8 +30,11 @@ value-at-requires c κs =
 
 loop-again : tie.Need-loop-again Inv-loop μ-loop
 loop-again c =
-    let l = c .before .before .before .before .before .before .loop in
-    going-more (l .inv) (search needs) (rw (c .before .before .before .before .value-at .ensures) at (c .before .before .put-line .ensures))
+    let p = c .before .before in
+    let s = p .before in
+    let v = s .before .before in
+    going-more (v .before .before .loop .inv) (search needs) (rw (v .value-at .ensures) at (s .stride-of .ensures))
+    (rw (v .value-at .ensures) at (p .put-line .ensures))
 
 returns : tie.Need-returns Inv-loop μ-loop
 returns c =
@@ -41,4 +44,4 @@ pub put-entries-spec : {M : Type 1} → statement M
 put-entries-spec =
     tie.close (tie.spec
     Inv-loop μ-loop (λ c κs. search needs) loop-holds (λ c. search needs) value-at-requires (λ c κs. search needs)
-    (λ c. search needs) (λ c. search needs) loop-again (λ c. search needs) returns)
+    (λ c κs. search needs) (λ c. search needs) (λ c. search needs) loop-again (λ c. search needs) returns)
