@@ -8,15 +8,14 @@ use mathlib.Core.Option.{Option, some}
 use mathlib.Core.Path.{_≡_, refl, sym, ap, _∙_}
 use native.Mathlib.Omega.{arith}
 use Rattle.wgsl.specs.Round.{up}
-use Rattle.wgsl.specs.Types.{Ty, Members, no-more, member, isRuntime, everywhere, everyMember}
+use Rattle.wgsl.specs.Types.{Ty, Members, no-more, member, everywhere, everyMember}
 use Rattle.wgsl.specs.Size.{both, givenOr, isPresent, startAfter, endAfter, sizeOf, alignOf, membersAlign, membersEnd, hasLayout, memberEnd}
 use Rattle.wgsl.specs.Rule.{memberAllowed, givenSizeFits, givenAlignFits, membersGivenFit, isWellFormed}
 use Rattle.wgsl.specs.Place.{wordCount}
-use Rattle.wgsl.proofs.Absent.{both-hold, some-not-none, present-some, given-present, some-present}
+use Rattle.wgsl.proofs.Absent.{both-hold, present-some, given-present, some-present}
 use Rattle.wgsl.proofs.Round.{up-not-below}
 use Rattle.wgsl.proofs.Power.{power-positive}
 use Rattle.wgsl.proofs.Align.{align-power, member-aligned}
-use Rattle.wgsl.proofs.Tail.{runtime-unsized}
 use Rattle.wgsl.proofs.Members.{sized, next-member}
 use Rattle.wgsl.proofs.Count.{words-bounded}
 use Rattle.layout_values.specs.Value.{fixedWords}
@@ -38,14 +37,6 @@ whole-member t e =
     let a = present-some (alignOf t) (c .0) in
     let z = present-some (sizeOf t) (sym (or-false (isPresent (sizeOf t))) ∙ c .1) in
     record { own = z .0; own-is = z .1; aligned = a .0; aligned-is = a .1 }
-
--- A type that has a size is no runtime array.
-pub sized-not-runtime : (t : Ty) (z : ℕ) → sizeOf t ≡ some z → isRuntime t ≡ false
-sized-not-runtime t z e = go (isRuntime t) refl
-  where
-    go : (b : Bool) → isRuntime t ≡ b → b ≡ false
-    go true q = some-not-none e (runtime-unsized t q)
-    go false q = refl
 
 -- The align that a member gets is above 0.
 pub member-align : (t : Ty) (align : Option ℕ) (a : ℕ) → everywhere isWellFormed t ≡ true → givenAlignFits t align ≡ true → givenOr align (alignOf t) ≡ some a → 0 < a

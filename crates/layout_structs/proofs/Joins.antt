@@ -19,7 +19,7 @@ use Rattle.wgsl.specs.Rule.{memberAllowed}
 use Rattle.wgsl.specs.Place.{wordCount}
 use Rattle.wgsl.proofs.Absent.{both-hold, either-holds, true-not-false, present-some, both-none}
 use Rattle.wgsl.proofs.Round.{up-not-below}
-use Rattle.wgsl.proofs.Tail.{runtime-open, runtime-unsized, runtime-size, sized-closed}
+use Rattle.wgsl.proofs.Tail.{runtime-open, runtime-unsized, sized-not-runtime, runtime-size, sized-closed}
 use Rattle.wgsl.proofs.Members.{sized}
 use Rattle.wgsl.proofs.Count.{wordCount-runtime}
 use Rattle.numbers.specs.Limit.{limited}
@@ -31,7 +31,7 @@ use Rattle.layout_structs.specs.declared.Ends.{Ends}
 use Rattle.layout_structs.specs.declared.SoFar.the-variants.{Good, TooLarge}
 use Rattle.layout_structs.specs.SoFar.{followed, wordsOfMembers, endsOf, soFar, Joins}
 use Rattle.layout_structs.proofs.Appended.{after-end, after-align, after-runtime, after-words, after-narrow}
-use Rattle.layout_structs.proofs.Going.{Whole, member-align, sized-not-runtime, fixed-bounded, next-end, going-end, going-align, going-words}
+use Rattle.layout_structs.proofs.Going.{Whole, member-align, fixed-bounded, next-end, going-end, going-align, going-words}
 use Rattle.layout_structs.proofs.SoFarOf.{limited-is, limited-large, start-large, end-large, placed-closed, placed-open}
 
 -- ---- numbers that are present

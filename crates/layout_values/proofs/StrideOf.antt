@@ -13,7 +13,8 @@ use Rattle.wgsl.specs.Types.{Ty, scalar, vector, matrix, array, runtime, atomic
 use Rattle.wgsl.specs.Size.{present, sizeOf, alignOf, ownStrideOf}
 use Rattle.wgsl.specs.Rule.{isWellFormed}
 use Rattle.wgsl.proofs.Absent.{present-is}
-use Rattle.wgsl.proofs.Stride.{stride-is, closed-not-runtime, runtime-stride, up-larger, stride-limit}
+use Rattle.wgsl.proofs.Tail.{closed-not-runtime}
+use Rattle.wgsl.proofs.Stride.{stride-is, runtime-stride, up-larger, stride-limit}
 use Rattle.layout_values.specs.Value.{partsOf, valueOf}
 use Rattle.layout_values.specs.declared.value.Value.{Value}
 use Rattle.layout_values.proofs.ScalarMade.{kind-bounded}

@@ -14,7 +14,7 @@ use native.Mathlib.Nat.{mod-self, mod-eq-of-lt, mul-mod-left, lt-of-not-le}
 use native.Mathlib.Decide.{decLe}
 use lib.ListN.{getElem?}
 use Rattle.wgsl.specs.Round.{up, limit}
-use Rattle.wgsl.specs.Types.{Ty, scalar, vector, matrix, array, runtime, atomic, struct, isRuntime, isOpen, everywhere}
+use Rattle.wgsl.specs.Types.{Ty, scalar, vector, matrix, array, runtime, atomic, struct, isRuntime, everywhere}
 use Rattle.wgsl.specs.Size.{both, sizeOf, alignOf, strideOf, ownStrideOf, widthOf, vectorSize, vectorAlign, membersAlign, membersEnd}
 use Rattle.wgsl.specs.Said.{good}
 use Rattle.wgsl.specs.Rule.{isAllowed, isWellFormed, typesOf}
@@ -22,6 +22,7 @@ use Rattle.wgsl.specs.Place.{shapeOf}
 use Rattle.wgsl.specs.Claim.{IsStride, ByElement}
 use Rattle.wgsl.proofs.Round.{up-multiple, up-not-below, up-least}
 use Rattle.wgsl.proofs.Absent.{true-not-false, some-not-none, both-some, both-none}
+use Rattle.wgsl.proofs.Tail.{sized-not-runtime, closed-not-runtime}
 use Rattle.wgsl.proofs.Shape.{multiple-trans}
 use Rattle.wgsl.proofs.Passed.{passed, array-passed, runtime-passed}
 use Rattle.wgsl.proofs.Align.{vector-align}
@@ -32,7 +33,7 @@ use Rattle.wgsl.proofs.Entry.{align-positive, align-limit, size-positiv
 
 -- Of what is no runtime array it is the size rounded up to the alignment, absent if either is: 01's stride of an array of it.
 pub own-stride : (t : Ty) → isRuntime t ≡ false → ownStrideOf t ≡ strideOf t
-unfolding ownStrideOf strideOf isRuntime
+unfolding ownStrideOf isRuntime
 own-stride (scalar s) e = refl
 own-stride (vector n s) e = refl
 own-stride (matrix c r s) e = refl
@@ -40,17 +41,6 @@ own-stride (array n t) e = refl
 own-stride (runtime t) e = true-not-false refl e
 own-stride (atomic s) e = refl
 own-stride (struct k ms) e = refl
-
--- what has a size is no runtime array
-sized-not-runtime : (t : Ty) (z : ℕ) → sizeOf t ≡ some z → isRuntime t ≡ false
-unfolding sizeOf isRuntime
-sized-not-runtime (scalar s) z e = refl
-sized-not-runtime (vector n s) z e = refl
-sized-not-runtime (matrix c r s) z e = refl
-sized-not-runtime (array n t) z e = refl
-sized-not-runtime (runtime t) z e = some-not-none e refl
-sized-not-runtime (atomic s) z e = refl
-sized-not-runtime (struct k ms) z e = refl
 
 -- "for any type with size and alignment, the size rounded up to the alignment;"
 sized-stride : (t : Ty) (a z : ℕ) → alignOf t ≡ some a → sizeOf t ≡ some z → ownStrideOf t ≡ some (up a z)
@@ -100,17 +90,6 @@ stride-unique (atomic c) p q = rounded-only (atomic c) _ _ refl p q
 stride-unique (struct k ms) p q = rounded-only (struct k ms) _ _ refl p q
 
 -- ---- of an element
-
--- what is not open is no runtime array
-pub closed-not-runtime : (t : Ty) → isOpen t ≡ false → isRuntime t ≡ false
-unfolding isOpen isRuntime
-closed-not-runtime (scalar s) e = refl
-closed-not-runtime (vector n s) e = refl
-closed-not-runtime (matrix c r s) e = refl
-closed-not-runtime (array n t) e = refl
-closed-not-runtime (runtime t) e = true-not-false refl e
-closed-not-runtime (atomic s) e = refl
-closed-not-runtime (struct k ms) e = refl
 
 -- The parts of an array lie by it,
 pub array-stride : (k : ℕ) (t : Ty) → everywhere isWellFormed (array k t) ≡ true → ByElement (array k t) t (λ n. k)
@@ -183,7 +162,7 @@ up-larger t a z w e h =
 
 -- What holds of the stride of an array of any well-formed type holds of a type's own.
 own-by-array : (P : ℕ → Type 0) → ((t : Ty) (n : ℕ) → everywhere isWellFormed t ≡ true → strideOf t ≡ some n → P n) → (t : Ty) (n : ℕ) → everywhere isWellFormed t ≡ true → ownStrideOf t ≡ some n → P n
-unfolding ownStrideOf strideOf
+unfolding ownStrideOf
 own-by-array P h (scalar s) = h (scalar s)
 own-by-array P h (vector k s) = h (vector k s)
 own-by-array P h (matrix c r s) = h (matrix c r s)

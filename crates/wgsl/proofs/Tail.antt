@@ -107,6 +107,22 @@ runtime-unsized (runtime t) e = refl
 runtime-unsized (atomic s) e = true-not-false e refl
 runtime-unsized (struct k ms) e = true-not-false e refl
 
+-- So what has a size is none,
+pub sized-not-runtime : (t : Ty) (z : ℕ) → sizeOf t ≡ some z → isRuntime t ≡ false
+sized-not-runtime t z e = go (isRuntime t) refl
+  where
+    go : (b : Bool) → isRuntime t ≡ b → b ≡ false
+    go true q = some-not-none e (runtime-unsized t q)
+    go false q = refl
+
+-- nor is what is not open.
+pub closed-not-runtime : (t : Ty) → isOpen t ≡ false → isRuntime t ≡ false
+closed-not-runtime t e = go (isRuntime t) refl
+  where
+    go : (b : Bool) → isRuntime t ≡ b → b ≡ false
+    go true q = true-not-false (runtime-open t q) e
+    go false q = refl
+
 -- the end of a struct that ends in a runtime array is absent
 open-end : (end : Option ℕ) (b : Bool) (ms : Members) → membersGivenFit ms ≡ true → (b ≡ true → end ≡ none) → endsInRuntime b ms ≡ true → membersEnd end ms ≡ none
 unfolding membersEnd endsInRuntime membersGivenFit memberStart memberEnd endAfter givenOr

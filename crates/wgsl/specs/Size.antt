@@ -116,14 +116,15 @@ unfoldable pub strideOf : Ty → Option ℕ
 strideOf t = both up (alignOf t) (sizeOf t)
 
 -- E1: "for any type with size and alignment, the size rounded up to the alignment; for a runtime array, its element's stride; else absent."
+-- Of what is no runtime array that is the stride of an array of it.
 unfoldable pub ownStrideOf : Ty → Option ℕ
-ownStrideOf (scalar s) = both up (alignOf (scalar s)) (sizeOf (scalar s))
-ownStrideOf (vector n s) = both up (alignOf (vector n s)) (sizeOf (vector n s))
-ownStrideOf (matrix c r s) = both up (alignOf (matrix c r s)) (sizeOf (matrix c r s))
-ownStrideOf (array n t) = both up (alignOf (array n t)) (sizeOf (array n t))
+ownStrideOf (scalar s) = strideOf (scalar s)
+ownStrideOf (vector n s) = strideOf (vector n s)
+ownStrideOf (matrix c r s) = strideOf (matrix c r s)
+ownStrideOf (array n t) = strideOf (array n t)
 ownStrideOf (runtime t) = ownStrideOf t
-ownStrideOf (atomic s) = both up (alignOf (atomic s)) (sizeOf (atomic s))
-ownStrideOf (struct k ms) = both up (alignOf (struct k ms)) (sizeOf (struct k ms))
+ownStrideOf (atomic s) = strideOf (atomic s)
+ownStrideOf (struct k ms) = strideOf (struct k ms)
 
 -- "A runtime array has .. no size; its minimum size is one stride; any other type's is its size."
 unfoldable pub minSizeOf : Ty → Option ℕ

@@ -8,7 +8,7 @@ use mathlib.Core.List.{List, [], _∷_, _++_}
 use mathlib.Core.Bool.{Bool, true, false, _&&_}
 use mathlib.Core.Option.{Option, none, some}
 use lib.Dec.{eqb}
-use Rattle.wgsl.specs.Types.{bool, u32, f32, f16, abstractInt, Ty, scalar, vector, matrix, array, runtime, atomic, struct, Members, no-more, member}
+use Rattle.wgsl.specs.Types.{bool, u32, f32, f16, abstractInt, scalar, vector, matrix, array, runtime, atomic, struct, no-more}
 use Rattle.wgsl.specs.Size.{ownStrideOf}
 use Rattle.wgsl.specs.Said.{Said, good, refused}
 use Rattle.wgsl.specs.Call.{Layout, layoutCall}
