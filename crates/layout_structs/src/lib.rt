@@ -17,9 +17,11 @@ use layout_values::value::words_of;
 use numbers::limit::Limited;
 use numbers::limit::round_up;
 use numbers::limit::sum;
+use numbers::order::larger;
+use numbers::order::smaller;
 use numbers::wide::wide;
 ghost use mathlib.Core.Path.{_≡_};
-ghost use Prim.Native.Nat.{ℕ, _≤_, max, min};
+ghost use Prim.Native.Nat.{ℕ, _≤_};
 ghost use Rattle.wgsl.specs.Types.{Ty, Members, no-more, struct};
 ghost use Rattle.wgsl.specs.Rule.{countOf};
 ghost use Rattle.file.specs.Fields.{entryIs, memberIs};
@@ -53,18 +55,6 @@ pub enum Stepped {
 pub struct Span {
     pub first: usize,
     pub count: usize,
-}
-
-fn larger(a: u32, b: u32) -> u32
-    ensures { λ r. ⌜ r ≡ max a b ⌝ }
-{
-    if a < b { b } else { a }
-}
-
-fn smaller(a: u32, b: u32) -> u32
-    ensures { λ r. ⌜ r ≡ min a b ⌝ }
-{
-    if b < a { b } else { a }
 }
 
 // One more member, whose size and align fit, after those that end as `p` says.
