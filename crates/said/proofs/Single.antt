@@ -14,7 +14,7 @@ use Rattle.wgsl.specs.Call as call
 use Rattle.wgsl.specs.Call.{partOf, partStart}
 use Rattle.said.specs.Refusal.{numberOf, placeOf}
 use Rattle.said.specs.declared.refusal.Refusal.{Refusal}
-use Rattle.said.specs.declared.refusal.Refusal.the-variants.{Short, Form, Counts, Length, Rule, Given, Large, Missing, Absent, Unstorable, NoMember, PastEnd, NoIndex, Count, Buffer, Word, Long, NoRank}
+use Rattle.said.specs.declared.refusal.Refusal.the-variants.{Short, Form, Counts, Length, Rule, Given, Large, Missing, Absent, Unstorable, NoMember, PastEnd, NoIndex, Count, Buffer, Word, Long, NoRank, NotUniform}
 use Rattle.said.specs.Answer.{saidNumber, maybeOf, saidAnswer}
 use Rattle.said.specs.declared.answer.Number.{Number}
 use Rattle.said.specs.declared.answer.Maybe.{Maybe}
@@ -34,9 +34,9 @@ unfoldable pub refusalFrom : ℕ → ℕ → Refusal
 refusalFrom place number =
     getD
     (Short ∷ Short ∷ Form ∷ Counts ∷ Length ∷ Rule place ∷ Given place ∷ Large place ∷ Missing ∷ Absent ∷ Unstorable
-    ∷ NoMember place ∷ PastEnd place ∷ NoIndex place ∷ Count ∷ Buffer ∷ Word place ∷ Long ∷ [])
+    ∷ NoMember place ∷ PastEnd place ∷ NoIndex place ∷ Count ∷ Buffer ∷ Word place ∷ Long ∷ NoRank ∷ [])
     number
-    NoRank
+    (NotUniform place)
 
 pub refusal-told : (r : Refusal) → refusalFrom (placeOf r) (numberOf r) ≡ r
 unfolding refusalFrom
@@ -58,6 +58,7 @@ refusal-told Buffer = refl
 refusal-told (Word position) = refl
 refusal-told Long = refl
 refusal-told NoRank = refl
+refusal-told (NotUniform entry) = refl
 
 -- ---- a number or a refusal
 
@@ -69,7 +70,7 @@ number-told : (a : Number) → numberFrom (saidNumber a) ≡ a
 number-told (Number.Is n) = refl
 number-told (Number.Refused r) = ap Number.Refused (refusal-told r)
 
--- Two numbers that a claim of check, size, align, min_size, rank or common allows are the same.
+-- Two numbers that a claim of check, size, align, min_size, rank, common or uniform allows are the same.
 pub single-number : {said : Said ℕ} (a b : Number) → saidNumber a ≡ said → saidNumber b ≡ said → a ≡ b
 single-number = single saidNumber numberFrom number-told
 

@@ -1,8 +1,8 @@
--- The paper's number and place of each refusal (01, "Numbers that say no").
+-- The papers' number and place of each refusal (01, "Numbers that say no"; 02, request by request).
 -- Definitions only. Assumes nothing.
 use Prim.Native.Nat.{ℕ}
 use Rattle.said.specs.declared.refusal.Refusal.{Refusal}
-use Rattle.said.specs.declared.refusal.Refusal.the-variants.{Short, Form, Counts, Length, Rule, Given, Large, Missing, Absent, Unstorable, NoMember, PastEnd, NoIndex, Count, Buffer, Word, Long, NoRank}
+use Rattle.said.specs.declared.refusal.Refusal.the-variants.{Short, Form, Counts, Length, Rule, Given, Large, Missing, Absent, Unstorable, NoMember, PastEnd, NoIndex, Count, Buffer, Word, Long, NoRank, NotUniform}
 
 abbrev pub numberOf : Refusal → ℕ
 numberOf Short = 1
@@ -23,6 +23,7 @@ numberOf Buffer = 15
 numberOf (Word position) = 16
 numberOf Long = 17
 numberOf NoRank = 18
+numberOf (NotUniform entry) = 19
 
 abbrev pub placeOf : Refusal → ℕ
 placeOf Short = 0
@@ -43,3 +44,4 @@ placeOf Buffer = 0
 placeOf (Word position) = position
 placeOf Long = 0
 placeOf NoRank = 0
+placeOf (NotUniform entry) = entry

@@ -1,4 +1,4 @@
-// Document 01's refusals, by name. Their numbers and places are a definition (specs/Refusal).
+// The refusals of documents 01 and 02, by name. Their numbers and places are a definition (specs/Refusal).
 ghost use mathlib.Core.Path.{_≡_};
 ghost use Prim.Native.Nat.{_%_, _^_};
 ghost use Rattle.said.specs.Refusal.{numberOf, placeOf};
@@ -33,6 +33,8 @@ pub enum Refusal {
     Long,
     // 18: no rank, no common type, or an empty list
     NoRank,
+    // 19, with the entry: one that breaks a rule of the uniform profile
+    NotUniform(usize),
 }
 
 pub fn number(r: Refusal) -> u32
@@ -57,6 +59,7 @@ pub fn number(r: Refusal) -> u32
         Refusal::Word(_) => 16,
         Refusal::Long => 17,
         Refusal::NoRank => 18,
+        Refusal::NotUniform(_) => 19,
     }
 }
 
@@ -73,6 +76,7 @@ pub fn place(r: Refusal) -> u32
         Refusal::PastEnd(k) => (k % 0x1_0000_0000) as u32,
         Refusal::NoIndex(k) => (k % 0x1_0000_0000) as u32,
         Refusal::Word(k) => (k % 0x1_0000_0000) as u32,
+        Refusal::NotUniform(k) => (k % 0x1_0000_0000) as u32,
         _ => 0,
     }
 }

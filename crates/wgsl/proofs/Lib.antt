@@ -12,6 +12,10 @@ pub mod Trailed
 pub mod Accepted
 pub mod Fields
 pub mod AtEntry
+pub mod Reach
+pub mod ReachedTypes
+pub mod Uniform
+pub mod UniformPart
 pub mod Shape
 pub mod Path
 pub mod PathPlace

@@ -20,12 +20,14 @@ use Rattle.wgsl.specs.Path.{stepOf}
 use Rattle.wgsl.specs.Call.{checkOf, entryOf, sizeCall, alignCall, minSizeCall, layoutCall, allowed, entryFor, elementsFor, readElements, readType, readCall, writeWords, writeElements, writeType, writeCall, targetCall, setScalar, setTarget, targetIn, viewCall, scalarAt, setCall, rankCall, entriesOf, commonCall}
 use Rattle.wgsl.specs.Rank.{commonOfAll}
 use Rattle.wgsl.specs.BitFieldCall.{integerOf, integerAt, extractCall, insertCall}
+use Rattle.wgsl.specs.Uniform.{mayLive, uniformCall}
 use Rattle.wgsl.specs.Claim.{PlaceFits, PlacesFit}
-use Rattle.wgsl.proofs.Said.{good-not-refused, then-cases, refuse-cases, orRefuse-refused}
+use Rattle.wgsl.proofs.Said.{good-not-refused, then-cases, refuse-cases, orRefuse-good, orRefuse-refused}
 use Rattle.wgsl.proofs.Accepted.{refused-place}
 use Rattle.wgsl.proofs.Count.{places-words, words-room}
 use Rattle.wgsl.proofs.EntryFor.{laid-good, stored-good, entry-sound}
 use Rattle.wgsl.proofs.Deep.{walk-place, entry-deep}
+use Rattle.wgsl.proofs.Uniform.{Asked, named-low}
 
 -- ---- the calls' steps
 
@@ -148,6 +150,15 @@ fits-entries ts (e ∷ es) =
     fits-then (orRefuse 8 0 (getElem? ts e)) _ (fits-or _ _ _ (omega arith)) (λ t q.
     fits-then (entriesOf ts es) _ (fits-entries ts es) (λ rest h. fits-good _))
 
+fits-uniform : (f : List ℕ) (e : ℕ) → PlaceFits (uniformCall f e)
+unfolding uniformCall mayLive
+fits-uniform f e =
+    fits-then (typesOf f) _ (fits-types f) (λ ts q.
+    fits-then (orRefuse 8 0 (getElem? ts e)) _ (fits-or _ _ _ (omega arith)) (λ t h.
+    let at : Asked f ts e t = record { good-file = q; there = orRefuse-good 8 0 (getElem? ts e) h } in
+    fits-next _ _ (fits-refuse _ _ _ _ (omega arith) (λ ok. fits-alone _ _ _ (omega arith)))
+    (fits-next _ _ (λ number place g. omega (arith, named-low at number place g)) (fits-good _))))
+
 -- a question about one entry
 fits-asked : {A : Type 0} (f : List ℕ) (e : ℕ) (answer : Ty → Said A) → ((t : Ty) → PlaceFits (answer t)) → PlaceFits (_>>=_ (entryOf f e) answer)
 fits-asked f e answer h = fits-then (entryOf f e) answer (fits-entry f e) (λ t q. h t)
@@ -171,6 +182,7 @@ places-fit f =
           fits-then (integerAt f e steps b) _ (fits-integer f e steps b) (λ x q. fits-good _);
       insert = λ e steps new offset count b.
           fits-then (integerAt f e steps b) _ (fits-integer f e steps b) (λ x q. fits-good _);
+      uniform = fits-uniform f;
       rank = λ x y. fits-asked f x _ (λ s. fits-asked f y _ (λ t. fits-or _ _ _ zero-fits));
       common = λ es.
           fits-then (typesOf f) _ (fits-types f) (λ ts q.

@@ -1,26 +1,27 @@
 -- What the laws of proofs/Claims say: the predicates that they use, in the order of the laws.
 --
 -- In order: bytes; the lowest bad entry; strides; places; where members lie; paths; the entry that a call is about; when a call is good; what a
--- call leaves; the places of refusals.
+-- call leaves; the uniform profile; the places of refusals.
 -- Not here: demand 3 (`Demand`).
 -- Definitions only. Assumes nothing.
 use Prim.Native.Nat.{ℕ, zero, suc, _+_, _*_, _^_, _<_, _≤_}
 use mathlib.Core.Bool.{true, false}
-use mathlib.Core.List.{List, [], _∷_, map}
+use mathlib.Core.List.{List, [], _∷_, map, List·Memᴰ}
 use mathlib.Core.Logic.{_⊎_}
 use mathlib.Core.Option.{Option, none, some}
 use mathlib.Core.Path.{_≡_}
-use lib.ListN.{length, getD, take, drop}
+use lib.ListN.{length, getD, getElem?, take, drop}
 use Rattle.wgsl.specs.Round.{up, limit}
 use Rattle.wgsl.specs.Types.{Scalar, Ty, runtime, Members, no-more, member, isRuntime, isOpen}
 use Rattle.wgsl.specs.Size.{present, widthOf, sizeOf, alignOf, strideOf, ownStrideOf, fitsLimit, hasLayout, isStorable}
 use Rattle.wgsl.specs.Said.{Said, good, refused}
-use Rattle.wgsl.specs.Rule.{typeOfEntry, isAllowed, givenFits, typesBelow}
+use Rattle.wgsl.specs.Rule.{typeOfEntry, isAllowed, givenFits, typesBelow, typesOf}
 use Rattle.wgsl.specs.Place.{extentOf, elementsIn, Shape, one, parts, field, shapeOf, Place, places, wordCount, wordsRead}
 use Rattle.wgsl.specs.Path as path
 use Rattle.wgsl.specs.Path.{Step, stepOf}
 use Rattle.wgsl.specs.Call.{Done, checkOf, entryOf, sizeCall, alignCall, minSizeCall, layoutCall, readCall, writeCall, viewCall, setCall, rankCall, commonCall}
 use Rattle.wgsl.specs.BitFieldCall.{isInteger, extractCall, insertCall}
+use Rattle.wgsl.specs.Uniform.{isUniform, refersTo, isBroken, uniformCall}
 
 -- ---- bytes
 
@@ -207,6 +208,34 @@ pub record Read (f : List ℕ) (e : ℕ) (b ws : List ℕ) (d : Done) : Type 0 w
   pub later-stay : drop (d .value) (d .contents) ≡ drop (d .value) ws
   pub length-same : length (d .contents) ≡ length ws
 
+-- ---- the uniform profile
+
+-- entry e reaches entry k: it is e, or e refers to an entry that reaches it
+pub data Reaches (f : List ℕ) : ℕ → ℕ → Type 0 where
+  itself : {e : ℕ} → Reaches f e e
+  onward : {e r k : ℕ} → List·Memᴰ r (refersTo f e) → Reaches f r k → Reaches f e k
+
+-- None of 1 to 10 and 19 is due: entry e has a type that may live in a uniform buffer.
+pub record CanUniform (f : List ℕ) (e : ℕ) : Type 0 where
+  pub type : Ty
+  pub entry : entryOf f e ≡ good type
+  pub uniform : isUniform type ≡ true
+
+-- Entry k is the lowest broken one among entry e and those that it reaches; ts are the types of the file's entries.
+pub record LowestBroken (f : List ℕ) (ts : List Ty) (e k : ℕ) : Type 0 where
+  pub reached : Reaches f e k
+  pub broken : isBroken ts k ≡ true
+  pub lowest : (j : ℕ) → Reaches f e j → isBroken ts j ≡ true → k ≤ j
+
+-- Two files say the same of every entry that e reaches: its type, and what it refers to.
+pub record SameReached (f g : List ℕ) (e : ℕ) : Type 0 where
+  pub types : List Ty
+  pub types′ : List Ty
+  pub accepted : typesOf f ≡ good types
+  pub accepted′ : typesOf g ≡ good types′
+  pub same-type : (k : ℕ) → Reaches f e k → getElem? types k ≡ getElem? types′ k
+  pub same-references : (k : ℕ) → Reaches f e k → refersTo f k ≡ refersTo g k
+
 -- ---- the places of refusals
 
 -- a refusal's place is a number of 32 bits
@@ -226,5 +255,6 @@ pub record PlacesFit (f : List ℕ) : Type 0 where
   pub set : (e : ℕ) (steps : List ℕ) (w : ℕ) (b : List ℕ) → PlaceFits (setCall f e steps w b)
   pub extract : (e : ℕ) (steps b : List ℕ) (offset count : ℕ) → PlaceFits (extractCall f e steps b offset count)
   pub insert : (e : ℕ) (steps : List ℕ) (new offset count : ℕ) (b : List ℕ) → PlaceFits (insertCall f e steps new offset count b)
+  pub uniform : (e : ℕ) → PlaceFits (uniformCall f e)
   pub rank : (x y : ℕ) → PlaceFits (rankCall f x y)
   pub common : (es : List ℕ) → PlaceFits (commonCall f es)

@@ -14,6 +14,7 @@ pub mod Listing
 pub mod BitField
 pub mod BitFieldCase
 pub mod BitFieldCall
+pub mod Uniform
 pub mod Claim
 pub mod Demand
 pub mod Case

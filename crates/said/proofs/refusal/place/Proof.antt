@@ -1,4 +1,4 @@
--- The seven variants with a place give it; the numbers of the others are in the key of the last arm.
+-- The eight variants with a place give it; the numbers of the others are in the key of the last arm.
 use borrow.Author.Needs.{needs}
 use Prim.Native.Nat.{ℕ, _%_, _^_}
 use mathlib.Core.List.{List, [], _∷_}
@@ -8,7 +8,7 @@ use denote.Enum.Declared.{tagOf}
 use Rattle.said.proofs.refusal.Refusal as refusal
 use Rattle.said.specs.Refusal.{placeOf}
 use Rattle.said.specs.declared.refusal.Refusal.{Refusal}
-use Rattle.said.specs.declared.refusal.Refusal.the-variants.{Short, Form, Counts, Length, Rule, Given, Large, Missing, Absent, Unstorable, NoMember, PastEnd, NoIndex, Count, Buffer, Word, Long, NoRank}
+use Rattle.said.specs.declared.refusal.Refusal.the-variants.{Short, Form, Counts, Length, Rule, Given, Large, Missing, Absent, Unstorable, NoMember, PastEnd, NoIndex, Count, Buffer, Word, Long, NoRank, NotUniform}
 use Rattle.said.proofs.refusal.place.Statement.{statement}
 use Rattle.said.proofs.refusal.place.Tie as tie
 
@@ -33,6 +33,9 @@ returns-6 c = rw (c .before .r6 .given .1)
 returns-7 : tie.Need-returns-7
 returns-7 c = rw (c .before .r7 .given .1)
 
+returns-8 : tie.Need-returns-8
+returns-8 c = rw (c .before .r8 .given .1)
+
 -- the numbers of the variants without a place
 abbrev keys : List ℕ
 keys = 0 ∷ 1 ∷ 2 ∷ 3 ∷ 7 ∷ 8 ∷ 9 ∷ 13 ∷ 14 ∷ 16 ∷ 17 ∷ []
@@ -56,14 +59,16 @@ placeless Buffer h = refl
 placeless (Word k) h = absurd (miss keys 15 tt h)
 placeless Long h = refl
 placeless NoRank h = refl
+placeless (NotUniform k) h = absurd (miss keys 18 tt h)
 
-returns-8 : tie.Need-returns-8
-returns-8 c = placeless (c .before .args .r) (c .match .keys8)
+returns-9 : tie.Need-returns-9
+returns-9 c = placeless (c .before .args .r) (c .match .keys9)
 
 pub place-spec : {M : Type 1} → statement M
 place-spec =
     tie.close (tie.spec
     (λ c. search needs) (λ c. search needs) (λ c. search needs) (λ c. search needs) (λ c. search needs)
     (λ c. search needs) (λ c. search needs) (λ c. search needs) (λ c. search needs) (λ c. search needs)
-    (λ c. search needs) (λ c. search needs) (λ c. search needs) (λ c. search needs) returns returns-2 returns-3 returns-4 returns-5
-    returns-6 returns-7 returns-8)
+    (λ c. search needs) (λ c. search needs) (λ c. search needs) (λ c. search needs) (λ c. search needs)
+    (λ c. search needs) returns returns-2 returns-3 returns-4 returns-5
+    returns-6 returns-7 returns-8 returns-9)
