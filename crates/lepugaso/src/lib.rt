@@ -1,5 +1,5 @@
 // The public calls, in one place. None has a `requires`: any bytes of any length and any numbers are answered. Each answers a number or a
-// refusal (`said::answer::Number`), but for `layout`, which answers all three numbers of an entry (`said::answer::Answer`), `view_at`, which
+// refusal (`said::answer::Number`), but for `layout`, which answers all four numbers of an entry (`said::answer::Answer`), `view_at`, which
 // answers a target (`said::target::Walked`), the two views, which hand back a part of the buffer that they were lent, and the four calls on
 // numbers alone, which answer a number.
 
@@ -9,7 +9,7 @@ pub use layout_ask::check;
 pub use layout_ask::align;
 pub use layout_ask::min_size;
 pub use layout_ask::size;
-// All three, absent ones marked; else 1 to 8.
+// These and the stride, absent ones marked; else 1 to 8.
 pub use layout_ask::layout;
 // The rank of one entry's type to another's, and the common type of a list of entries; else 1 to 8, 18.
 pub use convert_ask::common;
@@ -32,3 +32,5 @@ pub use bits::insert_bits_u32;
 // The same of one i32 or u32 at a path: its field as a word, and its offset; else 1 to 15, 17.
 pub use paths::field::extract_bits;
 pub use paths::field::insert_bits;
+// Whether an entry may live in a uniform buffer (0); else 1 to 10, 19.
+pub use uniform::uniform;

@@ -48,6 +48,7 @@ all-cross f =
       set = λ e steps w b. whole _ (answer-fits _ (fits .set e steps w b));
       extract = λ e steps b offset count. whole _ (fits .extract e steps b offset count);
       insert = λ e steps new offset count b. whole _ (answer-fits _ (fits .insert e steps new offset count b));
+      uniform = λ e. whole _ (fits .uniform e);
       rank = λ x y. whole _ (fits .rank x y);
       common = λ es. whole _ (fits .common es);
     }

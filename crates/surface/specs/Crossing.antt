@@ -11,6 +11,7 @@ use Rattle.wgsl.specs.Place.{spanOf}
 use Rattle.wgsl.specs.Path.{Target}
 use Rattle.wgsl.specs.Call.{Layout, answerOf, offsetOf, checkOf, sizeCall, alignCall, minSizeCall, layoutCall, readCall, writeCall, viewCall, setCall, rankCall, commonCall}
 use Rattle.wgsl.specs.BitFieldCall.{extractCall, insertCall}
+use Rattle.wgsl.specs.Uniform.{uniformCall}
 use Rattle.surface.specs.declared.Crossing.{Crossing}
 
 -- 0 and the value, or the refusal's number and place
@@ -59,5 +60,6 @@ pub record AllCross (f : List ℕ) : Type 0 where
   pub set : (e : ℕ) (steps : List ℕ) (w : ℕ) (b : List ℕ) → CrossesWhole (answerOf (setCall f e steps w b))
   pub extract : (e : ℕ) (steps b : List ℕ) (offset count : ℕ) → CrossesWhole (extractCall f e steps b offset count)
   pub insert : (e : ℕ) (steps : List ℕ) (new offset count : ℕ) (b : List ℕ) → CrossesWhole (answerOf (insertCall f e steps new offset count b))
+  pub uniform : (e : ℕ) → CrossesWhole (uniformCall f e)
   pub rank : (x y : ℕ) → CrossesWhole (rankCall f x y)
   pub common : (es : List ℕ) → CrossesWhole (commonCall f es)

@@ -10,6 +10,7 @@ ghost use mathlib.Core.Path.{_≡_};
 ghost use Rattle.wgsl.specs.Call.{checkOf, sizeCall, alignCall, minSizeCall, layoutCall, rankCall, commonCall, answerOf, contentsOf, readCall, writeCall, offsetOf, viewCall, setCall};
 ghost use Rattle.wgsl.specs.BitField.{extractedU32, extractedI32, inserted, patternOf, signedOf};
 ghost use Rattle.wgsl.specs.BitFieldCall.{extractCall, insertCall};
+ghost use Rattle.wgsl.specs.Uniform.{uniformCall};
 ghost use Rattle.said.specs.Answer.{saidNumber, maybeOf};
 ghost use Rattle.surface.specs.Crossing.{crossed, crossedMaybe, told, laidOut, sizeOut};
 
@@ -246,4 +247,11 @@ pub extern "C" fn lepugaso_surface_insert_bits(
     ensures buffer { λ r. ⌜ now (buf .exit) ≡ contentsOf (now (buf .entry)) (insertCall (now (file .entry)) entry (now (path .entry)) newbits offset count (now (buf .entry))) ⌝ }
 {
     cross(lepugaso::insert_bits(file, entry, path, newbits, offset, count, buf))
+}
+
+#[no_mangle]
+pub extern "C" fn lepugaso_surface_uniform(file: &[u8], entry: u32) -> Crossing
+    ensures { λ r. ⌜ r ≡ crossed (uniformCall (now (file .entry)) entry) ⌝ }
+{
+    cross(lepugaso::uniform(file, entry))
 }

@@ -1,0 +1,3 @@
+pub mod SlotsKeep
+pub mod StartKeeps
+pub mod KeepsBy
