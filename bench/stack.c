@@ -14,9 +14,9 @@ static uint8_t file[12 * ENTRIES + 12 * ENTRIES + 10], buf[16];
 static size_t file_len;
 static uint32_t words[3] = {1, 2, 3};
 static uint32_t path[ENTRIES - 1];
-static enum { CHECK, SIZE, ALIGN, MIN_SIZE, LAYOUT_OF, RANK, COMMON, WRITE, READ, VIEW, SET, INSERT, EXTRACT, CALLS } way;
-static const char *const names[CALLS] = {"check", "size", "align", "min_size", "layout_of",   "rank",        "common",
-                                         "write", "read", "view",  "set",      "insert_bits", "extract_bits"};
+static enum { CHECK, SIZE, ALIGN, MIN_SIZE, LAYOUT_OF, UNIFORM, RANK, COMMON, WRITE, READ, VIEW, SET, INSERT, EXTRACT, CALLS } way;
+static const char *const names[CALLS] = {"check",  "size",  "align", "min_size", "layout_of", "uniform",     "rank",
+                                         "common", "write", "read",  "view",     "set",       "insert_bits", "extract_bits"};
 enum { ARRAYS, STRUCTS, BOTH, TABLES };
 static lepugaso_answer answer;
 
@@ -60,6 +60,7 @@ static void *call(void *unused) {
     case ALIGN: answer = lepugaso_align(file, file_len, last); break;
     case MIN_SIZE: answer = lepugaso_min_size(file, file_len, last); break;
     case LAYOUT_OF: answer = lepugaso_layout_of(file, file_len, last, &layout); break;
+    case UNIFORM: answer = lepugaso_uniform(file, file_len, last); break;
     case RANK: answer = lepugaso_rank(file, file_len, last, last); break;
     case COMMON: answer = lepugaso_common(file, file_len, list, 2); break;
     case WRITE: answer = lepugaso_write(file, file_len, last, words, 3, buf, sizeof buf); break;

@@ -99,6 +99,7 @@ typedef struct lepugaso_layout {
 #define LEPUGASO_REFUSED_F16_WORD 16u     /* a word above 65,535 for an f16; place is the word */
 #define LEPUGASO_REFUSED_LONG_BUFFER 17u  /* the buffer is above 4,294,967,295 bytes */
 #define LEPUGASO_REFUSED_NO_RANK 18u      /* no rank, no common type, or an empty list */
+#define LEPUGASO_REFUSED_UNIFORM 19u      /* a rule of uniform buffers is broken; place is the entry that breaks it */
 
 /* How many entries the file has. Refuses 1 to 7. */
 lepugaso_answer lepugaso_check(const uint8_t *file, size_t file_len);
@@ -183,6 +184,16 @@ lepugaso_answer lepugaso_extract_bits(const uint8_t *file, size_t file_len, uint
  * `buf` stay. Refuses as extracting does, and leaves `buf` as it was. */
 lepugaso_answer lepugaso_insert_bits(const uint8_t *file, size_t file_len, uint32_t entry, const uint32_t *path, size_t path_len,
                                      uint32_t newbits, uint32_t offset, uint32_t count, uint8_t *buf, size_t buf_len);
+
+/* Whether entry `entry` may live in a uniform buffer, of which WGSL asks more than of a storage buffer. The value is 0: it may. These are
+ * the rules, for the entry and all that it is made of: there is no atomic; the stride of every array is a multiple of 16; in every struct,
+ * a member that is a struct or an array starts at a multiple of 16, and what comes after a struct starts no earlier than that struct's
+ * size, rounded up to 16, after its start, whatever size its member gives. A given size or align mends a struct; an array needs elements
+ * that take a multiple of 16 bytes, as vec4<f32> does.
+ * Refuses 1 to 7, then 8, 9 (the type has no layout, or is open), 10 (it holds a bool), 19: place is the lowest entry at fault, of the one
+ * asked for and all that it is made of. That is an atomic, an array whose stride is no multiple of 16, or a struct in which a member stands
+ * wrong, and not the type of that member. */
+lepugaso_answer lepugaso_uniform(const uint8_t *file, size_t file_len, uint32_t entry);
 
 #ifdef __cplusplus
 }

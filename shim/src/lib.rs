@@ -409,3 +409,16 @@ pub unsafe extern "C" fn lepugaso_insert_bits(
         _ => BAD_POINTER,
     }
 }
+
+/// Whether an entry's type may live in a uniform buffer.
+///
+/// # Safety
+/// As `lepugaso_check`.
+#[no_mangle]
+pub unsafe extern "C" fn lepugaso_uniform(file: *const u8, file_len: usize, entry: u32) -> Crossing {
+    match Lent::new(file, file_len) {
+        // SAFETY: the caller lends the file, and its pointer has passed the tests of a slice's.
+        Some(file) => unsafe { lepugaso_surface_uniform(file.start(), file.count(), entry) },
+        None => BAD_POINTER,
+    }
+}

@@ -87,4 +87,5 @@ extern "C" {
         buf: *mut u8,
         buf_len: usize,
     ) -> Crossing;
+    pub fn lepugaso_surface_uniform(file: *const u8, file_len: usize, entry: u32) -> Crossing;
 }

@@ -1,5 +1,5 @@
-/* Every call on a good file, and every refusal of document 01 that it can give; bit fields are in fields.c. What is lent stands at the end
- * of a page after which nothing can be touched, and what is lent to be read cannot be written. */
+/* Every call on a good file, and every refusal of documents 01 and 02 that it can give; bit fields are in fields.c. What is lent stands at
+ * the end of a page after which nothing can be touched, and what is lent to be read cannot be written. */
 #include "pages.h"
 #include "test.h"
 
@@ -65,6 +65,7 @@ static void refused_files(void) {
         EXPECT(lepugaso_set(file, length, 0, NULL, 0, 1, buf, sizeof buf), refusal, place, 0);
         EXPECT(lepugaso_extract_bits(file, length, 0, NULL, 0, bytes, sizeof bytes, 0, 12), refusal, place, 0);
         EXPECT(lepugaso_insert_bits(file, length, 0, NULL, 0, 1, 0, 12, buf, sizeof buf), refusal, place, 0);
+        EXPECT(lepugaso_uniform(file, length, 0), refusal, place, 0);
         HOLDS(buf[0] == 6 && buf[1] == 7 && buf[2] == 8 && buf[3] == 9);
     }
 }
@@ -136,6 +137,90 @@ static void strides(void) {
     laid(file, sizeof strided, 6, 64, 16, 64, 64);
     laid(file, sizeof strided, 8, 4, 4, 4, 4);
     laid(file, sizeof strided, 9, 8, 8, 8, 8);
+}
+
+/* What may live in a uniform buffer (E5), and what may not: an entry that is broken itself, or reaches one that is. */
+static const uint8_t uniforms[] = {
+    BOOL,             /* 0 */
+    I32,              /* 1 */
+    F32,              /* 2 */
+    ABSTRACT_INT,     /* 3: no layout */
+    VECTOR(4, 2),     /* 4: vec4<f32> */
+    MATRIX(2, 2, 2),  /* 5: mat2x2<f32>, columns 8 bytes apart */
+    ATOMIC(1),        /* 6: broken */
+    ARRAY(2, 4),      /* 7: of f32, broken: stride 4 */
+    ARRAY(4, 2),      /* 8: of vec4<f32> */
+    ARRAY(5, 2),      /* 9: of mat2x2<f32>, stride 16 */
+    STRUCT(0, 2),     /* 10: f32, f32 */
+    STRUCT(2, 4),     /* 11: f32, f32, f32, f32 */
+    ARRAY(10, 2),     /* 12: of 10, broken: stride 8 */
+    ARRAY(11, 2),     /* 13: of 11, stride 16 */
+    STRUCT(6, 2),     /* 14: f32, 10; broken: a struct at 4 */
+    STRUCT(8, 2),     /* 15: f32, 10 of align 16 */
+    STRUCT(10, 2),    /* 16: f32, 13; broken: an array at 4 */
+    STRUCT(12, 2),    /* 17: f32 of size 16, 13 */
+    STRUCT(14, 2),    /* 18: 10, f32; broken: f32 at 8 and not 16 */
+    STRUCT(16, 2),    /* 19: 10 of size 12, f32; broken: f32 at 12 */
+    STRUCT(18, 2),    /* 20: 10 of size 16, f32 */
+    STRUCT(20, 2),    /* 21: 10 of size 20, f32: at 20, and that is enough */
+    STRUCT(22, 2),    /* 22: 13, f32 */
+    STRUCT(24, 3),    /* 23: vec4<f32>, mat2x2<f32>, f32 */
+    STRUCT(27, 2),    /* 24: 7, 6: the higher one first */
+    STRUCT(29, 2),    /* 25: 14, 18: broken itself too, and both within it */
+    STRUCT(31, 2),    /* 26: 23, 20: all within it may */
+    ARRAY(26, 3),     /* 27: of 26 */
+    STRUCT(33, 1),    /* 28: 24 */
+    ARRAY(28, 2),     /* 29: of 28 */
+    STRUCT(34, 2),    /* 30: f32, bool */
+    STRUCT(36, 2),    /* 31: bool, 6 */
+    RUNTIME_ARRAY(4), /* 32: of vec4<f32> */
+    RUNTIME_ARRAY(0), /* 33: of bool */
+    STRUCT(38, 2),    /* 34: bool, 32 */
+    ARRAY(3, 2),      /* 35: of abstract int, no layout */
+    MEMBER(2), MEMBER(2),             /* 0, 1 */
+    MEMBER(2), MEMBER(2),             /* 2, 3 */
+    MEMBER(2), MEMBER(2),             /* 4, 5 */
+    MEMBER(2), MEMBER(10),            /* 6, 7 */
+    MEMBER(2), MEMBER_ALIGN(10, 16),  /* 8, 9 */
+    MEMBER(2), MEMBER(13),            /* 10, 11 */
+    MEMBER_SIZE(2, 16), MEMBER(13),   /* 12, 13 */
+    MEMBER(10), MEMBER(2),            /* 14, 15 */
+    MEMBER_SIZE(10, 12), MEMBER(2),   /* 16, 17 */
+    MEMBER_SIZE(10, 16), MEMBER(2),   /* 18, 19 */
+    MEMBER_SIZE(10, 20), MEMBER(2),   /* 20, 21 */
+    MEMBER(13), MEMBER(2),            /* 22, 23 */
+    MEMBER(4), MEMBER(5), MEMBER(2),  /* 24 to 26 */
+    MEMBER(7), MEMBER(6),             /* 27, 28 */
+    MEMBER(14), MEMBER(18),           /* 29, 30 */
+    MEMBER(23), MEMBER(20),           /* 31, 32 */
+    MEMBER(24),                       /* 33 */
+    MEMBER(2), MEMBER(0),             /* 34, 35 */
+    MEMBER(0), MEMBER(6),             /* 36, 37 */
+    MEMBER(0), MEMBER(32),            /* 38, 39 */
+    TRAILER(36, 40),
+};
+
+static void uniform_buffers(void) {
+    static const uint32_t may[] = {1, 2, 4, 5, 8, 9, 10, 11, 13, 15, 17, 20, 21, 22, 23, 26, 27};
+    /* The entry asked for, and the one at fault. */
+    static const uint32_t broken[][2] = {{6, 6},   {7, 7},  {12, 12}, {14, 14}, {16, 16}, {18, 18},
+                                         {19, 19}, {24, 6}, {25, 14}, {28, 6},  {29, 6}};
+    const uint8_t *file = lent(uniforms, sizeof uniforms);
+    for (size_t k = 0; k < sizeof may / sizeof may[0]; k++) EXPECT(lepugaso_uniform(file, sizeof uniforms, may[k]), 0, 0, 0);
+    for (size_t k = 0; k < sizeof broken / sizeof broken[0]; k++) {
+        EXPECT(lepugaso_uniform(file, sizeof uniforms, broken[k][0]), LEPUGASO_REFUSED_UNIFORM, broken[k][1], 0);
+    }
+    EXPECT(lepugaso_uniform(file, sizeof uniforms, 36), LEPUGASO_REFUSED_ENTRY, 0, 0);
+    EXPECT(lepugaso_uniform(file, sizeof uniforms, UINT32_MAX), LEPUGASO_REFUSED_ENTRY, 0, 0);
+    EXPECT(lepugaso_uniform(file, sizeof uniforms, 3), LEPUGASO_REFUSED_ABSENT, 0, 0);
+    EXPECT(lepugaso_uniform(file, sizeof uniforms, 35), LEPUGASO_REFUSED_ABSENT, 0, 0);
+    EXPECT(lepugaso_uniform(file, sizeof uniforms, 32), LEPUGASO_REFUSED_ABSENT, 0, 0); /* open */
+    EXPECT(lepugaso_uniform(file, sizeof uniforms, 0), LEPUGASO_REFUSED_NOT_STORABLE, 0, 0);
+    EXPECT(lepugaso_uniform(file, sizeof uniforms, 30), LEPUGASO_REFUSED_NOT_STORABLE, 0, 0);
+    /* Of two or more the first: open, then a bool, then a broken entry. */
+    EXPECT(lepugaso_uniform(file, sizeof uniforms, 33), LEPUGASO_REFUSED_ABSENT, 0, 0);
+    EXPECT(lepugaso_uniform(file, sizeof uniforms, 34), LEPUGASO_REFUSED_ABSENT, 0, 0);
+    EXPECT(lepugaso_uniform(file, sizeof uniforms, 31), LEPUGASO_REFUSED_NOT_STORABLE, 0, 0);
 }
 
 static lepugaso_answer common(const uint8_t *file, size_t length, size_t count, uint32_t a, uint32_t b, uint32_t c) {
@@ -558,6 +643,7 @@ int main(void) {
     questions(file, sizeof good);
     layouts(file, sizeof good);
     strides();
+    uniform_buffers();
     conversions(file, sizeof good);
     stored_values();
     write_refusals();

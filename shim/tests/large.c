@@ -90,6 +90,7 @@ static void questions(const uint8_t *file, size_t length) {
     HOLDS(out->size == SIZE && out->align == 16 && out->min_size == SIZE && out->stride == SIZE);
     EXPECT(lepugaso_rank(file, length, LAST, LAST), 0, 0, 0);
     EXPECT(lepugaso_common(file, length, (const uint32_t[]){LAST}, 1), 0, 0, LAST);
+    EXPECT(lepugaso_uniform(file, length, LAST), 0, 0, 0);
 }
 
 static void many_words(const uint8_t *file, size_t length) {
@@ -161,6 +162,7 @@ static void no_entries(const uint8_t *file, size_t length) {
             NO_ENTRY(lepugaso_set(file, length, entry, NULL, 0, 7, buf, 4));
             NO_ENTRY(lepugaso_extract_bits(file, length, entry, NULL, 0, buf, 4, 0, 12));
             NO_ENTRY(lepugaso_insert_bits(file, length, entry, NULL, 0, 7, 0, 12, buf, 4));
+            NO_ENTRY(lepugaso_uniform(file, length, entry));
 #undef NO_ENTRY
             HOLDS(part == buf && part_len == 0);
         }

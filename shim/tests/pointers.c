@@ -31,6 +31,7 @@ static void bad_file(const uint8_t *at, size_t length) {
     REFUSED(lepugaso_set(at, length, 0, NULL, 0, 1, buf, sizeof buf));
     REFUSED(lepugaso_extract_bits(at, length, 0, NULL, 0, bytes, sizeof bytes, 0, 12));
     REFUSED(lepugaso_insert_bits(at, length, 0, NULL, 0, 1, 0, 12, buf, sizeof buf));
+    REFUSED(lepugaso_uniform(at, length, 0));
     HOLDS(buf[0] == 6 && buf[1] == 7 && buf[2] == 8 && buf[3] == 9);
 }
 
@@ -60,6 +61,7 @@ static void files(void) {
     EXPECT(lepugaso_set(NULL, 0, 0, NULL, 0, 1, buf, sizeof buf), LEPUGASO_REFUSED_SHORT_FILE, 0, 0);
     EXPECT(lepugaso_extract_bits(NULL, 0, 0, NULL, 0, buf, sizeof buf, 0, 12), LEPUGASO_REFUSED_SHORT_FILE, 0, 0);
     EXPECT(lepugaso_insert_bits(NULL, 0, 0, NULL, 0, 1, 0, 12, buf, sizeof buf), LEPUGASO_REFUSED_SHORT_FILE, 0, 0);
+    EXPECT(lepugaso_uniform(NULL, 0, 0), LEPUGASO_REFUSED_SHORT_FILE, 0, 0);
     EXPECT(lepugaso_check(last, 0), LEPUGASO_REFUSED_SHORT_FILE, 0, 0);
 }
 
