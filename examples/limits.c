@@ -3,7 +3,8 @@
  *     struct Limits { board: u32, position: vec3<f32>, frost: f32, window: vec2<f32>, on: u32 }
  *
  * Where does each member lie, and where are the gaps? A view of each member tells, and the layout how far the blocks of an array lie
- * apart. Then the program fills a block and reads it back, and sets the frost limit alone, by its path.
+ * apart. The shader has the block as a uniform buffer: may it live there, and would it with another type for `window`? Then the program
+ * fills a block and reads it back, and sets the frost limit alone, by its path.
  */
 #include <inttypes.h>
 #include <stdio.h>
@@ -33,6 +34,38 @@ enum { BOARD, POSITION, FROST, WINDOW, ON, MEMBERS };
 static const uint8_t misaligned[] = {
     U32, F32, VECTOR(3, 1), STRUCT(0, 3), MEMBER(0), MEMBER(2), MEMBER_ALIGN(1, 12), TRAILER(4, 3),
 };
+
+/* The same block with another type for `window`. Of the last two it is struct Hours { from: f32, to: f32 }. */
+static const uint8_t two_f32[] = {
+    U32,       F32,       VECTOR(3, 1), ARRAY(1, 2), STRUCT(0, 5), /* Limits is entry 4 */
+    MEMBER(0), MEMBER(2), MEMBER(1),    MEMBER(3),   MEMBER(0),    TRAILER(5, 5),
+};
+static const uint8_t two_vec4[] = {
+    U32,       F32,       VECTOR(3, 1), VECTOR(4, 1), ARRAY(3, 2), STRUCT(0, 5), /* Limits is entry 5 */
+    MEMBER(0), MEMBER(2), MEMBER(1),    MEMBER(4),    MEMBER(0),   TRAILER(6, 5),
+};
+static const uint8_t hours[] = {
+    U32,       F32,       VECTOR(3, 1), STRUCT(5, 2), STRUCT(0, 5), /* Limits is entry 4 */
+    MEMBER(0), MEMBER(2), MEMBER(1),    MEMBER(3),    MEMBER(0),    MEMBER(1), MEMBER(1), TRAILER(5, 7),
+};
+static const uint8_t hours_of_16[] = {
+    U32,       F32,       VECTOR(3, 1), STRUCT(5, 2),       STRUCT(0, 5), /* Limits is entry 4 */
+    MEMBER(0), MEMBER(2), MEMBER(1),    MEMBER_SIZE(3, 16), MEMBER(0),    MEMBER(1), MEMBER(1), TRAILER(5, 7),
+};
+
+static const struct block {
+    const char *window;
+    const uint8_t *file;
+    size_t file_len;
+    uint32_t entry;
+} blocks[] = {
+    {"window: vec2<f32>", limits, sizeof limits, LIMITS},
+    {"window: array<f32, 2>", two_f32, sizeof two_f32, 4},
+    {"window: array<vec4<f32>, 2>", two_vec4, sizeof two_vec4, 5},
+    {"window: Hours", hours, sizeof hours, 4},
+    {"@size(16) window: Hours", hours_of_16, sizeof hours_of_16, 4},
+};
+enum { BLOCKS = sizeof blocks / sizeof blocks[0] };
 
 static void print_gap(size_t from, size_t to, const char *where, const char *name) {
     if (from < to) printf("%6zu  %4zu         (gap %s%s)\n", from, to - from, where, name);
@@ -87,6 +120,42 @@ static int print_strides(void) {
     if (lepugaso_layout_of(limits, sizeof limits, members[POSITION].entry, &position).refusal) return 1;
     printf("in an array: a Limits every %" PRIu64 " bytes, a %s of %" PRIu64 " bytes every %" PRIu64 "\n\n", block.stride,
            members[POSITION].type, position.size, position.stride);
+    return 0;
+}
+
+/* Where a member of such a block lies. */
+static uint64_t offset(const struct block *b, uint32_t member) {
+    uint32_t path[] = {LEPUGASO_MEMBER(member)};
+    static const uint8_t bytes[128];
+    const uint8_t *part;
+    size_t length;
+    return lepugaso_view(b->file, b->file_len, b->entry, path, 1, bytes, sizeof bytes, &part, &length).value;
+}
+
+/* Which of the blocks may live in a uniform buffer. A refusal names the entry at fault: Limits itself if a member stands wrong in it, or
+ * what a member is made of, here window's array. */
+static int print_uniform(void) {
+    printf("Limits as a uniform buffer, Hours a struct of two f32:\n");
+    for (const struct block *b = blocks; b < blocks + BLOCKS; b++) {
+        lepugaso_answer may = lepugaso_uniform(b->file, b->file_len, b->entry);
+        printf("  %-27s  ", b->window);
+        if (!may.refusal) {
+            printf("accepted, on at offset %" PRIu64 "\n", offset(b, ON));
+            continue;
+        }
+        if (may.refusal != LEPUGASO_REFUSED_UNIFORM) return 1;
+        printf("refused %" PRIu32 " at entry %" PRIu32 " (LEPUGASO_REFUSED_UNIFORM)\n%31s", may.refusal, may.place, "");
+        if (may.place == b->entry) {
+            uint64_t window = offset(b, WINDOW);
+            printf("in Limits, on at offset %" PRIu64 " follows a struct at %" PRIu64 ", and may not start before %" PRIu64 "\n",
+                   offset(b, ON), window, window + 16);
+        } else {
+            lepugaso_layout f32;
+            if (lepugaso_layout_of(b->file, b->file_len, members[FROST].entry, &f32).refusal) return 1;
+            printf("window has an f32 every %" PRIu64 " bytes, and an array here needs 16 or a multiple of it\n", f32.stride);
+        }
+    }
+    printf("\n");
     return 0;
 }
 
@@ -149,7 +218,7 @@ static void print_refusals(uint8_t *block) {
 int main(void) {
     uint8_t block[SIZE];
     memset(block, 0xFF, SIZE);
-    if (print_layout(block) || print_strides() || print_block(block) || print_set(block)) return 1;
+    if (print_layout(block) || print_strides() || print_uniform() || print_block(block) || print_set(block)) return 1;
     print_refusals(block);
     return 0;
 }
