@@ -24,6 +24,7 @@ const PLAN: Plan = Plan {
     rounds: 40,
     fields: 121,
     packed: 2000,
+    uniforms: 20_000,
 };
 
 const RECORDED: Plan = Plan {
@@ -38,6 +39,7 @@ const RECORDED: Plan = Plan {
     rounds: 1,
     fields: 1,
     packed: 1,
+    uniforms: 40,
 };
 
 fn read(path: &str) -> String {
@@ -81,6 +83,7 @@ pub fn ask(seed: u64, document: &str, folder: &str) -> bool {
     };
     generate::blocks(seed, &PLAN, &mut put);
     generate::field_blocks(seed, &PLAN, &mut put);
+    generate::uniform_blocks(seed, &PLAN, &mut put);
     flush(&mut text);
     println!("{files:9} files in all, seed {seed}");
     true
@@ -206,6 +209,7 @@ pub fn record(document: &str, folder: &str) -> bool {
     let mut blocks: Vec<Block> = examples(document).into_iter().map(|e| e.block).collect();
     generate::blocks(1, &RECORDED, |b| blocks.push(b));
     generate::field_blocks(1, &RECORDED, |b| blocks.push(b));
+    generate::uniform_blocks(1, &RECORDED, |b| blocks.push(b));
     let questions = blocks.iter().fold(format!("{HEAD}\n"), |s, b| s + &b.lines());
     let rust = answer(&questions);
     let mut rust = rust.lines();

@@ -108,6 +108,7 @@ pub fn everything(t: &Table) -> Vec<Question> {
     let mut qs = vec![Question::Check, Question::Common(vec![])];
     for a in 0..n {
         qs.extend([Question::Size(a), Question::Align(a), Question::MinSize(a), Question::Layout(a)]);
+        qs.push(Question::Uniform(a));
         qs.push(Question::Common(vec![a]));
         for b in 0..n {
             qs.extend([Question::Rank(a, b), Question::Common(vec![a, b])]);
@@ -712,6 +713,115 @@ fn packed() -> Table {
     ])
 }
 
+/// What may live in a uniform buffer and what may not, on each side of every rule.
+fn uniform_edges() -> Vec<Table> {
+    let over = |kind, columns, rows, reference, count| (entry(kind, columns, rows, reference, count), vec![]);
+    let (array, vector) = (|of| over(9, 0, 0, of, 2), |rows, of| over(7, 0, rows, of, 0));
+    let (runtime, atomic) = (|of| over(10, 0, 0, of, 0), |of| over(11, 0, 0, of, 0));
+    let of = |ms: Vec<Member>| (entry(12, 0, 0, 0, 0), ms);
+    let all = |types: &[u16]| of(types.iter().map(|ty| member(*ty, None, None)).collect());
+    let plain = |ty| member(ty, None, None);
+    let grown = |base: &[Choice], more: &[Choice]| table(&[base, more].concat());
+    // 1 is a struct of 8 bytes, aligned to 4
+    let pair = [scalar(3), all(&[0, 0])];
+    let around = |ms: Vec<Member>| grown(&pair, &[of(ms)]);
+    // 2 is a struct of 16 bytes, aligned to 4; 3 is an array of it, and 4 one of 1
+    let four = [pair[0].clone(), pair[1].clone(), all(&[0, 0, 0, 0]), array(2), array(1)];
+    let mut list = vec![
+        // elements every 4, 8, 16 and 16 bytes, and arrays of arrays
+        table(&[scalar(3), vector(2, 0), array(0), array(1), array(2)]),
+        table(&[scalar(3), vector(3, 0), vector(4, 0), array(1), array(2), array(3), array(4)]),
+        // no matrix breaks a rule, but an array of them does where they have 24 or 8 bytes
+        table(&[scalar(3), over(8, 2, 2, 0, 0), over(8, 3, 2, 0, 0), array(1), array(2), all(&[0, 1, 2])]),
+        table(&[scalar(4), over(8, 2, 2, 0, 0), over(8, 4, 2, 0, 0), array(1), array(2), all(&[0, 1, 2])]),
+        // atomics, alone and within others; the lower of two, whichever comes first; broken ones that are not reached
+        table(&[scalar(1), atomic(0), all(&[0, 1]), array(2), all(&[3])]),
+        table(&[scalar(2), array(0), atomic(0), all(&[2, 1]), all(&[1, 2])]),
+        table(&[scalar(2), atomic(0), array(0), array(1), all(&[0]), all(&[2, 4])]),
+        // 9 before 10, and 10 before 19
+        table(&[scalar(0), runtime(0), all(&[0, 1]), array(0), vector(2, 0)]),
+        table(&[scalar(0), scalar(1), atomic(1), all(&[2, 0]), runtime(2), all(&[2, 4])]),
+        table(&[scalar(5), scalar(6), array(0), vector(2, 1), vector(3, 1), array(4)]),
+        // an array at 4 and at 16; one that is broken itself
+        grown(&four, &[all(&[0, 3]), of(vec![member(0, Some(16), None), plain(3)]), all(&[3, 0])]),
+        grown(&four, &[all(&[0, 4]), all(&[4, 2]), all(&[2, 1])]),
+        // a broken struct within others that are not, and within one that is
+        grown(&pair, &[all(&[1, 0]), all(&[2]), over(9, 0, 0, 3, 4), all(&[4]), all(&[0, 5])]),
+        grown(&pair, &[all(&[0, 0, 0, 0, 1]), all(&[2, 1]), all(&[1, 3]), array(3)]),
+        around(vec![plain(1)]),
+        around(vec![plain(1), plain(1)]),
+    ];
+    // a struct at 0 and one at 16, of a size that puts what follows before, at and behind the next multiple; a struct that follows
+    for size in [8, 12, 15, 16, 17, 20, 24, 31, 32] {
+        list.push(around(vec![member(1, Some(size), None), plain(0)]));
+        list.push(around(vec![plain(0), member(1, Some(size), Some(16)), plain(0)]));
+        list.push(around(vec![member(0, Some(size), None), plain(1)]));
+    }
+    for align in [4, 8, 16, 32] {
+        list.push(around(vec![plain(0), member(1, None, Some(align))]));
+        list.push(around(vec![plain(1), member(0, None, Some(align))]));
+        list.push(around(vec![plain(1), member(1, None, Some(align)), member(0, None, Some(align))]));
+    }
+    // 256 entries within each other, of which the last is broken; the lowest that it reaches is, too
+    for low in [scalar(3), atomic(0)] {
+        let mut choices = vec![scalar(2), low, all(&[0, 0, 0, 0])];
+        choices.extend((2..254).map(|k| if k % 2 == 0 { over(9, 0, 0, k, 1) } else { all(&[k]) }));
+        choices.push(all(&[1, 254]));
+        list.push(table(&choices));
+    }
+    list
+}
+
+/// A member near a rule of the uniform profile: its size or its align given so that it, or the one after it, stands right, or just not.
+fn uniform_member(r: &mut Random, laid: &[Laid], ty: u16) -> Member {
+    let l = laid[ty as usize];
+    let size = l.size.filter(|_| r.one_in(3)).map(|s| {
+        let whole = s.next_multiple_of(16);
+        r.of(&[whole, whole, whole + 16, whole - 1, whole - 4, s, s + 4, s + 8]).max(s) as u32
+    });
+    let align = l.align.filter(|_| r.one_in(3)).map(|a| r.of(&[16, 16, 8, 32, 4]).max(a) as u32);
+    member(ty, size, align)
+}
+
+/// An accepted table of values that are mostly small, structs and arrays of each other, most of which come near the rules of the uniform
+/// profile.
+fn uniform_table(r: &mut Random, types: usize) -> Table {
+    let bottom = r.of(&[1, 2, 3, 3, 3, 4]);
+    let (mut t, mut laid) = (Table::default(), Vec::new());
+    while laid.len() < types {
+        let k = laid.len() as u64;
+        let lower = |r: &mut Random| if r.one_in(3) { r.below(k) } else { k - 1 - r.below(k.min(4)) } as u16;
+        let choice = match r.below(24) {
+            _ if k == 0 => scalar(bottom),
+            0 => scalar(r.below(7) as u8),
+            1 | 2 => (entry(7, 0, 2 + r.below(3) as u8, 0, 0), vec![]),
+            3 | 4 => (entry(8, 2 + r.below(3) as u8, 2 + r.below(3) as u8, 0, 0), vec![]),
+            5 => (entry(11, 0, 0, 0, 0), vec![]),
+            6 if r.one_in(4) => (entry(10, 0, 0, lower(r), 0), vec![]),
+            6..=10 => (entry(9, 0, 0, lower(r), 1 + r.below(3) as u32), vec![]),
+            _ => {
+                let n = 1 + r.below(4);
+                let ms = (0..n).map(|_| lower(r)).collect::<Vec<_>>();
+                structure(&t, ms.into_iter().map(|ty| uniform_member(r, &laid, ty)).collect())
+            }
+        };
+        let grown = with(&t, &choice);
+        if let Ok(l) = model::lay(&grown, &laid, laid.len()) {
+            laid.push(l);
+            t = grown;
+        }
+    }
+    t
+}
+
+/// Of every entry of a table whether it may live in a uniform buffer, or of each fifteenth where there are many; and of one that is not
+/// there.
+fn uniform_of_all(t: &Table) -> Vec<Question> {
+    let types = t.entries.len() as u32;
+    let step = if types > 60 { 15 } else { 1 };
+    (0..types).step_by(step).chain([types]).map(Question::Uniform).collect()
+}
+
 /// Values of many words.
 fn long() -> Vec<Table> {
     let over = |kind, columns, rows, reference, count| (entry(kind, columns, rows, reference, count), vec![]);
@@ -894,6 +1004,8 @@ pub struct Plan {
     pub fields: usize,
     /// tables of values with long paths, random and damaged ones, on which fields are asked about
     pub packed: usize,
+    /// tables near the rules of the uniform profile; for each eight a nested one, a random one and two damaged ones
+    pub uniforms: usize,
 }
 
 pub fn blocks(seed: u64, plan: &Plan, mut each: impl FnMut(Block)) {
@@ -919,7 +1031,7 @@ pub fn blocks(seed: u64, plan: &Plan, mut each: impl FnMut(Block)) {
         each(Block { file: t.write(&[]), questions });
     }
     for file in trailers() {
-        let mut questions = vec![Question::Check, Question::Size(0)];
+        let mut questions = vec![Question::Check, Question::Size(0), Question::Uniform(0)];
         questions.extend([Question::Write(0, vec![1], vec![2; 5]), Question::Read(0, vec![1, 2], vec![3; 5])]);
         questions.extend([Question::View(0, vec![], vec![4; 5]), Question::Set(0, 1, vec![], vec![5; 5])]);
         each(Block { file, questions });
@@ -938,7 +1050,8 @@ pub fn blocks(seed: u64, plan: &Plan, mut each: impl FnMut(Block)) {
         each(Block { file: file(&mut r, &t), questions: some(&mut r, &t, 21) });
     }
     for t in at_limits() {
-        each(Block { file: t.write(&[]), questions: some(&mut r, &t, plan.limits) });
+        let questions = [some(&mut r, &t, plan.limits), uniform_of_all(&t)].concat();
+        each(Block { file: t.write(&[]), questions });
     }
     for _ in 0..plan.large {
         let t = random(&mut r, 256, 1024);
@@ -984,5 +1097,29 @@ pub fn field_blocks(seed: u64, plan: &Plan, mut each: impl FnMut(Block)) {
         each(Block { file: file(&mut r, &d), questions: some_fields(&mut r, &d, 3) });
         let b = file(&mut r, &t);
         each(Block { file: damaged_file(&mut r, &b), questions: some_fields(&mut r, &t, 2) });
+    }
+}
+
+/// The questions about uniform buffers that those above do not ask. They have random numbers of their own too.
+pub fn uniform_blocks(seed: u64, plan: &Plan, mut each: impl FnMut(Block)) {
+    let mut r = Random(seed.rotate_left(32));
+    let mut ask = |file: Vec<u8>, t: &Table| each(Block { file, questions: uniform_of_all(t) });
+    for t in uniform_edges() {
+        ask(t.write(&[]), &t);
+    }
+    for i in 0..plan.uniforms {
+        let types = 4 + r.below(9) as usize;
+        let t = uniform_table(&mut r, types);
+        ask(file(&mut r, &t), &t);
+        if i % 8 == 0 {
+            let n = nested(&mut r);
+            ask(n.write(&[]), &n);
+            let any = random(&mut r, types, 60);
+            ask(file(&mut r, &any), &any);
+            let d = damaged_table(&mut r, &t);
+            ask(file(&mut r, &d), &d);
+            let b = file(&mut r, &t);
+            ask(damaged_file(&mut r, &b), &t);
+        }
     }
 }

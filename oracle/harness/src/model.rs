@@ -1,6 +1,8 @@
 //! Document 01's rules, written from its text: which file is refused, with what number and place, and what the calls answer; and document
-//! 02's on strides and bit fields. It decides where Lepugaso and the Rust may differ (the rows of docs/DIFFERENCES.md), and what Lepugaso has to say
-//! there.
+//! 02's on strides, bit fields and the uniform profile. It decides where Lepugaso and the Rust may differ (the rows of
+//! docs/DIFFERENCES.md), and what Lepugaso has to say there.
+use std::collections::BTreeSet;
+
 use crate::file::{Entry, Member, Table};
 use crate::question::{self, Answer, Field, Question, with_buffer, with_part, with_words};
 use crate::rows::{self, Row};
@@ -261,6 +263,9 @@ pub fn check(bytes: &[u8]) -> Result<Good, Refusal> {
     Ok(Good { table, laid })
 }
 
+/// E5's "16".
+const UNIT: u64 = 16;
+
 /// Where a word lies, and in how many bytes.
 #[derive(Clone, Copy)]
 pub struct Place {
@@ -512,6 +517,68 @@ impl Good {
         Ok(at)
     }
 
+    /// An entry and all that it reaches.
+    fn reach(&self, e: usize, reached: &mut BTreeSet<usize>) {
+        if !reached.insert(e) {
+            return;
+        }
+        let x = self.table.entries[e];
+        match x.kind {
+            0..=6 => {}
+            12 => {
+                let ms = self.table.members_of(&x).expect("members within the table");
+                ms.iter().for_each(|m| self.reach(m.ty as usize, reached));
+            }
+            _ => self.reach(x.reference as usize, reached),
+        }
+    }
+
+    /// "each member's offset is a multiple of its type's alignment, raised to a multiple of 16 for structs and arrays"; "a member after a
+    /// struct member starts at least that struct's size, rounded up to 16, after its start"
+    fn struct_is_uniform(&self, ms: &[Member]) -> bool {
+        let placed = members(&self.laid, ms);
+        let kind = |m: &Member| self.table.entries[m.ty as usize].kind;
+        let of = |m: &Member| &self.laid[m.ty as usize];
+        let at_multiples = ms.iter().zip(&placed).all(|(m, p)| {
+            let align = of(m).align.expect("a member has an alignment");
+            p.offset % if [9, 10, 12].contains(&kind(m)) { up(UNIT, align) } else { align } == 0
+        });
+        let far_apart = (1..ms.len()).all(|k| {
+            let before = &ms[k - 1];
+            kind(before) != 12
+                || placed[k].offset >= placed[k - 1].offset + up(UNIT, of(before).size.expect("only the last is open"))
+        });
+        at_multiples && far_apart
+    }
+
+    /// "an atomic, or a struct or array that breaks one of these rules"
+    fn is_broken(&self, e: usize) -> bool {
+        let x = self.table.entries[e];
+        match x.kind {
+            9 | 10 => self.laid[e].stride.is_none_or(|s| s % UNIT != 0),
+            11 => true,
+            12 => !self.struct_is_uniform(self.table.members_of(&x).expect("members within the table")),
+            _ => false,
+        }
+    }
+
+    /// Whether an entry may live in a uniform buffer: 9, for open types too, 10, 19 with "the lowest broken entry .. among the one asked
+    /// and those it reaches".
+    fn uniform(&self, e: usize) -> Answer {
+        if !self.has_layout(e) || self.laid[e].open {
+            return Err((9, 0));
+        }
+        if self.laid[e].holds_bool {
+            return Err((10, 0));
+        }
+        let mut reached = BTreeSet::new();
+        self.reach(e, &mut reached);
+        match reached.into_iter().find(|k| self.is_broken(*k)) {
+            Some(k) => Err((19, k as u64)),
+            None => Ok(0),
+        }
+    }
+
     /// Writing words: then 14, 15, 16.
     pub fn write(&self, e: usize, words: &[u32], buffer: &mut [u8]) -> Answer {
         self.stored(e, buffer.len() as u64)?;
@@ -682,6 +749,7 @@ pub fn answer(checked: &Result<Good, Refusal>, nodes: &[u64], q: &Question) -> D
         Question::Align(e) => told(of(e).align, 9),
         Question::MinSize(e) => told(least(of(e)), 9),
         Question::Layout(e) => [of(e).size, of(e).align, least(of(e)), own_stride(of(e))].map(marked).join(" "),
+        Question::Uniform(e) => question::told(good.uniform(*e as usize)),
         Question::Rank(a, b) => told(rank(&good.table, *a, *b).map(u64::from), 18),
         Question::Common(list) => told(common(&good.table, list).map(u64::from), 18),
         Question::Write(e, words, buffer) => {

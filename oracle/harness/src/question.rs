@@ -1,7 +1,7 @@
-//! Questions, their lines and those of their answers (oracle/README.md, version 5).
+//! Questions, their lines and those of their answers (oracle/README.md, version 6).
 
-pub const HEAD: &str = "questions 5";
-pub const ANSWERS_HEAD: &str = "answers 5";
+pub const HEAD: &str = "questions 6";
+pub const ANSWERS_HEAD: &str = "answers 6";
 
 #[derive(Clone)]
 pub enum Question {
@@ -10,6 +10,7 @@ pub enum Question {
     Align(u32),
     MinSize(u32),
     Layout(u32),
+    Uniform(u32),
     Rank(u32, u32),
     Common(Vec<u32>),
     /// an entry, the words, and what the buffer holds before
@@ -69,6 +70,7 @@ impl Question {
             Question::Align(e) => format!("align {e}"),
             Question::MinSize(e) => format!("min_size {e}"),
             Question::Layout(e) => format!("layout {e}"),
+            Question::Uniform(e) => format!("uniform {e}"),
             Question::Rank(a, b) => format!("rank {a} {b}"),
             Question::Common(list) => listed("common".into(), list),
             Question::Write(e, words, _) => listed(format!("write {e}"), words),
@@ -94,6 +96,7 @@ impl Question {
             ("align", [e]) => Question::Align(*e),
             ("min_size", [e]) => Question::MinSize(*e),
             ("layout", [e]) => Question::Layout(*e),
+            ("uniform", [e]) => Question::Uniform(*e),
             ("rank", [a, b]) => Question::Rank(*a, *b),
             ("common", list) => Question::Common(list.to_vec()),
             ("write", [e, words @ ..]) => Question::Write(*e, words.to_vec(), buffer.to_vec()),
@@ -114,7 +117,8 @@ impl Question {
     pub fn entries(&self) -> Vec<u32> {
         match self {
             Question::Check | Question::ExtractU32(..) | Question::InsertU32(..) => vec![],
-            Question::Size(e) | Question::Align(e) | Question::MinSize(e) | Question::Layout(e) => vec![*e],
+            Question::Size(e) | Question::Align(e) | Question::MinSize(e) => vec![*e],
+            Question::Layout(e) | Question::Uniform(e) => vec![*e],
             Question::Write(e, _, _) | Question::Read(e, _, _) => vec![*e],
             Question::View(e, _, _) | Question::Set(e, _, _, _) => vec![*e],
             Question::Extract(e, _, _, _) | Question::Insert(e, _, _, _, _) => vec![*e],

@@ -53,6 +53,7 @@ rows! {
     SetAtomic = "set-atomic",
     SetGaps = "set-gaps",
     BitFields = "bit-fields",
+    Uniform = "uniform",
 }
 
 /// The Rust writes into a vector of its own: a longer one is not asked for.
@@ -288,8 +289,8 @@ fn changed(good: &Good, e: usize, path: &[u32], word: u32, buffer: &[u8]) -> (Ro
     (row, with_buffer(Ok(held.offset(good, e, &t)), &after))
 }
 
-/// The row of a question about a buffer on a table that 01 accepts, of an entry that it has, and what the Rust says of it; none where that
-/// is what 01 says.
+/// The row of a question about a buffer, or about the uniform profile, on a table that 01 accepts, of an entry that it has, and what the
+/// Rust says of it; none where that is what 01 says.
 pub fn departure(good: &Good, q: &Question, says: &str) -> Option<(Row, String)> {
     let (row, said) = match q {
         Question::Write(e, words, buffer) => written(good, *e as usize, words, buffer),
@@ -302,6 +303,7 @@ pub fn departure(good: &Good, q: &Question, says: &str) -> Option<(Row, String)>
         Question::View(e, path, buffer) => viewed(good, *e as usize, path, buffer),
         Question::Set(e, word, path, buffer) => changed(good, *e as usize, path, *word, buffer),
         Question::Extract(..) | Question::Insert(..) => (Row::BitFields, NOTHING.into()),
+        Question::Uniform(_) => (Row::Uniform, NOTHING.into()),
         _ => return None,
     };
     (said != says).then_some((row, said))

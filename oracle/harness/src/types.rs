@@ -396,6 +396,7 @@ pub fn answer(types: &[Option<Type>], checked: &Result<Good, Refusal>, q: &Quest
             set(ty, path, *word, buffer)
         }
         // The six files have no such function.
+        Question::Uniform(_) => None,
         Question::Extract(..) | Question::Insert(..) | Question::ExtractU32(..) | Question::InsertU32(..) => None,
     };
     ASKING.set(true);
