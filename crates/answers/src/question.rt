@@ -22,6 +22,7 @@ use lepugaso::rank;
 use lepugaso::read;
 use lepugaso::set;
 use lepugaso::size;
+use lepugaso::uniform;
 use lepugaso::view;
 use lepugaso::view_at;
 use lepugaso::view_mut;
@@ -132,6 +133,9 @@ fn answer_entry(file: &[u8], word: &[u8], entry: u32) {
     }
     if same(word, b"layout") {
         return say_layout(layout(file, entry));
+    }
+    if same(word, b"uniform") {
+        return say_number(uniform(file, entry));
     }
     say(b"not a question\n");
 }
