@@ -16,13 +16,13 @@ use Rattle.walk_trees.specs.Slot.{memberValue, slotAt, SlotAsks}
 
 -- ---- one member
 
--- a struct or an array
-unfoldable pub isRaised : Value → Bool
-isRaised l = not (ltb (l .kind) arrayKind || eqb (l .kind) atomicKind)
+-- a type of this kind is a struct or an array
+unfoldable pub isRaised : ℕ → Bool
+isRaised kind = cond (ltb kind arrayKind) false (not (eqb kind atomicKind))
 
 -- a member of the value l may start there
 unfoldable pub startKeeps : Value → ℕ → ℕ → Bool
-startKeeps l earliest start = leb earliest start && (not (isRaised l) || eqb (start % uniformUnit) 0)
+startKeeps l earliest start = leb earliest start && (not (isRaised (l .kind)) || eqb (start % uniformUnit) 0)
 
 -- where those after it may start
 unfoldable pub earliestBy : Value → ℕ → ℕ → ℕ
@@ -50,7 +50,7 @@ SlotsAll ms table length (suc count) m end =
 unfoldable pub keepsBy : List ℕ → List (List ℕ) → Value → Bool
 keepsBy ms table l =
     cond (eqb (l .kind) structKind) (slotsKeep ms table (l .stride) (l .count) (l .reference * l .stride) 0 0)
-    (cond (eqb (l .kind) atomicKind) false (cond (ltb (l .kind) arrayKind) true (eqb (l .stride % uniformUnit) 0)))
+    (cond (ltb (l .kind) arrayKind) true (cond (eqb (l .kind) atomicKind) false (eqb (l .stride % uniformUnit) 0)))
 
 -- what asking it takes: the members of a struct can be placed
 pub record KeepsAsk (ms : List ℕ) (table : List (List ℕ)) (l : Value) : Type 0 where

@@ -11,10 +11,20 @@ use walk_trees::slot_after;
 ghost use mathlib.Core.Path.{_≡_};
 ghost use Prim.Native.Nat.{_*_, _≤_};
 ghost use Rattle.wgsl.specs.Round.{limit};
-ghost use Rattle.uniform_rules.specs.Keeps.{startKeeps, earliestBy, slotsKeep, SlotsAll, keepsBy, KeepsAsk};
+ghost use Rattle.uniform_rules.specs.Keeps.{isRaised, startKeeps, earliestBy, slotsKeep, SlotsAll, keepsBy, KeepsAsk};
 
 // What alignments, strides and sizes are raised to.
 const UNIT: usize = 16;
+
+// Whether a type of this kind is a struct or an array.
+fn raised(kind: u32) -> bool
+    ensures { λ r. ⌜ r ≡ isRaised kind ⌝ }
+{
+    if kind < ARRAY {
+        return false;
+    }
+    kind != ATOMIC
+}
 
 // Whether a member of the value `l` may start at `start`. The alignment of its type divides that, a power of two, so that for structs
 // and arrays the unit is left to ask.
@@ -24,13 +34,10 @@ fn start_keeps(l: Value, earliest: usize, start: usize) -> bool
     if start < earliest {
         return false;
     }
-    if l.kind < ARRAY {
-        return true;
+    if raised(l.kind) {
+        return start % UNIT == 0;
     }
-    if l.kind == ATOMIC {
-        return true;
-    }
-    start % UNIT == 0
+    true
 }
 
 // The earliest start of the members after one of the value `l`, which starts at `start`, where it may.
@@ -76,11 +83,11 @@ pub fn keeps(members: &[u8], table: &[Row], l: Value) -> bool
     if l.kind == STRUCT {
         return members_keep(members, table, l);
     }
-    if l.kind == ATOMIC {
-        return false;
-    }
     if l.kind < ARRAY {
         return true;
     }
-    wide(l.stride) % UNIT == 0
+    if l.kind != ATOMIC {
+        return wide(l.stride) % UNIT == 0;
+    }
+    false
 }

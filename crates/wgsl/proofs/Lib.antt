@@ -45,6 +45,7 @@ pub mod ScalarRank
 pub mod Rank
 pub mod Case
 pub mod StrideCase
+pub mod UniformCase
 pub mod BitFieldCase
 pub mod Bit
 pub mod FieldAt

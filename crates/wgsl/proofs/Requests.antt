@@ -1,6 +1,6 @@
 -- What is claimed of the definitions of document 02, request by request. Each proof is one citation: read the statements.
 --
--- Here: E1, strides; E2, bit fields. That the places of refusals fit and what the calls have in common with those of 01 stands in Claims.
+-- Here: E1, strides; E2, bit fields; E5, the uniform profile. That the places of refusals fit and what the calls have in common with those of 01 stands in Claims.
 -- Assumes nothing.
 use Prim.Native.Nat.{ℕ, _+_, _-_, _%_, _^_, _<_, _≤_, max}
 use mathlib.Core.Bool.{true, false, cond}
@@ -14,21 +14,26 @@ use Rattle.wgsl.specs.Number.{load}
 use Rattle.wgsl.specs.Round.{up, limit}
 use Rattle.wgsl.specs.Types.{Scalar, Ty, array, runtime, everywhere}
 use Rattle.wgsl.specs.Size.{sizeOf, alignOf, ownStrideOf}
-use Rattle.wgsl.specs.Said.{good}
+use Rattle.wgsl.specs.Said.{good, refused}
 use Rattle.wgsl.specs.Rule.{isWellFormed, typesOf}
 use Rattle.wgsl.specs.Place.{wordCount}
 use Rattle.wgsl.specs.Call.{Done, setCall}
 use Rattle.wgsl.specs.BitField.{startOf, bitsOf, bitAt, extractedU32, extractedI32, repeatedTop, inserted, signedOf, bitExtracted, bitInserted}
 use Rattle.wgsl.specs.BitFieldCase.{fieldCasesPass}
 use Rattle.wgsl.specs.BitFieldCall.{isInteger, isSigned, FoundInteger, integerAt, extractCall, insertCall}
-use Rattle.wgsl.specs.Claim.{IsStride, ByElement, GoodIf, CanField}
+use Rattle.wgsl.specs.Uniform.{reaches, uniformCall}
+use Rattle.wgsl.specs.Claim.{IsStride, ByElement, GoodIf, CanField, Reaches, CanUniform, LowestBroken, SameReached}
 use Rattle.wgsl.specs.Demand.{Given, Leading, SetThenRead}
 use Rattle.wgsl.specs.StrideCase.{strideCasesPass}
+use Rattle.wgsl.specs.UniformCase.{uniformCasesPass}
 use Rattle.wgsl.proofs.Stride as stride
 use Rattle.wgsl.proofs.StrideCase.{stride-cases-pass}
 use Rattle.wgsl.proofs.BitField as field
 use Rattle.wgsl.proofs.BitFieldCase.{field-cases-pass}
 use Rattle.wgsl.proofs.BitFieldCall as calls
+use Rattle.wgsl.proofs.Uniform as uniform
+use Rattle.wgsl.proofs.UniformPart as part
+use Rattle.wgsl.proofs.UniformCase.{uniform-cases-pass}
 
 -- ---- E1: strides
 
@@ -130,3 +135,34 @@ insertion-alone = calls.insertion-alone
 -- What is extracted after an insertion is the field that was inserted.
 pub extraction-after-insertion : (f : List ℕ) (e : ℕ) (path b : List ℕ) → ((i : ℕ) → getD b i 0 < 256) → (new offset count : ℕ) (x : FoundInteger) → integerAt f e path b ≡ good x → (d : Done) → insertCall f e path new offset count b ≡ good d → extractCall f e path (d .contents) offset count ≡ good (cond (isSigned (x .scalar)) (repeatedTop (bitsOf offset count) (new % 2 ^ bitsOf offset count)) (new % 2 ^ bitsOf offset count))
 extraction-after-insertion = calls.extraction-after-insertion
+
+-- ---- E5: the uniform profile
+
+-- "Answer whether an entry may live there": the call is good exactly if the entry's type has a fixed size, is storable, and every type
+-- within it keeps the rules.
+pub uniform-good-if : (f : List ℕ) (e : ℕ) → GoodIf (uniformCall f e) (CanUniform f e)
+uniform-good-if = uniform.uniform-good-if
+
+-- "A refusal names the lowest broken entry .. among the one asked and those it reaches": it is reached and broken, and none lower is;
+pub uniform-names : (f : List ℕ) (e k : ℕ) → uniformCall f e ≡ refused 19 k → (ts : List Ty) × (typesOf f ≡ good ts) × LowestBroken f ts e k
+uniform-names = uniform.uniform-names
+
+-- and no other entry is that.
+pub uniform-names-one : {f : List ℕ} {ts : List Ty} {e j k : ℕ} → LowestBroken f ts e j → LowestBroken f ts e k → j ≡ k
+uniform-names-one = uniform.names-one
+
+-- What the call tests step by step is what an entry reaches.
+pub reached-by-steps : (f : List ℕ) (ts : List Ty) → typesOf f ≡ good ts → {e : ℕ} {t : Ty} → getElem? ts e ≡ some t → (k : ℕ) → (Reaches f e k → reaches f e k ≡ true) × (reaches f e k ≡ true → Reaches f e k)
+reached-by-steps = uniform.reached-by-steps
+
+-- A type that is good is good wherever it is a part: no refusal of any entry names what a good entry reaches.
+pub good-never-named : (f : List ℕ) (e k p v : ℕ) → uniformCall f k ≡ good v → Reaches f k p → uniformCall f e ≡ refused 19 p → ⊥
+good-never-named = part.good-never-named
+
+-- An entry that is not reached never matters: two files that say the same of every entry that e reaches give the same answer.
+pub unreached-never-matters : (f g : List ℕ) (e : ℕ) → SameReached f g e → uniformCall f e ≡ uniformCall g e
+unreached-never-matters = part.same-reached
+
+-- The rules on each side of their edges.
+pub uniform-cases : T uniformCasesPass
+uniform-cases = uniform-cases-pass

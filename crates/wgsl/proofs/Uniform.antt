@@ -138,6 +138,12 @@ module _ {f : List ℕ} {ts : List Ty} {e : ℕ} {t : Ty} (a : Asked f ts e t) w
       everywhere-reached f ts (a .good-file) keepsUniform scalars-keep (a .there)
       (λ k u r is. not-false (keepsUniform u) (sym (broken-is ts k is) ∙ broken-none h r))
 
+-- What is found step by step is what is reached.
+pub reached-by-steps : (f : List ℕ) (ts : List Ty) → typesOf f ≡ good ts → {e : ℕ} {t : Ty} → getElem? ts e ≡ some t → (k : ℕ) → (Reaches f e k → reaches f e k ≡ true) × (reaches f e k ≡ true → Reaches f e k)
+unfolding reaches
+reached-by-steps f ts good-file {e} there k =
+    (reaches-is (record { good-file = good-file; there = there }), reach-sound f e k e)
+
 -- ---- 9 and 10
 
 module _ (t : Ty) where

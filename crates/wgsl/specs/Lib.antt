@@ -19,4 +19,5 @@ pub mod Claim
 pub mod Demand
 pub mod Case
 pub mod StrideCase
+pub mod UniformCase
 pub mod Shapes

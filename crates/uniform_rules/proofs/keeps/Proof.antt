@@ -14,18 +14,18 @@ returns c = rw (eq-eqb _ 12 (c .before .if1 .taken)) (c .members-keep .ensures)
 
 returns-2 : tie.Need-returns-2
 unfolding keepsBy
-returns-2 c = rw (ne-eqb _ 12 (c .before .before .if1 .left), eq-eqb _ 11 (c .if2 .taken))
+returns-2 c = rw (ne-eqb _ 12 (c .before .before .if1 .left), lt-ltb _ 9 (c .if2 .taken))
 
 returns-3 : tie.Need-returns-3
 unfolding keepsBy
 returns-3 c =
-    rw (ne-eqb _ 12 (c .before .before .before .before .if1 .left), ne-eqb _ 11 (c .before .before .if2 .left), lt-ltb _ 9 (c .if3 .taken))
+    let e = c .before in
+    rw (ne-eqb _ 12 (e .before .before .before .before .if1 .left), le-ltb _ 9 (e .before .before .if2 .left), ne-eqb _ 11 (e .if3 .taken), c .wide .ensures .0)
 
 returns-4 : tie.Need-returns-4
 unfolding keepsBy
 returns-4 c =
-    let e = c .before in
-    rw (ne-eqb _ 12 (e .before .before .before .before .if1 .left), ne-eqb _ 11 (e .before .before .if2 .left), le-ltb _ 9 (e .if3 .left), c .wide .ensures .0)
+    rw (ne-eqb _ 12 (c .before .before .before .before .if1 .left), le-ltb _ 9 (c .before .before .if2 .left), eq-eqb _ 11 (c .if3 .left))
 
 pub keeps-spec : {M : Type 1} → statement M
-keeps-spec = tie.close (tie.spec members-keep-requires returns returns-2 returns-3 (λ c κs. search needs) returns-4)
+keeps-spec = tie.close (tie.spec members-keep-requires returns returns-2 (λ c κs. search needs) returns-3 returns-4)

@@ -1,6 +1,8 @@
 -- By the tests.
-use borrow.Author.Tests.{lt-leb, le-leb, lt-ltb, le-ltb, eq-eqb, ne-eqb}
-use Rattle.uniform_rules.specs.Keeps.{isRaised, startKeeps}
+use mathlib.Core.Path.{sym, _∙_}
+use borrow.Author.Needs.{needs}
+use borrow.Author.Tests.{lt-leb, le-leb}
+use Rattle.uniform_rules.specs.Keeps.{startKeeps}
 use Rattle.uniform_rules.proofs.start_keeps.Statement.{statement}
 use Rattle.uniform_rules.proofs.start_keeps.Tie as tie
 
@@ -9,18 +11,16 @@ unfolding startKeeps
 returns c = rw (lt-leb _ _ (c .if1 .taken))
 
 returns-2 : tie.Need-returns-2
-unfolding startKeeps isRaised
-returns-2 c = rw (le-leb _ _ (c .before .before .if1 .left), lt-ltb _ 9 (c .if2 .taken))
+unfolding startKeeps
+returns-2 c =
+    let r = c .before in
+    rw (le-leb _ _ (r .before .if1 .left), sym (r .raised .ensures) ∙ c .if2 .taken)
 
 returns-3 : tie.Need-returns-3
-unfolding startKeeps isRaised
+unfolding startKeeps
 returns-3 c =
-    rw (le-leb _ _ (c .before .before .before .before .if1 .left), le-ltb _ 9 (c .before .before .if2 .left), eq-eqb _ 11 (c .if3 .taken))
-
-returns-4 : tie.Need-returns-4
-unfolding startKeeps isRaised
-returns-4 c =
-    rw (le-leb _ _ (c .before .before .before .before .if1 .left), le-ltb _ 9 (c .before .before .if2 .left), ne-eqb _ 11 (c .if3 .left))
+    let r = c .before in
+    rw (le-leb _ _ (r .before .if1 .left), sym (r .raised .ensures) ∙ c .if2 .left)
 
 pub start-keeps-spec : {M : Type 1} → statement M
-start-keeps-spec = tie.close (tie.spec returns returns-2 returns-3 returns-4)
+start-keeps-spec = tie.close (tie.spec returns (λ c κs. search needs) returns-2 returns-3)
