@@ -10,7 +10,6 @@ use native.Mathlib.Omega.{arith}
 use borrow.Author.Tests.{le-leb}
 use lib.ListN.{take, getElem?}
 use Rattle.wgsl.specs.Types.{Ty, scalar, vector, matrix, array, runtime, atomic, struct, Members, scalarKind, kindOf, structKind}
-use Rattle.wgsl.specs.Size.{present}
 use Rattle.wgsl.specs.File.{trailerOf, MemberEntry, memberEntryAt, typeEntryAt, memberEntryLength}
 use Rattle.wgsl.specs.Rule.{membersFrom}
 use Rattle.wgsl.specs.Uniform.{memberTypes, refersTo}
@@ -19,13 +18,13 @@ use Rattle.wgsl.proofs.AtEntry.{Refers, to-none, to-vector, to-matrix, to-array
 use Rattle.wgsl.proofs.Reach.{linksOf, links}
 use Rattle.file.specs.Members.{memberBytes}
 use Rattle.layout_values.specs.declared.value.Value.{Value}
-use Rattle.layout_values.specs.Value.{partsOf, valueOf, valueAt}
+use Rattle.layout_values.specs.Value.{valueOf, valueAt}
 use Rattle.layout_values.proofs.ScalarMade.{kind-bounded}
 use Rattle.walk_shapes.specs.Basis.{Basis}
 use Rattle.walk_shapes.proofs.Basis.{basis-layout, basis-refers}
 use Rattle.walk_shapes.proofs.MemberBytes.{memberBytes-at}
 use Rattle.walk_shapes.proofs.MemberRead.{count-from, read}
-use Rattle.walk_shapes.proofs.Says.{kind-is, reference-is}
+use Rattle.walk_shapes.proofs.Says.{kind-is, reference-is, struct-says}
 use Rattle.uniform.specs.Lowest.{typesAt, TypesInside, refersBy, RefersInside}
 
 -- ---- the types of a struct's members
@@ -52,11 +51,11 @@ module _ {f : List ℕ} {ts : List Ty} {ms : List ℕ} {table : List (List ℕ)}
 
   -- ---- every entry
 
+  -- a struct's fields, as its value has them
   struct-fields : {members : Members} → getElem? ts e ≡ some (struct e members) → membersFrom f (take e ts) (typeEntryAt f e .count) (typeEntryAt f e .reference) ≡ some members → (valueAt table e .stride ≡ 12) × (valueAt table e .count ≡ typeEntryAt f e .count) × (valueAt table e .reference ≡ typeEntryAt f e .reference)
-  unfolding valueOf partsOf present
   struct-fields {members} there are =
-      let l = basis-layout basis e (struct e members) there in
-      (ap (λ (v : Value). v .stride) l, ap (λ (v : Value). v .count) l ∙ count-from f (take e ts) _ _ members are, ap (λ (v : Value). v .reference) l)
+      let x = struct-says basis e there in
+      (x .0, x .1 ∙ count-from f (take e ts) _ _ members are, x .2)
 
   refers-linked : {t : Ty} → Refers f ts e (typeEntryAt f e) t → getElem? ts e ≡ some t → refersBy ms (valueAt table e) ≡ linksOf f (typeEntryAt f e) t
   unfolding refersBy linksOf valueOf kindOf

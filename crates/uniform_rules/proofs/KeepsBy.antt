@@ -32,7 +32,7 @@ use Rattle.layout_values.proofs.ScalarMade.{kind-bounded}
 use Rattle.walk_trees.specs.Slot.{memberValue, slotAt}
 use Rattle.walk_shapes.specs.Basis.{Basis}
 use Rattle.walk_shapes.proofs.Basis.{basis-layout, basis-well-formed, basis-refers}
-use Rattle.walk_shapes.proofs.Says.{kind-is}
+use Rattle.walk_shapes.proofs.Says.{kind-is, struct-says}
 use Rattle.walk_shapes.proofs.MemberRead.{Ruled, struct-ruled, first-ruled, rest-ruled, last-none, count-from, Read, read, first-placeable, first-start, first-end}
 use Rattle.uniform_rules.specs.Keeps.{startKeeps, earliestBy, slotsKeep, SlotsAll, keepsBy, KeepsAsk}
 use Rattle.uniform_rules.proofs.StartKeeps.{start-is, earliest-is}
@@ -107,16 +107,10 @@ module _ {f : List ℕ} {ts : List Ty} {ms : List ℕ} {table : List (List ℕ)}
 module _ {f : List ℕ} {ts : List Ty} {ms : List ℕ} {table : List (List ℕ)} (basis : Basis f ts ms table) (e : ℕ) where
   -- the members of a struct
   struct-kept : {members : Members} → getElem? ts e ≡ some (struct e members) → membersFrom f (take e ts) (typeEntryAt f e .count) (typeEntryAt f e .reference) ≡ some members → typeEntryAt f e .reference + typeEntryAt f e .count ≤ trailerOf f .members → Kept f table (valueAt table e .count) (valueAt table e .reference) 0 members
-  unfolding valueOf partsOf
   struct-kept {members} there are within =
-      let l = basis-layout basis e (struct e members) there in
-      let count = ap (λ (v : Value). v .count) l ∙ count-from f (take e ts) _ _ members are in
-      rw (count, ap (λ (v : Value). v .reference) l)
+      let x = struct-says basis e there in
+      rw (x .1 ∙ count-from f (take e ts) _ _ members are, x .2)
       (kept basis e _ _ 0 members are within (struct-ruled e members (basis-well-formed basis e (struct e members) there)))
-
-  stride-is : {members : Members} → getElem? ts e ≡ some (struct e members) → valueAt table e .stride ≡ 12
-  unfolding valueOf partsOf present
-  stride-is {members} there = ap (λ (v : Value). v .stride) (basis-layout basis e (struct e members) there)
 
   is-kept : {t : Ty} → Refers f ts e (typeEntryAt f e) t → getElem? ts e ≡ some t → keepsBy ms table (valueAt table e) ≡ keepsUniform t
   unfolding keepsBy keepsUniform valueOf kindOf partsOf isMultiple
@@ -130,7 +124,7 @@ module _ {f : List ℕ} {ts : List Ty} {ms : List ℕ} {table : List (List ℕ)}
   is-kept (to-atomic s low below) there = rw (basis-layout basis e _ there)
   is-kept (to-members members are within) there =
       let k : valueAt table e .kind ≡ 12 = ap (λ (v : Value). v .kind) (basis-layout basis e _ there) in
-      rw (k, stride-is there, basis .members-are) (struct-kept there are within .keeps-is 0)
+      rw (k, struct-says basis e there .0, basis .members-are) (struct-kept there are within .keeps-is 0)
 
   all-placed : {t : Ty} → Refers f ts e (typeEntryAt f e) t → getElem? ts e ≡ some t → valueAt table e .kind ≡ structKind → SlotsAll ms table (valueAt table e .stride) (valueAt table e .count) (valueAt table e .reference * valueAt table e .stride) 0
   unfolding valueOf kindOf
@@ -141,7 +135,7 @@ module _ {f : List ℕ} {ts : List Ty} {ms : List ℕ} {table : List (List ℕ)}
   all-placed (to-runtime u none low below) there is = absurd (omega (arith, kind-is basis e _ there))
   all-placed (to-atomic s low below) there is = absurd (omega (arith, kind-is basis e _ there))
   all-placed (to-members members are within) there is =
-      rw (stride-is there, basis .members-are) (struct-kept there are within .slots-all)
+      rw (struct-says basis e there .0, basis .members-are) (struct-kept there are within .slots-all)
 
   module _ {t : Ty} (there : getElem? ts e ≡ some t) where
     -- The rules can be asked of every entry,

@@ -26,11 +26,12 @@ use Rattle.wgsl.proofs.Members.{member-has}
 use Rattle.wgsl.proofs.AtEntry.{Refers, to-none, to-vector, to-matrix, to-array, to-runtime, to-atomic, to-members}
 use Rattle.file.specs.Members.{memberBytes}
 use Rattle.layout_values.specs.declared.value.Value.{Value}
-use Rattle.layout_values.specs.Value.{partsOf, valueOf, valueAt}
+use Rattle.layout_values.specs.Value.{valueAt}
 use Rattle.layout_values.proofs.ScalarMade.{kind-bounded}
 use Rattle.walk_trees.specs.Slot.{slotAt, SlotAsks, slotIn, SlotsAsk}
 use Rattle.walk_shapes.specs.Basis.{Basis}
 use Rattle.walk_shapes.proofs.Basis.{basis-inside, basis-layout, basis-well-formed, basis-refers}
+use Rattle.walk_shapes.proofs.Says.{struct-says}
 use Rattle.walk_shapes.proofs.MemberRead.{Ruled, struct-ruled, first-ruled, rest-ruled, last-none, count-from, Read, read, first-placeable, first-start, first-end}
 use Rattle.walk_path.specs.declared.enter.Stand.the-variants.{Entry}
 use Rattle.walk_path.specs.declared.enter.Entered.the-variants.{Into}
@@ -130,22 +131,6 @@ outside n i (struct c members) h j = absurd (h refl)
 -- ---- a member step at an entry
 
 module _ {f : List ℕ} {ts : List Ty} {ms : List ℕ} {table : List (List ℕ)} (basis : Basis f ts ms table) (n e : ℕ) where
-  module _ {members : Members} (there : getElem? ts e ≡ some (struct e members)) where
-    layout : valueAt table e ≡ valueOf (typeEntryAt f e .reference) (struct e members)
-    layout = basis-layout basis e (struct e members) there
-
-    count : valueAt table e .count ≡ countOf members
-    unfolding valueOf partsOf
-    count = ap (λ (l : Value). l .count) layout
-
-    reference : valueAt table e .reference ≡ typeEntryAt f e .reference
-    unfolding valueOf
-    reference = ap (λ (l : Value). l .reference) layout
-
-    stride : valueAt table e .stride ≡ 12
-    unfolding valueOf partsOf present
-    stride = ap (λ (l : Value). l .stride) layout
-
   -- A struct's layout names its members.
   struct-found : {t : Ty} → Refers f ts e (typeEntryAt f e) t → getElem? ts e ≡ some t → valueAt table e .kind ≡ structKind → (i : ℕ) → i < valueAt table e .count → MemberFound ts ms table n (valueAt table e .stride) (valueAt table e .reference * valueAt table e .stride) 0 i (shapeOf n t)
   unfolding kindOf shapeOf
@@ -156,8 +141,8 @@ module _ {f : List ℕ} {ts : List Ty} {ms : List ℕ} {table : List (List ℕ)}
   struct-found (to-runtime u none down below) there is i h = absurd (omega (arith, kind-there basis e (runtime u) there))
   struct-found (to-atomic s down below) there is i h = absurd (omega (arith, kind-there basis e (atomic s) there))
   struct-found (to-members members are within) there is i h =
-      let low : i < typeEntryAt f e .count = omega (arith, count there, count-from f (take e ts) (typeEntryAt f e .count) _ members are) in
-      rw (stride there, reference there, basis .members-are)
+      let low : i < typeEntryAt f e .count = omega (arith, struct-says basis e there .1, count-from f (take e ts) (typeEntryAt f e .count) _ members are) in
+      rw (struct-says basis e there .0, struct-says basis e there .2, basis .members-are)
       (found basis n e (typeEntryAt f e .count) (typeEntryAt f e .reference) 0 (extentOf n (struct e members)) i members are within
       (struct-ruled e members (basis-well-formed basis e (struct e members) there)) low)
 
@@ -169,7 +154,7 @@ module _ {f : List ℕ} {ts : List Ty} {ms : List ℕ} {table : List (List ℕ)}
   struct-past (to-array u down below) there i h j = refl
   struct-past (to-runtime u none down below) there i h j = refl
   struct-past (to-atomic s down below) there i h j = refl
-  struct-past (to-members members are within) there i h j = past n _ i (some 0) members (omega (arith, count there)) j
+  struct-past (to-members members are within) there i h j = past n _ i (some 0) members (omega (arith, struct-says basis e there .1)) j
 
 module _ {f : List ℕ} {ts : List Ty} {ms : List ℕ} {table : List (List ℕ)} (basis : Basis f ts ms table) where
   -- Outside a struct there is no member,

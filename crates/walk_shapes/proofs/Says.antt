@@ -12,9 +12,10 @@ use mathlib.Core.Path.{_≡_, refl, sym, ap, _∙_}
 use native.Mathlib.Omega.{arith}
 use borrow.Author.Tests.{lt-ltb}
 use lib.ListN.{getElem?}
-use Rattle.wgsl.specs.Types.{Ty, scalar, vector, matrix, array, runtime, atomic, struct, scalarKind, kindOf, structKind}
+use Rattle.wgsl.specs.Types.{Ty, scalar, vector, matrix, array, runtime, atomic, struct, Members, scalarKind, kindOf, structKind}
 use Rattle.wgsl.specs.Size.{present, strideOf, isStorable}
-use Rattle.wgsl.specs.File.{typeEntryAt}
+use Rattle.wgsl.specs.File.{typeEntryAt, memberEntryLength}
+use Rattle.wgsl.specs.Rule.{countOf}
 use Rattle.wgsl.specs.Place.{parts, shapeOf}
 use Rattle.file.specs.Members.{memberBytes}
 use Rattle.layout_values.specs.declared.value.Value.{Value}
@@ -85,6 +86,13 @@ module _ {f : List ℕ} {ts : List Ty} {ms : List ℕ} {table : List (List ℕ)}
   pub reference-is : (e : ℕ) (t : Ty) → getElem? ts e ≡ some t → valueAt table e .reference ≡ typeEntryAt f e .reference
   unfolding valueOf
   reference-is e t there = ap (λ (l : Value). l .reference) (basis-layout basis e t there)
+
+  -- says of a struct how long its member entries are, how many, and which is the first,
+  pub struct-says : (e : ℕ) {members : Members} → getElem? ts e ≡ some (struct e members) → (valueAt table e .stride ≡ memberEntryLength 1) × (valueAt table e .count ≡ countOf members) × (valueAt table e .reference ≡ typeEntryAt f e .reference)
+  unfolding valueOf partsOf present
+  struct-says e {members} there =
+      let l = basis-layout basis e (struct e members) there in
+      (ap (λ (v : Value). v .stride) l, ap (λ (v : Value). v .count) l, ap (λ (v : Value). v .reference) l)
 
   -- and says the parts of its type, unless that is a struct.
   pub says-at : (e : ℕ) (t : Ty) → getElem? ts e ≡ some t → (kindOf t ≡ structKind → ⊥) → Kept t → Says (valueAt table e) 0 t
