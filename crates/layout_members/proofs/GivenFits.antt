@@ -2,18 +2,20 @@
 --
 -- In order: absent numbers, for which a layout has 0; kind 10; which members are allowed; given sizes; given aligns.
 -- Assumes nothing.
-use Prim.Native.Nat.{ℕ, _%_, _<_}
+use Prim.Native.Nat.{ℕ, _<_}
 use mathlib.Core.Bool.{Bool, true, false, _&&_}
 use mathlib.Core.Option.{Option, none, some}
 use mathlib.Core.Path.{_≡_, refl, sym, ap, _∙_}
 use native.Mathlib.Omega.{arith}
 use borrow.Author.Tests.{eq-eqb, ne-eqb, le-leb}
 use lib.Dec.{eqb, leb}
-use Rattle.wgsl.specs.Round.{isPower}
+use Rattle.wgsl.specs.Round.{IsPower, isPower}
 use Rattle.wgsl.specs.Types.{bool, i32, u32, f32, f16, abstractInt, abstractFloat, Ty, scalar, vector, matrix, array, runtime, atomic, struct, isRuntime, everywhere, scalarKind, kindOf}
 use Rattle.wgsl.specs.Size.{isPresent, present, sizeOf, alignOf}
 use Rattle.wgsl.specs.File.{MemberEntry, sizeIsGiven, alignIsGiven, givenSize, givenAlign}
 use Rattle.wgsl.specs.Rule.{memberAllowed, givenSizeFits, givenAlignFits, atLeast, isMultiple, isWellFormed}
+use Rattle.wgsl.proofs.Power.{power-tested, power-multiple}
+use Rattle.wgsl.proofs.Align.{align-power}
 use Rattle.wgsl.proofs.Entry.{align-positive, size-positive}
 use Rattle.layout_values.specs.declared.value.Value.{Value}
 use Rattle.layout_values.specs.Value.{valueOf}
@@ -35,10 +37,11 @@ unfolding atLeast present
 least (some n) given = refl
 least none given = sym (le-leb 0 given (omega arith))
 
-multiple : (o : Option ℕ) (given : ℕ) → 0 < present o → isMultiple o given ≡ eqb (given % present o) 0
+-- a power of two is a multiple of another if it is not below it, and of one that is absent
+multiple : (o : Option ℕ) (given : ℕ) → ((own : ℕ) → o ≡ some own → IsPower own) → IsPower given → isMultiple o given ≡ leb (present o) given
 unfolding isMultiple present
-multiple (some n) given h = refl
-multiple none given h = absurd (omega arith)
+multiple (some own) given p q = power-multiple (p own refl) q
+multiple none given p q = sym (le-leb 0 given (omega arith))
 
 -- ---- kind 10
 
@@ -107,10 +110,10 @@ module _ (l : Value) (t : Ty) (is : l ≡ valueOf (l .reference) t) (w : everywh
 
   -- ---- given aligns
 
-  pub align-multiple : (m : MemberEntry) → 0 < l .align → alignIsGiven m ≡ true → isPower (m .align) ≡ true → givenAlignFits t (givenAlign m) ≡ eqb (m .align % l .align) 0
+  pub align-multiple : (m : MemberEntry) → alignIsGiven m ≡ true → isPower (m .align) ≡ true → givenAlignFits t (givenAlign m) ≡ leb (l .align) (m .align)
   unfolding givenAlignFits givenAlign
-  align-multiple m h g p =
-      rw (g, p, align-is, multiple (alignOf t) (m .align) (omega (arith, align-is)))
+  align-multiple m g p =
+      rw (g, p, multiple (alignOf t) (m .align) (λ own h. align-power t own w h) (power-tested (m .align) p), align-is)
 
 -- A size that is not given fits.
 pub size-not-given : (t : Ty) (m : MemberEntry) → sizeIsGiven m ≡ false → givenSizeFits t (givenSize m) ≡ true

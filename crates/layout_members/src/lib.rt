@@ -5,7 +5,6 @@ use layout_values::value::Value;
 use numbers::power::is_power;
 ghost use mathlib.Core.Path.{_≡_};
 ghost use mathlib.Core.Bool.{true};
-ghost use Prim.Native.Nat.{_<_};
 ghost use Rattle.wgsl.specs.Types.{Ty, everywhere};
 ghost use Rattle.wgsl.specs.File.{sizeIsGiven, alignIsGiven, givenSize, givenAlign, restIsZero};
 ghost use Rattle.wgsl.specs.Rule.{memberAllowed, givenSizeFits, givenAlignFits, isWellFormed};
@@ -74,9 +73,9 @@ pub fn size_fits(m: MemberEntry, l: Value) -> bool
     l.size <= m.size
 }
 
-// "A given align is a power of two and a multiple of the type's alignment."
+// "A given align is a power of two and a multiple of the type's alignment." That is one too, so a power of two is a
+// multiple of it if it is not below it.
 pub fn align_fits(m: MemberEntry, l: Value) -> bool
-    requires { ⌜ 0 < l .align ⌝ }
     ensures { λ r. ⌜ ((t : Ty) → l ≡ valueOf (l .reference) t → everywhere isWellFormed t ≡ true → r ≡ givenAlignFits t (givenAlign (memberIs m))) ⌝ }
 {
     if !align_given(m) {
@@ -85,7 +84,7 @@ pub fn align_fits(m: MemberEntry, l: Value) -> bool
     if !is_power(m.align) {
         return false;
     }
-    m.align % l.align == 0
+    l.align <= m.align
 }
 
 // The align that a member has: the one given, or else its type's own.

@@ -2,20 +2,21 @@
 --
 -- In order: 5 and 6; the words; its layout, if it is open and if not; 7; what `soFar` tells.
 -- Assumes nothing.
-use Prim.Native.Nat.{ℕ, _<_, _≤_}
+use Prim.Native.Nat.{ℕ, _≤_}
 use mathlib.Core.Bool.{Bool, true, false, cond, or-true}
 use mathlib.Core.List.{_∷_}
 use mathlib.Core.Option.{none, some}
 use mathlib.Core.Path.{_≡_, refl, sym, ap, _∙_}
 use native.Mathlib.Omega.{arith}
 use borrow.Author.Tests.{le-leb}
-use Rattle.wgsl.specs.Round.{up, limit}
+use Rattle.wgsl.specs.Round.{IsPower, up, limit}
 use Rattle.wgsl.specs.Types.{struct, Members, no-more, member, isOpen, endsInRuntime, everyMember, kindOf}
 use Rattle.wgsl.specs.Size.{both, isPresent, present, sizeOf, alignOf, membersAlign, membersEnd, offsetsOf, withinLimits, fitsLimit, hasLayout}
 use Rattle.wgsl.specs.File.{between, TypeEntry}
 use Rattle.wgsl.specs.Rule.{countOf, membersAllowed, isAllowed, membersGivenFit, givenFits, isWellFormed}
 use Rattle.wgsl.specs.Place.{wordCount}
 use Rattle.wgsl.proofs.Absent.{some-present, present-is, both-none, true-not-false}
+use Rattle.wgsl.proofs.Align.{members-power}
 use Rattle.wgsl.proofs.Members.{first-member, member-has}
 use Rattle.wgsl.proofs.Count.{membersWords, wordCount-struct}
 use Rattle.numbers.specs.Limit.{limited}
@@ -137,12 +138,10 @@ ended-past r k p ms e q h =
     (closed-limit k p ms c
     ∙ closed-past (p .align) (p .end) (offsetsOf (some 0) ms) (limited-large (up (p .align) (p .end)) (sym h)))
 
-pub ended-positive : (p : Ends) (ms : Members) → Ended p ms → 0 < p .align
-unfolding endsOf
-ended-positive p ms e =
-    let a = members-aligned ms (e .complete .well-formed) (e .complete .allowed) (e .given) in
-    let al : p .align ≡ a .align = ap (λ (x : Ends). x .align) (e .ends) ∙ ap present (a .is) ∙ present-is (a .align) in
-    omega (arith, al, aligned-positive ms (a .align) (e .complete .well-formed) (e .given) (a .is))
+-- The alignment that it rounds up to is a power of two.
+pub ended-power : (p : Ends) (ms : Members) → Ended p ms → p .opens ≡ false → IsPower (p .align)
+ended-power p ms e q =
+    members-power ms (p .align) (e .complete .well-formed) (e .given) (ended-closed p ms e q .align-is)
 
 -- ---- what `soFar` tells
 

@@ -2,12 +2,12 @@
 --
 -- In order: one member; where they end; their alignment; their words.
 -- Assumes nothing.
-use Prim.Native.Nat.{ℕ, _+_, _*_, _<_, _≤_, max}
+use Prim.Native.Nat.{ℕ, _+_, _*_, _≤_, max}
 use mathlib.Core.Bool.{Bool, true, false, cond, _&&_, _||_, or-false}
 use mathlib.Core.Option.{Option, some}
 use mathlib.Core.Path.{_≡_, refl, sym, ap, _∙_}
 use native.Mathlib.Omega.{arith}
-use Rattle.wgsl.specs.Round.{up}
+use Rattle.wgsl.specs.Round.{IsPower, up}
 use Rattle.wgsl.specs.Types.{Ty, Members, no-more, member, everywhere, everyMember}
 use Rattle.wgsl.specs.Size.{both, givenOr, isPresent, startAfter, endAfter, sizeOf, alignOf, membersAlign, membersEnd, hasLayout, memberEnd}
 use Rattle.wgsl.specs.Rule.{memberAllowed, givenSizeFits, givenAlignFits, membersGivenFit, isWellFormed}
@@ -38,10 +38,9 @@ whole-member t e =
     let z = present-some (sizeOf t) (sym (or-false (isPresent (sizeOf t))) ∙ c .1) in
     record { own = z .0; own-is = z .1; aligned = a .0; aligned-is = a .1 }
 
--- The align that a member gets is above 0.
-pub member-align : (t : Ty) (align : Option ℕ) (a : ℕ) → everywhere isWellFormed t ≡ true → givenAlignFits t align ≡ true → givenOr align (alignOf t) ≡ some a → 0 < a
-member-align t align a w f e =
-    power-positive (member-aligned t align a (λ own q. align-power t own w q) f e .is-power)
+-- The align that a member gets is a power of two.
+pub member-power : (t : Ty) (align : Option ℕ) (a : ℕ) → everywhere isWellFormed t ≡ true → givenAlignFits t align ≡ true → givenOr align (alignOf t) ≡ some a → IsPower a
+member-power t align a w f e = member-aligned t align a (λ own q. align-power t own w q) f e .is-power
 
 -- Each word takes at least 2 bytes.
 pub fixed-bounded : (t : Ty) (z : ℕ) → everywhere isWellFormed t ≡ true → Whole t → sizeOf t ≡ some z → 2 * fixedWords t ≤ z
@@ -107,6 +106,6 @@ going-words lo (member t size align ms) z e w g h =
       arith,
       s .not-below,
       fixed-bounded t (f .0 .own) (ws .0) (f .0) (f .0 .own-is),
-      up-not-below (x .aligned) lo (member-align t align (x .aligned) (ws .0) (fit .1) (x .align-is)),
+      up-not-below (x .aligned) lo (power-positive (member-power t align (x .aligned) (ws .0) (fit .1) (x .align-is))),
       going-words (up (x .aligned) lo + x .taken) ms z (f .1) (ws .1) (gs .1) (x .rest),
     )

@@ -11,7 +11,7 @@ use mathlib.Core.Path.{_≡_, refl, sym, ap, _∙_}
 use native.Mathlib.Omega.{arith}
 use borrow.Author.Tests.{leb-true}
 use Rattle.layout_members.specs.Given.{orOwn}
-use Rattle.wgsl.specs.Round.{up, withinLimit}
+use Rattle.wgsl.specs.Round.{IsPower, up, withinLimit}
 use Rattle.wgsl.specs.Types.{Ty, scalar, vector, matrix, array, runtime, atomic, struct, Members, isRuntime, endsInRuntime, isOpen}
 use Rattle.wgsl.specs.Size.{both, givenOr, isPresent, present, endAfter, sizeOf, alignOf, membersAlign, membersEnd, hasLayout, memberStart, memberEnd}
 use Rattle.wgsl.specs.File.{MemberEntry, givenSize, givenAlign}
@@ -19,6 +19,7 @@ use Rattle.wgsl.specs.Rule.{memberAllowed}
 use Rattle.wgsl.specs.Place.{wordCount}
 use Rattle.wgsl.proofs.Absent.{both-hold, either-holds, true-not-false, present-some, both-none}
 use Rattle.wgsl.proofs.Round.{up-not-below}
+use Rattle.wgsl.proofs.Power.{power-positive}
 use Rattle.wgsl.proofs.Tail.{runtime-open, runtime-unsized, sized-not-runtime, runtime-size, sized-closed}
 use Rattle.wgsl.proofs.Members.{sized}
 use Rattle.wgsl.proofs.Count.{wordCount-runtime}
@@ -31,7 +32,7 @@ use Rattle.layout_structs.specs.declared.Ends.{Ends}
 use Rattle.layout_structs.specs.declared.SoFar.the-variants.{Good, TooLarge}
 use Rattle.layout_structs.specs.SoFar.{followed, wordsOfMembers, endsOf, soFar, Joins}
 use Rattle.layout_structs.proofs.Appended.{after-end, after-align, after-runtime, after-words, after-narrow}
-use Rattle.layout_structs.proofs.Going.{Whole, member-align, fixed-bounded, next-end, going-end, going-align, going-words}
+use Rattle.layout_structs.proofs.Going.{Whole, member-power, fixed-bounded, next-end, going-end, going-align, going-words}
 use Rattle.layout_structs.proofs.SoFarOf.{limited-is, limited-large, start-large, end-large, placed-closed, placed-open}
 
 -- ---- numbers that are present
@@ -85,10 +86,10 @@ module _ (p : Ends) (l : Value) (m : MemberEntry) (ms : Members) (t : Ty) (j : J
   align-known : (al : ℕ) → al ≡ orOwn (givenAlign m) (l .align) → givenOr (givenAlign m) (alignOf t) ≡ some al
   align-known al e = chosen-is (givenAlign m) (alignOf t) (l .align) al own-align e
 
-  -- The alignment that a member gets is above 0.
-  pub align-above : (al : ℕ) → al ≡ orOwn (givenAlign m) (l .align) → 0 < al
-  align-above al e =
-      member-align t (givenAlign m) al (j .well-formed) (j .align-fits) (align-known al e)
+  -- The alignment that a member gets is a power of two.
+  pub joins-power : (al : ℕ) → al ≡ orOwn (givenAlign m) (l .align) → IsPower al
+  joins-power al e =
+      member-power t (givenAlign m) al (j .well-formed) (j .align-fits) (align-known al e)
 
   -- ---- a type with and without a size
 
@@ -211,7 +212,7 @@ module _ (p : Ends) (l : Value) (m : MemberEntry) (ms : Members) (t : Ty) (j : J
                 same,
                 s .1,
                 leb-true (start + z) 4294967295 (x .0),
-                up-not-below al (p .end) (align-above al al-is),
+                up-not-below al (p .end) (power-positive (joins-power al al-is)),
                 ap (λ (y : Ends). y .words) (j .ends),
                 own-words,
                 going-words 0 ms (p .end) (j .going .sized) (j .going .well-formed) (j .given) end-known,

@@ -1,27 +1,24 @@
 -- One more member of any kind, after members on which the verdict is known (`Meets`, specs/SoFar).
 --
--- In order: alignments; a member that breaks 5; one that breaks 6; one after members that break 6; one that joins; one after members
--- that are too large.
+-- In order: which members are allowed; a member that breaks 5; one that breaks 6; one after members that break 6; one that joins; one
+-- after members that are too large.
 -- Assumes nothing.
-use Prim.Native.Nat.{_<_}
 use mathlib.Core.Bool.{Bool, true, false, _&&_, _||_, and-false, or-true}
 use mathlib.Core.Logic.{⊎-elim}
-use mathlib.Core.Path.{_≡_, sym, ap, _∙_}
-use native.Mathlib.Omega.{arith}
-use Rattle.wgsl.specs.Types.{Ty, Members, isRuntime, everywhere}
-use Rattle.wgsl.specs.Size.{isPresent, present, sizeOf, alignOf}
+use mathlib.Core.Path.{_≡_, sym, _∙_}
+use Rattle.wgsl.specs.Types.{Ty, Members, isRuntime}
+use Rattle.wgsl.specs.Size.{isPresent, sizeOf, alignOf}
 use Rattle.wgsl.specs.File.{MemberEntry, givenSize, givenAlign, restIsZero}
-use Rattle.wgsl.specs.Rule.{memberAllowed, givenSizeFits, givenAlignFits, isWellFormed}
-use Rattle.wgsl.proofs.Absent.{both-hold, hold-both, either-holds, present-some, given-present}
-use Rattle.wgsl.proofs.Entry.{align-positive}
+use Rattle.wgsl.specs.Rule.{memberAllowed, givenSizeFits, givenAlignFits}
+use Rattle.wgsl.proofs.Absent.{both-hold, hold-both, either-holds, given-present}
+use Rattle.wgsl.proofs.Power.{power-positive}
 use Rattle.layout_values.specs.declared.value.Value.{Value}
-use Rattle.layout_values.specs.Value.{valueOf}
 use Rattle.layout_structs.specs.declared.Ends.{Ends}
 use Rattle.layout_structs.specs.declared.SoFar.{SoFar}
 use Rattle.layout_structs.specs.declared.SoFar.the-variants.{Good, Unfit, TooLarge}
 use Rattle.layout_structs.specs.declared.Stepped.the-variants.{Next, Rule}
 use Rattle.layout_structs.specs.SoFar.{followed, soFar, steppedTo, Joins, Meets}
-use Rattle.layout_structs.proofs.Going.{member-align, going-end}
+use Rattle.layout_structs.proofs.Going.{member-power, going-end}
 use Rattle.layout_structs.proofs.SoFarOf.{placed-before, unfit-size, unfit-align, unfit-before, large-before}
 
 -- What may follow may also be the last.
@@ -37,13 +34,6 @@ allowed-last last t e =
 aligned : (last : Bool) (t : Ty) → memberAllowed last t ≡ true → isPresent (alignOf t) ≡ true
 unfolding memberAllowed
 aligned last t e = both-hold (isPresent (alignOf t)) (isPresent (sizeOf t) || (last && isRuntime t)) e .0
-
--- The layout of a member's type has an alignment.
-pub layout-aligned : (l : Value) (last : Bool) (t : Ty) → l ≡ valueOf (l .reference) t → everywhere isWellFormed t ≡ true → memberAllowed last t ≡ true → 0 < l .align
-unfolding valueOf present
-layout-aligned l last t is w e =
-    let a = present-some (alignOf t) (aligned last t e) in
-    omega (arith, align-positive t (a .0) w (a .1), ap (λ (x : Value). x .align) is ∙ ap present (a .1))
 
 module _ (last : Bool) (ms : Members) (t : Ty) (m : MemberEntry) where
   -- ---- a member that breaks 5
@@ -99,7 +89,7 @@ module _ (last : Bool) (ms : Members) (t : Ty) (m : MemberEntry) where
         steps-large e =
             let z = going-end 0 ms (j .going .sized) in
             let a = given-present (givenAlign m) (alignOf t) (aligned last t allowed) in
-            let above = member-align t (givenAlign m) (a .0) (j .well-formed) align-fits (a .1) in
+            let power = member-power t (givenAlign m) (a .0) (j .well-formed) align-fits (a .1) in
             steps-next TooLarge
             (large-before ms t (givenSize m) (givenAlign m) (sym (j .verdict) ∙ e) size-fits align-fits (z .0) (a .0)
-            (z .1) (a .1) above)
+            (z .1) (a .1) (power-positive power))

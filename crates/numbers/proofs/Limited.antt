@@ -1,8 +1,8 @@
 -- Laws of `limited` (specs/Limit), and what fits twice the width.
 -- Assumes nothing.
-use Prim.Native.Nat.{ℕ, _+_, _*_, _/_, _^_, _<_, _≤_}
+use Prim.Native.Nat.{ℕ, _+_, _*_, _^_, _<_, _≤_}
 use mathlib.Core.Path.{_≡_, subst⁻¹}
-use native.Mathlib.Nat.{le-of-lt, lt-of-le-of-lt, mul-le-mul-left, mul-lt-mul-of-pos-right, div-mul-le-self}
+use native.Mathlib.Nat.{le-of-lt, lt-of-le-of-lt, mul-le-mul-left, mul-lt-mul-of-pos-right}
 use borrow.Author.Tests.{le-leb, lt-leb}
 use lib.Pow.{pow-pos, pow-add}
 use Rattle.wgsl.specs.Round.{withinLimit}
@@ -22,7 +22,3 @@ pub product-fits : (k : ℕ) {a b : ℕ} → a < 2 ^ k → b < 2 ^ k → a * b <
 product-fits k {a} {b} ha hb =
     subst⁻¹ (λ (n : ℕ). a * b < n) (pow-add 2 k k)
     (lt-of-le-of-lt (mul-le-mul-left a (le-of-lt hb)) (mul-lt-mul-of-pos-right ha (pow-pos k)))
-
--- The largest multiple of a that is at most x fits where x does.
-pub floor-fits : (x a m : ℕ) → x < m → x / a * a < m
-floor-fits x a m h = lt-of-le-of-lt (div-mul-le-self x a) h

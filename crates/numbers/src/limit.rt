@@ -1,8 +1,10 @@
 // Numbers that are at most 4,294,967,295, or too large (document 01's refusal 7).
+use crate::power::up_power;
+use crate::wide::wide;
 use crate::wide::wide32;
 ghost use mathlib.Core.Path.{_≡_};
-ghost use Prim.Native.Nat.{_+_, _*_, _<_};
-ghost use Rattle.wgsl.specs.Round.{up};
+ghost use Prim.Native.Nat.{_+_, _*_};
+ghost use Rattle.wgsl.specs.Round.{IsPower, up};
 ghost use Rattle.numbers.specs.Limit.{limited};
 
 // The most that a number may be, and so the most bytes of a buffer.
@@ -24,13 +26,12 @@ pub fn within(n: u64) -> Limited
     }
 }
 
-// The least multiple of `a` not below `n`.
+// The least multiple of `a` not below `n`, by the mask of `up_power`, in 64 bits.
 pub fn round_up(a: u32, n: u32) -> Limited
-    requires { ⌜ 0 < a ⌝ }
+    requires { ⌜ IsPower a ⌝ }
     ensures { λ r. ⌜ r ≡ limited (up a n) ⌝ }
 {
-    let w = wide32(a);
-    within((wide32(n) + (w - 1)) / w * w)
+    within(up_power(wide(a), wide(n)) as u64)
 }
 
 // The product of two numbers.

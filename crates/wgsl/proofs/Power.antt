@@ -1,17 +1,17 @@
 -- Laws of powers of two (specs/Round).
 --
 -- In order: what the test finds is a power; a power below 2 ^ 32 is found, and is at most 2 ^ 31; a power is above 0; powers made from
--- powers; powers that divide each other.
+-- powers; powers that divide each other, and when.
 -- Assumes nothing.
 use Prim.Native.Nat.{ℕ, zero, suc, _+_, _-_, _*_, _^_, _%_, _<_, _≤_, max}
 use mathlib.Core.Bool.{true, or-true}
-use mathlib.Core.Path.{_≡_, refl}
+use mathlib.Core.Path.{_≡_, refl, sym, _∙_}
 use mathlib.Core.Logic.{_⊎_, inl, inr, ⊎-elim}
 use native.Mathlib.Omega.{arith}
-use native.Mathlib.Nat.{pow-suc, mul-mod-left, lt-of-not-le, lt-irrefl, lt-of-lt-of-le, eq-or-lt-of-le}
+use native.Mathlib.Nat.{pow-suc, mul-mod-left, lt-of-not-le, lt-irrefl, lt-of-lt-of-le, eq-or-lt-of-le, mod-eq-of-lt}
 use native.Mathlib.Decide.{decLe}
-use borrow.Author.Tests.{eqb-true, eq-eqb}
-use lib.Dec.{eqb}
+use borrow.Author.Tests.{eqb-true, eq-eqb, ne-eqb, le-leb, lt-leb}
+use lib.Dec.{eqb, leb}
 use lib.Pow.{pow-pos, pow-mono, pow-add, pow-lt}
 use Rattle.wgsl.specs.Round.{IsPower, powerBelow, isPower}
 use Rattle.wgsl.proofs.Absent.{either-holds, true-not-false}
@@ -88,3 +88,13 @@ power-divides {a} {b} p q h =
     elim (decLe (p .exponent) (q .exponent))
     [ yes m ↦ m | no m ↦ absurd (omega (arith, pow-lt (lt-of-not-le m), p .is, q .is)) ] in
     rw (p .is, q .is) (pow-divides (p .exponent) (q .exponent) l)
+
+-- So of two powers of two the one is a multiple of the other exactly if it is not below it.
+pub power-multiple : {a b : ℕ} → IsPower a → IsPower b → eqb (b % a) 0 ≡ leb a b
+power-multiple {a} {b} p q =
+    elim (decLe a b) [
+      | yes h ↦ eq-eqb (b % a) 0 (power-divides p q h) ∙ sym (le-leb a b h)
+      | no h ↦
+          let below = lt-of-not-le h in
+          ne-eqb (b % a) 0 (λ e. lt-irrefl 0 (rw (sym (mod-eq-of-lt below) ∙ e) at (power-positive q))) ∙ sym (lt-leb a b below)
+    ]

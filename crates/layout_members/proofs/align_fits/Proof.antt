@@ -19,11 +19,11 @@ returns-3 : tie.Need-returns-3
 returns-3 c t is w =
     let p = c .before .before in
     let b = p .before .before in
-    sym (align-multiple _ t is w _ (b .before .before .pre)
+    sym (align-multiple _ t is w _
     (sym (b .before .align-given .ensures) ∙ not-false _ (b .if1 .left))
     (sym (p .before .is-power .ensures) ∙ not-false _ (p .if2 .left)))
 
 pub align-fits-spec : {M : Type 1} → statement M
 align-fits-spec =
     tie.close (tie.spec
-    (λ c κs. search needs) returns (λ c κs. search needs) returns-2 (λ c. search needs) returns-3)
+    (λ c κs. search needs) returns (λ c κs. search needs) returns-2 returns-3)

@@ -6,7 +6,7 @@ use Rattle.wgsl.specs.File.{givenSize, givenAlign}
 use Rattle.file.specs.Fields.{memberIs}
 use Rattle.layout_values.specs.Value.{wordsIn}
 use Rattle.layout_members.specs.Given.{orOwn}
-use Rattle.layout_structs.proofs.Joins.{align-above, joins-past, joins-open, joins-end-past, joins-closed, joins-words}
+use Rattle.layout_structs.proofs.Joins.{joins-power, joins-past, joins-open, joins-end-past, joins-closed, joins-words}
 use borrow.Author.Needs.{needs}
 use Rattle.layout_structs.proofs.join.Statement.{statement}
 use Rattle.layout_structs.proofs.join.Tie as tie
@@ -24,7 +24,7 @@ size-is c = c .given-size .ensures
 round-up-requires : tie.Need-round-up-requires
 round-up-requires c κs =
     let j = c .before .before .pre in
-    align-above _ _ _ (j .0) (j .1) (j .2) _ (align-is c)
+    joins-power _ _ _ (j .0) (j .1) (j .2) _ (align-is c)
 
 returns : tie.Need-returns
 returns c ms t j =

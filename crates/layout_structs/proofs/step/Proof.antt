@@ -7,7 +7,7 @@ use Rattle.wgsl.specs.File.{givenSize, givenAlign, restIsZero}
 use Rattle.wgsl.specs.Rule.{memberAllowed, givenSizeFits, givenAlignFits, isWellFormed}
 use Rattle.file.specs.Fields.{memberIs}
 use Rattle.layout_values.specs.Value.{valueOf}
-use Rattle.layout_structs.proofs.Meets.{layout-aligned, steps-rest, steps-not-allowed, steps-next, steps-size, steps-align, steps-unfit, steps-joins, steps-large}
+use Rattle.layout_structs.proofs.Meets.{steps-rest, steps-not-allowed, steps-next, steps-size, steps-align, steps-unfit, steps-joins, steps-large}
 use borrow.Author.Needs.{needs}
 use Rattle.layout_structs.proofs.step.Statement.{statement}
 use Rattle.layout_structs.proofs.step.Tie as tie
@@ -43,12 +43,6 @@ returns-3 c ms t j =
     let e = c .before .before in
     sym (steps-size _ ms t _ (rest (e .before .before)) (allowed e t (j .layout) (j .well-formed))
     (sym (c .before .size-fits .ensures t (j .layout) (j .well-formed)) ∙ not-true _ (c .if3 .taken)))
-
-align-fits-requires : tie.Need-align-fits-requires
-align-fits-requires c κs =
-    let e = c .before .before in
-    let j = e .before .before .before .before .pre in
-    layout-aligned _ _ (j .1) (j .2 .layout) (j .2 .well-formed) (allowed e (j .1) (j .2 .layout) (j .2 .well-formed))
 
 returns-4 : tie.Need-returns-4
 returns-4 c ms t j =
@@ -102,5 +96,6 @@ returns-7 c ms t j =
 pub step-spec : {M : Type 1} → statement M
 step-spec =
     tie.close (tie.spec
-    (λ c κs. search needs) returns (λ c κs. search needs) returns-2 (λ c κs. search needs) returns-3 align-fits-requires
-    returns-4 (λ c. search needs) join-requires (λ c. search needs) (λ c. search needs) returns-5 returns-6 returns-7)
+    (λ c κs. search needs) returns (λ c κs. search needs) returns-2 (λ c κs. search needs) returns-3
+    (λ c κs. search needs) returns-4 (λ c. search needs) join-requires (λ c. search needs) (λ c. search needs) returns-5
+    returns-6 returns-7)

@@ -1,7 +1,7 @@
--- Each way out is one law of `Ended`; the alignment of complete members is above 0.
+-- Each way out is one law of `Ended`; the alignment of complete members is a power of two.
 use mathlib.Core.Path.{sym, _∙_}
 use borrow.Author.Needs.{needs}
-use Rattle.layout_structs.proofs.Ended.{ended-positive, ended-opens, ended-closes, ended-past}
+use Rattle.layout_structs.proofs.Ended.{ended-power, ended-opens, ended-closes, ended-past}
 use Rattle.layout_structs.proofs.whole.Statement.{statement}
 use Rattle.layout_structs.proofs.whole.Tie as tie
 
@@ -10,7 +10,7 @@ returns c k ms e n =
     rw (c .struct-of .ensures) (sym (ended-opens k _ _ ms e n (c .before .if1 .taken)))
 
 round-up-requires : tie.Need-round-up-requires
-round-up-requires c κs = ended-positive _ (c .before .pre .0) (c .before .pre .1)
+round-up-requires c κs = ended-power _ (c .before .pre .0) (c .before .pre .1) (c .if1 .left)
 
 returns-2 : tie.Need-returns-2
 returns-2 c k ms e n =
