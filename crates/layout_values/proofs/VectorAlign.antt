@@ -45,33 +45,19 @@ align-three : (n : ℕ) (s : Scalar) → n ≡ 3 → vectorAlign n s ≡ vec3Ali
 unfolding vectorAlign
 align-three n s h = rw (eq-eqb n 3 h)
 
--- "none over bool"
-pub align-bool : (n : ℕ) (s : Scalar) → n ≡ 3 → scalarKind s ≡ 0 → present (vectorAlign n s) ≡ 0
-unfolding scalarKind vec3Align present
-align-bool n s h k = rw (align-three n s h) (go s k)
+-- "For n = 3: 16 over i32, u32, f32; 8 over f16", and over bool as over i32
+pub align-four : (n w : ℕ) (s : Scalar) → w ≡ present (widthOf s) → n ≡ 3 → present (vectorAlign n s) ≡ 4 * w
+unfolding vec3Align widthOf present
+align-four n w s e h = rw (align-three n s h, e) (go s)
   where
-    go : (s : Scalar) → scalarKind s ≡ 0 → present (vec3Align s) ≡ 0
-    go bool k = refl
-    go i32 k = omega arith
-    go u32 k = omega arith
-    go f32 k = omega arith
-    go f16 k = omega arith
-    go abstractInt k = refl
-    go abstractFloat k = refl
-
--- "For n = 3: 16 over i32, u32, f32; 8 over f16"
-pub align-number : (n w : ℕ) (s : Scalar) → w ≡ present (widthOf s) → n ≡ 3 → (scalarKind s ≡ 0 → ⊥) → present (vectorAlign n s) ≡ 4 * w
-unfolding scalarKind vec3Align widthOf present
-align-number n w s e h k = rw (align-three n s h, e) (go s k)
-  where
-    go : (s : Scalar) → (scalarKind s ≡ 0 → ⊥) → present (vec3Align s) ≡ 4 * present (widthOf s)
-    go bool k = absurd (k refl)
-    go i32 k = refl
-    go u32 k = refl
-    go f32 k = refl
-    go f16 k = refl
-    go abstractInt k = refl
-    go abstractFloat k = refl
+    go : (s : Scalar) → present (vec3Align s) ≡ 4 * present (widthOf s)
+    go bool = refl
+    go i32 = refl
+    go u32 = refl
+    go f32 = refl
+    go f16 = refl
+    go abstractInt = refl
+    go abstractFloat = refl
 
 -- ---- which are absent
 
@@ -97,7 +83,7 @@ unfolding vectorAlign vectorSize vec3Align widthOf both present isPresent
 align-absent n s l h = go s (eqb n 3) h
   where
     go : (s : Scalar) (b : Bool) → present (cond b (vec3Align s) (both _*_ (some n) (widthOf s))) ≡ 0 → isPresent (cond b (vec3Align s) (both _*_ (some n) (widthOf s))) ≡ false
-    go bool true h = refl
+    go bool true h = absurd (omega arith)
     go bool false h = absurd (omega arith)
     go i32 true h = absurd (omega arith)
     go i32 false h = absurd (omega arith)

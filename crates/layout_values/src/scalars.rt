@@ -2,7 +2,6 @@
 use crate::value::Made;
 use crate::value::Value;
 use file::fields::TypeEntry;
-use file::kinds::BOOL;
 use file::kinds::F16;
 use file::kinds::F32;
 use file::kinds::I32;
@@ -66,9 +65,6 @@ pub fn vector_align(rows: u32, kind: u32) -> u32
     let w = scalar_size(kind);
     if rows != 3 {
         return rows * w;
-    }
-    if kind == BOOL {
-        return 0;
     }
     4 * w
 }

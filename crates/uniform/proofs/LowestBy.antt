@@ -19,11 +19,11 @@ use Rattle.wgsl.specs.Types.{bool, Ty, scalar}
 use Rattle.wgsl.specs.Said.{good, refused, _>>_}
 use Rattle.wgsl.specs.Uniform.{refersTo, keepsUniform, isBroken, lowestBroken, refuseBroken}
 use Rattle.wgsl.specs.Claim.{Reaches, itself, onward}
-use Rattle.wgsl.proofs.Absent.{true-not-false}
+use Rattle.wgsl.proofs.Absent.{true-not-false, yes-or-no}
 use Rattle.wgsl.proofs.Accepted.{accepted}
 use Rattle.wgsl.proofs.AtEntry.{getElem-getD}
 use Rattle.wgsl.proofs.Reach.{refers-lower, reached-there, reach-cases}
-use Rattle.wgsl.proofs.Uniform.{yes-or-no, broken-is, Asked, broken-some, broken-none}
+use Rattle.wgsl.proofs.Uniform.{broken-is, Asked, broken-some, broken-none}
 use Rattle.layout_values.specs.Value.{valueAt}
 use Rattle.walk_shapes.specs.Basis.{Basis}
 use Rattle.walk_shapes.proofs.Basis.{basis-inside}

@@ -1,6 +1,6 @@
 -- Tests that hold; numbers that may be absent (specs/Size).
 --
--- In order: tests joined by `&&` and `||`; the test for a range; no test holds and fails; a number that is present; a number made from
+-- In order: tests joined by `&&` and `||`; a test holds or fails; the test for a range; no test holds and fails; a number that is present; a number made from
 -- two; one given or the type's own.
 -- Assumes nothing.
 use Prim.Native.Nat.{ℕ, _≤_}
@@ -26,6 +26,11 @@ hold-both a b p q = and-eq-true-iff a b .1 (p, q)
 pub either-holds : (a b : Bool) → (a || b) ≡ true → (a ≡ true) ⊎ (b ≡ true)
 either-holds true b e = inl refl
 either-holds false b e = inr e
+
+-- A test holds or fails.
+pub yes-or-no : {A : Type 0} (test : Bool) → (test ≡ true → A) → (test ≡ false → A) → A
+yes-or-no true holds fails = holds refl
+yes-or-no false holds fails = fails refl
 
 -- A number that is tested to be in a range is in it.
 pub between-true : (low high n : ℕ) → between low high n ≡ true → (low ≤ n) × (n ≤ high)

@@ -66,7 +66,7 @@ pub record VectorAligned (k : ℕ) (s : Scalar) (a : ℕ) : Type 0 where
 
 vec3-align : (s : Scalar) (a : ℕ) → vec3Align s ≡ some a → (w : ℕ) × (widthOf s ≡ some w) × (a ≡ 4 * w)
 unfolding vec3Align widthOf
-vec3-align bool a e = some-not-none {A = ℕ} {a = a} e refl
+vec3-align bool a e = (4, refl, cc)
 vec3-align i32 a e = (4, refl, cc)
 vec3-align u32 a e = (4, refl, cc)
 vec3-align f32 a e = (4, refl, cc)

@@ -16,6 +16,7 @@ pub mod Reach
 pub mod ReachedTypes
 pub mod Uniform
 pub mod UniformPart
+pub mod HoldsBool
 pub mod Shape
 pub mod Path
 pub mod PathPlace
@@ -45,6 +46,7 @@ pub mod ScalarRank
 pub mod Rank
 pub mod Case
 pub mod StrideCase
+pub mod BoolCase
 pub mod UniformCase
 pub mod BitFieldCase
 pub mod Bit

@@ -1,6 +1,6 @@
 -- What is claimed of the definitions of document 02, request by request. Each proof is one citation: read the statements.
 --
--- Here: E1, strides; E2, bit fields; E5, the uniform profile. That the places of refusals fit and what the calls have in common with those of 01 stands in Claims.
+-- Here: E1, strides; E2, bit fields; E4, vectors of three bools; E5, the uniform profile. That the places of refusals fit and what the calls have in common with those of 01 stands in Claims.
 -- Assumes nothing.
 use Prim.Native.Nat.{ℕ, _+_, _-_, _%_, _^_, _<_, _≤_, max}
 use mathlib.Core.Bool.{true, false, cond}
@@ -13,24 +13,27 @@ use lib.ListN.{length, getD, getElem?}
 use Rattle.wgsl.specs.Number.{load}
 use Rattle.wgsl.specs.Round.{up, limit}
 use Rattle.wgsl.specs.Types.{Scalar, Ty, array, runtime, everywhere}
-use Rattle.wgsl.specs.Size.{sizeOf, alignOf, ownStrideOf}
+use Rattle.wgsl.specs.Size.{sizeOf, alignOf, ownStrideOf, isStorable}
 use Rattle.wgsl.specs.Said.{good, refused}
 use Rattle.wgsl.specs.Rule.{isWellFormed, typesOf}
 use Rattle.wgsl.specs.Place.{wordCount}
-use Rattle.wgsl.specs.Call.{Done, setCall}
+use Rattle.wgsl.specs.Call.{Done, entryFor, setCall}
 use Rattle.wgsl.specs.BitField.{startOf, bitsOf, bitAt, extractedU32, extractedI32, repeatedTop, inserted, signedOf, bitExtracted, bitInserted}
 use Rattle.wgsl.specs.BitFieldCase.{fieldCasesPass}
 use Rattle.wgsl.specs.BitFieldCall.{isInteger, isSigned, FoundInteger, integerAt, extractCall, insertCall}
 use Rattle.wgsl.specs.Uniform.{reaches, uniformCall}
-use Rattle.wgsl.specs.Claim.{IsStride, ByElement, GoodIf, CanField, Reaches, CanUniform, LowestBroken, SameReached}
+use Rattle.wgsl.specs.Claim.{IsStride, ByElement, HoldsBool, LaidOut, GoodIf, CanField, Reaches, CanUniform, LowestBroken, SameReached}
 use Rattle.wgsl.specs.Demand.{Given, Leading, SetThenRead}
 use Rattle.wgsl.specs.StrideCase.{strideCasesPass}
+use Rattle.wgsl.specs.BoolCase.{boolCasesPass}
 use Rattle.wgsl.specs.UniformCase.{uniformCasesPass}
 use Rattle.wgsl.proofs.Stride as stride
 use Rattle.wgsl.proofs.StrideCase.{stride-cases-pass}
 use Rattle.wgsl.proofs.BitField as field
 use Rattle.wgsl.proofs.BitFieldCase.{field-cases-pass}
 use Rattle.wgsl.proofs.BitFieldCall as calls
+use Rattle.wgsl.proofs.HoldsBool as bools
+use Rattle.wgsl.proofs.BoolCase.{bool-cases-pass}
 use Rattle.wgsl.proofs.Uniform as uniform
 use Rattle.wgsl.proofs.UniformPart as part
 use Rattle.wgsl.proofs.UniformCase.{uniform-cases-pass}
@@ -135,6 +138,20 @@ insertion-alone = calls.insertion-alone
 -- What is extracted after an insertion is the field that was inserted.
 pub extraction-after-insertion : (f : List ℕ) (e : ℕ) (path b : List ℕ) → ((i : ℕ) → getD b i 0 < 256) → (new offset count : ℕ) (x : FoundInteger) → integerAt f e path b ≡ good x → (d : Done) → insertCall f e path new offset count b ≡ good d → extractCall f e path (d .contents) offset count ≡ good (cond (isSigned (x .scalar)) (repeatedTop (bitsOf offset count) (new % 2 ^ bitsOf offset count)) (new % 2 ^ bitsOf offset count))
 extraction-after-insertion = calls.extraction-after-insertion
+
+-- ---- E4: vectors of three bools
+
+-- "Bool stays not storable": a type that holds a bool anywhere is not,
+pub bool-not-storable : (t : Ty) → HoldsBool t → isStorable t ≡ false
+bool-not-storable = bools.bool-not-storable
+
+-- so write, read and set refuse its entry with 10 as soon as it has a layout. Demands 2 and 3 speak of storable entries alone.
+pub bool-refused : {f : List ℕ} {e : ℕ} {b : List ℕ} {t : Ty} → LaidOut f e b t → HoldsBool t → entryFor true f e b ≡ refused 10 0
+bool-refused = bools.bool-refused
+
+-- The request's own numbers, what takes such vectors, and what refuses them.
+pub bool-cases : T boolCasesPass
+bool-cases = bool-cases-pass
 
 -- ---- E5: the uniform profile
 

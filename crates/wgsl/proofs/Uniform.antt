@@ -22,7 +22,7 @@ use Rattle.wgsl.specs.Call.{entryOf}
 use Rattle.wgsl.specs.Uniform.{keepsUniform, isUniform, reachesBy, reaches, isBrokenType, isBroken, lowestFrom, lowestBroken, refuseBroken, mayLive, uniformCall}
 use Rattle.wgsl.specs.File.{checkTrailer}
 use Rattle.wgsl.specs.Claim.{Broken, no-type, not-allowed, not-given, too-large, GoodIf, Reaches, CanUniform, LowestBroken}
-use Rattle.wgsl.proofs.Absent.{both-hold, hold-both, either-holds, true-not-false, some-not-none, present-some}
+use Rattle.wgsl.proofs.Absent.{both-hold, hold-both, either-holds, true-not-false, yes-or-no, some-not-none, present-some}
 use Rattle.wgsl.proofs.Said.{good-not-refused, then-good, then-is, then-refused, next-good, then-cases, refuse-good, refuse-not, refuse-cases, orRefuse-good, orRefuse-refused}
 use Rattle.wgsl.proofs.Passed.{everywhere-here}
 use Rattle.wgsl.proofs.Accepted.{below-lowest, accepted, accepted-well-formed}
@@ -32,10 +32,6 @@ use Rattle.wgsl.proofs.Reach.{reach-sound, reach-complete, reached-ther
 use Rattle.wgsl.proofs.ReachedTypes.{reached-everywhere, everywhere-reached}
 
 -- ---- the lowest number that passes a test
-
-pub yes-or-no : {A : Type 0} (test : Bool) → (test ≡ true → A) → (test ≡ false → A) → A
-yes-or-no true holds fails = holds refl
-yes-or-no false holds fails = fails refl
 
 -- j is the first of the numbers from k on that passes
 record First (p : ℕ → Bool) (k j : ℕ) : Type 0 where

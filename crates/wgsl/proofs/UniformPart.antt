@@ -12,9 +12,9 @@ use Rattle.wgsl.specs.Said.{Said, good, refused, _>>=_}
 use Rattle.wgsl.specs.Rule.{typesOf}
 use Rattle.wgsl.specs.Uniform.{refersTo, anyOf, reachesBy, reaches, isBroken, lowestFrom, lowestBroken, uniformCall}
 use Rattle.wgsl.specs.Claim.{Reaches, itself, onward, LowestBroken, SameReached}
-use Rattle.wgsl.proofs.Absent.{true-not-false}
+use Rattle.wgsl.proofs.Absent.{true-not-false, yes-or-no}
 use Rattle.wgsl.proofs.Reach.{reach-sound}
-use Rattle.wgsl.proofs.Uniform.{yes-or-no, broken-none, call-good, uniform-names}
+use Rattle.wgsl.proofs.Uniform.{broken-none, call-good, uniform-names}
 
 -- ---- a good entry as a part
 

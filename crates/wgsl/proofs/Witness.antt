@@ -2,10 +2,10 @@
 -- would have no line here.
 --
 -- The files are those of specs/Case: a matrix (P11), a struct with a given size (P7), an open struct (P10), an array too large (P9); those
--- of specs/UniformCase; and two entries that break 5 and 6, and 6 and 7.
+-- of specs/BoolCase and UniformCase; and two entries that break 5 and 6, and 6 and 7.
 -- Assumes nothing.
 use Prim.Native.Nat.{ℕ, zero, suc, _^_, _<_, _≤_}
-use mathlib.Core.Bool.{true}
+use mathlib.Core.Bool.{true, false}
 use mathlib.Core.List.{List, [], _∷_, _++_, List·Memᴰ·head, List·Memᴰ·not-nil}
 use mathlib.Core.Logic.{inr}
 use mathlib.Core.Option.{none, some}
@@ -14,7 +14,7 @@ use native.Mathlib.Omega.{arith}
 use lib.ListN.{getD, take, drop, getElem?, replicate}
 use Rattle.wgsl.specs.Number.{load, bytesOf, store}
 use Rattle.wgsl.specs.Round.{IsUp, up, IsPower, powerBelow, isPower, limit, withinLimit}
-use Rattle.wgsl.specs.Types.{u32, f32, f16, Ty, scalar, vector, matrix, array, runtime, struct, no-more, member, isRuntime, endsInRuntime, isOpen, everywhere, everyMember}
+use Rattle.wgsl.specs.Types.{bool, u32, f32, f16, Ty, scalar, vector, matrix, array, runtime, struct, no-more, member, isRuntime, endsInRuntime, isOpen, everywhere, everyMember}
 use Rattle.wgsl.specs.Size.{both, givenOr, isPresent, present, widthOf, vec3Align, vectorSize, vectorAlign, startAfter, endAfter, memberStart, memberEnd, sizeOf, alignOf, membersAlign, membersEnd, strideOf, ownStrideOf, minSizeOf, offsetsOf, innerNumbersOf, numbersOf, withinLimits, fitsLimit, hasLayout, isStored, isPlain, isStorable}
 use Rattle.wgsl.specs.Said.{good, refused, _>>=_, _>>_, refuse, orRefuse}
 use Rattle.wgsl.specs.File.{trailerOf, lengthBy, typeEntryFrom, typeEntryAt, memberEntryFrom, memberEntryAt, sizeIsGiven, alignIsGiven, givenSize, givenAlign, restIsZero, between, checkTrailer}
@@ -22,7 +22,8 @@ use Rattle.wgsl.specs.Rule.{when, andThen, unused, scalarOfKind, scalarI
 use Rattle.wgsl.specs.Place.{tailAt, membersTail, tailOf, extentBy, extentOf, elementsBy, elementsIn, one, column, shapeOf, fieldsOf, spanOf, wordPlaces, repeated, placesOf, places, wordCount, storeWords, written, wordsRead, canHold, checkWords}
 use Rattle.wgsl.specs.Path.{stepOf, enter, walk}
 use Rattle.wgsl.specs.Call.{Done, checkOf, entryOf, allowed, entryFor, isShort, readElements, readType, readCall, elementsFor, isWrongCount, writeWords, writeElements, writeType, writeCall, targetIn, targetCall, viewCall, scalarAt, setScalar, setTarget, setCall}
-use Rattle.wgsl.specs.Claim.{Lowest, ByElement, Ordered, typesIn, memberStep, CanRead, CanWrite, CanView, CanSet, CanField, Wrote, Read, Reaches, CanUniform, LowestBroken}
+use Rattle.wgsl.specs.BoolCase.{boolFile}
+use Rattle.wgsl.specs.Claim.{isBool, isNoBool, Lowest, ByElement, Ordered, typesIn, memberStep, CanRead, CanWrite, CanView, CanSet, CanField, Wrote, Read, Reaches, CanUniform, LowestBroken}
 use Rattle.wgsl.specs.BitField.{startOf, bitsOf, bitAt, fieldAt, repeatedTop, extractedU32, extractedI32, putAt, inserted, isInside, bitExtracted, bitInserted}
 use Rattle.wgsl.specs.BitFieldCall.{isInteger, isSigned, integerOf, integerAt, wordOf, extractedAs, extractCall, insertCall}
 use Rattle.wgsl.specs.Uniform.{uniformAlign, earliestAfter, membersKeep, keepsUniform, isUniform, memberTypes, refersTo, anyOf, reachesBy, reaches, isBrokenType, isBroken, lowestFrom, lowestBroken, refuseBroken, mayLive, uniformCall}
@@ -130,6 +131,9 @@ pub record Witnesses : Type 0 where
   pub insertion : Done
   pub insert-good : insertCall structWithSize 1 inStruct 255 4 8 rubbish ≡ good insertion
   pub extraction-after-insertion : extractCall structWithSize 1 inStruct (insertion .contents) 4 8 ≡ good 255
+  -- E4
+  pub bool-not-storable : isStorable (vector 3 bool) ≡ false
+  pub bool-refused : entryFor true boolFile 1 rubbish ≡ refused 10 0
   -- E5
   pub can-uniform : CanUniform nestedFile 3
   pub uniform-names : (ts : List Ty) × (typesOf brokenFile ≡ good ts) × LowestBroken brokenFile ts 4 1
@@ -139,7 +143,7 @@ pub record Witnesses : Type 0 where
   pub unreached-never-matters : uniformCall (arrayOfU32 5) 0 ≡ uniformCall (arrayOfU32 7) 0
 
 pub witnesses : Witnesses
-unfolding load bytesOf up powerBelow isPower withinLimit isRuntime endsInRuntime isOpen everywhere everyMember both givenOr isPresent present widthOf vec3Align vectorSize vectorAlign startAfter endAfter sizeOf alignOf membersAlign membersEnd strideOf ownStrideOf minSizeOf offsetsOf innerNumbersOf numbersOf withinLimits fitsLimit hasLayout isStored isPlain isStorable _>>=_ _>>_ refuse orRefuse trailerOf lengthBy typeEntryFrom typeEntryAt memberEntryFrom memberEntryAt sizeIsGiven alignIsGiven givenSize givenAlign restIsZero between checkTrailer when andThen unused scalarOfKind scalarIn lower membersFrom scalarMade vectorMade matrixMade arrayMade runtimeMade atomicMade structMade overMade typeMade typeOfEntry isMatrixScalar isAtomicScalar isLast countOf memberAllowed membersAllowed isAllowed atLeast givenSizeFits isMultiple givenAlignFits membersGivenFit givenFits judged typesBelow typesOf tailAt membersTail tailOf extentBy extentOf elementsBy elementsIn column shapeOf fieldsOf spanOf wordPlaces repeated placesOf places wordCount wordsRead stepOf enter walk entryOf allowed entryFor isShort readElements readType readCall targetIn targetCall viewCall typeEntry memberGiven memberEntry trailer arrayOfU32 openStruct matrixOfF32 structWithSize memberStart memberEnd memberStep store storeWords written canHold checkWords elementsFor isWrongCount writeWords writeElements writeType writeCall scalarAt setScalar setTarget setCall typesIn isWellFormed checkOf startOf bitsOf bitAt fieldAt repeatedTop extractedU32 extractedI32 putAt inserted isInside bitExtracted bitInserted isInteger isSigned integerOf integerAt wordOf extractedAs extractCall insertCall uniformAlign earliestAfter membersKeep keepsUniform isUniform memberTypes refersTo anyOf reachesBy reaches isBrokenType isBroken lowestFrom lowestBroken refuseBroken mayLive uniformCall brokenFile nestedFile fiveAndSix sixAndSeven matrixTypes nine rubbish inMatrix inStruct
+unfolding load bytesOf up powerBelow isPower withinLimit isRuntime endsInRuntime isOpen everywhere everyMember both givenOr isPresent present widthOf vec3Align vectorSize vectorAlign startAfter endAfter sizeOf alignOf membersAlign membersEnd strideOf ownStrideOf minSizeOf offsetsOf innerNumbersOf numbersOf withinLimits fitsLimit hasLayout isStored isPlain isStorable _>>=_ _>>_ refuse orRefuse trailerOf lengthBy typeEntryFrom typeEntryAt memberEntryFrom memberEntryAt sizeIsGiven alignIsGiven givenSize givenAlign restIsZero between checkTrailer when andThen unused scalarOfKind scalarIn lower membersFrom scalarMade vectorMade matrixMade arrayMade runtimeMade atomicMade structMade overMade typeMade typeOfEntry isMatrixScalar isAtomicScalar isLast countOf memberAllowed membersAllowed isAllowed atLeast givenSizeFits isMultiple givenAlignFits membersGivenFit givenFits judged typesBelow typesOf tailAt membersTail tailOf extentBy extentOf elementsBy elementsIn column shapeOf fieldsOf spanOf wordPlaces repeated placesOf places wordCount wordsRead stepOf enter walk entryOf allowed entryFor isShort readElements readType readCall targetIn targetCall viewCall typeEntry memberGiven memberEntry trailer arrayOfU32 openStruct matrixOfF32 structWithSize memberStart memberEnd memberStep store storeWords written canHold checkWords elementsFor isWrongCount writeWords writeElements writeType writeCall scalarAt setScalar setTarget setCall typesIn isWellFormed checkOf startOf bitsOf bitAt fieldAt repeatedTop extractedU32 extractedI32 putAt inserted isInside bitExtracted bitInserted isInteger isSigned integerOf integerAt wordOf extractedAs extractCall insertCall uniformAlign earliestAfter membersKeep keepsUniform isUniform memberTypes refersTo anyOf reachesBy reaches isBrokenType isBroken lowestFrom lowestBroken refuseBroken mayLive uniformCall brokenFile nestedFile isBool isNoBool boolFile fiveAndSix sixAndSeven matrixTypes nine rubbish inMatrix inStruct
 witnesses =
     let types : typesBelow matrixOfF32 2 ≡ good matrixTypes = refl in
     let entry : entryOf matrixOfF32 1 ≡ good (matrix 3 3 f32) = refl in
@@ -221,6 +225,8 @@ witnesses =
       extraction-after-insertion =
           requests.extraction-after-insertion structWithSize 1 inStruct rubbish bytes 255 4 8 (record { offset = 20; scalar = u32 }) refl _ refl;
       struct-demand = claims.demand-3 sized .set-read inStruct 20 u32 second 5 (omega arith) nine (omega arith);
+      bool-not-storable = requests.bool-not-storable (vector 3 bool) refl;
+      bool-refused = requests.bool-refused {f = boolFile} {e = 1} {b = rubbish} {t = vector 3 bool} (record { entry = refl; within = omega arith; layout = refl }) refl;
       can-uniform = requests.uniform-good-if nestedFile 3 .only-if 0 refl;
       uniform-names = named;
       uniform-names-one = requests.uniform-names-one (named .2) (named .2);

@@ -1,18 +1,18 @@
 -- What the laws of proofs/Claims say: the predicates that they use, in the order of the laws.
 --
--- In order: bytes; the lowest bad entry; strides; places; where members lie; paths; the entry that a call is about; when a call is good; what a
+-- In order: bytes; the lowest bad entry; strides; places; where members lie; paths; bools; the entry that a call is about; when a call is good; what a
 -- call leaves; the uniform profile; the places of refusals.
 -- Not here: demand 3 (`Demand`).
 -- Definitions only. Assumes nothing.
 use Prim.Native.Nat.{ℕ, zero, suc, _+_, _*_, _^_, _<_, _≤_}
-use mathlib.Core.Bool.{true, false}
+use mathlib.Core.Bool.{Bool, true, false, not}
 use mathlib.Core.List.{List, [], _∷_, map, List·Memᴰ}
 use mathlib.Core.Logic.{_⊎_}
 use mathlib.Core.Option.{Option, none, some}
 use mathlib.Core.Path.{_≡_}
 use lib.ListN.{length, getD, getElem?, take, drop}
 use Rattle.wgsl.specs.Round.{up, limit}
-use Rattle.wgsl.specs.Types.{Scalar, Ty, runtime, Members, no-more, member, isRuntime, isOpen}
+use Rattle.wgsl.specs.Types.{Scalar, bool, i32, u32, f32, f16, abstractInt, abstractFloat, Ty, scalar, vector, matrix, array, runtime, atomic, struct, Members, no-more, member, isRuntime, isOpen, everywhere}
 use Rattle.wgsl.specs.Size.{present, widthOf, sizeOf, alignOf, strideOf, ownStrideOf, fitsLimit, hasLayout, isStorable}
 use Rattle.wgsl.specs.Said.{Said, good, refused}
 use Rattle.wgsl.specs.Rule.{typeOfEntry, isAllowed, givenFits, typesBelow, typesOf}
@@ -106,6 +106,31 @@ pub data Leads : ℕ → Shape → List Step → ℕ → Shape → Type 0 where
   part : {off n stride i a : ℕ} {x y : Shape} {steps : List Step} → i < n → Leads (off + i * stride) x steps a y → Leads off (parts n stride x) (path.index i ∷ steps) a y
   first : {off offset a : ℕ} {x rest y : Shape} {steps : List Step} → Leads (off + offset) x steps a y → Leads off (field offset x rest) (path.member zero ∷ steps) a y
   later : {off offset i a : ℕ} {x rest y : Shape} {steps : List Step} → Leads off rest (path.member i ∷ steps) a y → Leads off (field offset x rest) (path.member (suc i) ∷ steps) a y
+
+-- ---- bools
+
+unfoldable pub isBool : Scalar → Bool
+isBool bool = true
+isBool i32 = false
+isBool u32 = false
+isBool f32 = false
+isBool f16 = false
+isBool abstractInt = false
+isBool abstractFloat = false
+
+-- of a type itself, and not of those within it: its scalar is no bool
+unfoldable pub isNoBool : Ty → Bool
+isNoBool (scalar s) = not (isBool s)
+isNoBool (vector n s) = not (isBool s)
+isNoBool (matrix c r s) = not (isBool s)
+isNoBool (array n t) = true
+isNoBool (runtime t) = true
+isNoBool (atomic s) = not (isBool s)
+isNoBool (struct k ms) = true
+
+-- a type that holds a bool anywhere
+abbrev pub HoldsBool : Ty → Type 0
+HoldsBool t = everywhere isNoBool t ≡ false
 
 -- ---- the entry that a call is about
 

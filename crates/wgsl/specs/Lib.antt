@@ -19,5 +19,6 @@ pub mod Claim
 pub mod Demand
 pub mod Case
 pub mod StrideCase
+pub mod BoolCase
 pub mod UniformCase
 pub mod Shapes

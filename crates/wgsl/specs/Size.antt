@@ -43,9 +43,9 @@ widthOf f16 = some 2
 widthOf abstractInt = none
 widthOf abstractFloat = none
 
--- "For n = 3: 16 over i32, u32, f32; 8 over f16; none over bool, as in 000."
+-- "For n = 3: 16 over i32, u32, f32; 8 over f16"; E4: "WGSL's alignment table lists bool beside i32 in the vector rows: 12/16."
 unfoldable pub vec3Align : Scalar → Option ℕ
-vec3Align bool = none
+vec3Align bool = some 16
 vec3Align i32 = some 16
 vec3Align u32 = some 16
 vec3Align f32 = some 16

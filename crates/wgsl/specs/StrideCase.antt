@@ -8,7 +8,7 @@ use mathlib.Core.List.{List, [], _∷_, _++_}
 use mathlib.Core.Bool.{Bool, true, false, _&&_}
 use mathlib.Core.Option.{Option, none, some}
 use lib.Dec.{eqb}
-use Rattle.wgsl.specs.Types.{bool, u32, f32, f16, abstractInt, scalar, vector, matrix, array, runtime, atomic, struct, no-more}
+use Rattle.wgsl.specs.Types.{u32, f32, f16, abstractInt, scalar, vector, matrix, array, runtime, atomic, struct, no-more}
 use Rattle.wgsl.specs.Size.{ownStrideOf}
 use Rattle.wgsl.specs.Said.{Said, good, refused}
 use Rattle.wgsl.specs.Call.{Layout, layoutCall}
@@ -60,18 +60,13 @@ listingText =
     ++ columns 1 (some 12) (some 16) (some 16)
     ++ columns 2 (some 32) (some 16) (some 32)
 
--- abstract int, and bool with vec3 of it
+-- abstract int, vec2 of it, and an array of that
 unfoldable pub absentFile : List ℕ
-absentFile = typeEntry 5 0 0 0 0 ++ typeEntry 0 0 0 0 0 ++ typeEntry 7 0 3 1 0 ++ trailer 3 0
+absentFile = typeEntry 5 0 0 0 0 ++ typeEntry 7 0 2 0 0 ++ typeEntry 9 0 0 1 4 ++ trailer 3 0
 
 unfoldable pub absentText : List ℕ
 absentText =
-    entriesText
-    ++ decimal 3
-    ++ newline
-    ++ columns 0 none none none
-    ++ columns 1 (some 4) (some 4) (some 4)
-    ++ columns 2 (some 12) none none
+    entriesText ++ decimal 3 ++ newline ++ columns 0 none none none ++ columns 1 none none none ++ columns 2 none none none
 
 -- ---- the cases
 
@@ -93,10 +88,10 @@ strideCases =
     ∷ is (ownStrideOf (runtime (vector 3 f32))) 16
     ∷ is (ownStrideOf (runtime (vector 3 f16))) 8
     ∷ carries (layoutCall openStruct 3) (some 16)
-    -- "else absent": abstract, vec3 of bool, and an array of either; an open struct
+    -- "else absent": abstract, a vector and an array of it; an open struct
     ∷ isAbsent (ownStrideOf (scalar abstractInt))
-    ∷ isAbsent (ownStrideOf (vector 3 bool))
-    ∷ isAbsent (ownStrideOf (array 4 (vector 3 bool)))
+    ∷ isAbsent (ownStrideOf (vector 3 abstractInt))
+    ∷ isAbsent (ownStrideOf (array 4 (vector 3 abstractInt)))
     ∷ carries (layoutCall openStruct 4) none
     -- "The program's lines gain a fourth column"
     ∷ reads (listingOf listingFile) listingText
