@@ -25,6 +25,8 @@ const PLAN: Plan = Plan {
     fields: 121,
     packed: 2000,
     uniforms: 20_000,
+    bool_edges: 1,
+    bools: 6000,
 };
 
 const RECORDED: Plan = Plan {
@@ -40,6 +42,8 @@ const RECORDED: Plan = Plan {
     fields: 1,
     packed: 1,
     uniforms: 40,
+    bool_edges: 16,
+    bools: 6,
 };
 
 fn read(path: &str) -> String {
@@ -84,6 +88,7 @@ pub fn ask(seed: u64, document: &str, folder: &str) -> bool {
     generate::blocks(seed, &PLAN, &mut put);
     generate::field_blocks(seed, &PLAN, &mut put);
     generate::uniform_blocks(seed, &PLAN, &mut put);
+    generate::bool_blocks(seed, &PLAN, &mut put);
     flush(&mut text);
     println!("{files:9} files in all, seed {seed}");
     true
@@ -210,6 +215,7 @@ pub fn record(document: &str, folder: &str) -> bool {
     generate::blocks(1, &RECORDED, |b| blocks.push(b));
     generate::field_blocks(1, &RECORDED, |b| blocks.push(b));
     generate::uniform_blocks(1, &RECORDED, |b| blocks.push(b));
+    generate::bool_blocks(1, &RECORDED, |b| blocks.push(b));
     let questions = blocks.iter().fold(format!("{HEAD}\n"), |s, b| s + &b.lines());
     let rust = answer(&questions);
     let mut rust = rust.lines();

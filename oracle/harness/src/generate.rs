@@ -569,7 +569,12 @@ fn random_choice(r: &mut Random, t: &Table, laid: &[Laid]) -> Choice {
 
 /// An accepted table of `types` entries and at most `most` members.
 pub fn random(r: &mut Random, types: usize, most: usize) -> Table {
-    let (mut t, mut laid) = (Table::default(), Vec::new());
+    random_over(r, Table::default(), types, most)
+}
+
+/// Such a table over the entries of an accepted one.
+fn random_over(r: &mut Random, mut t: Table, types: usize, most: usize) -> Table {
+    let mut laid = model::check(&t.write(&[])).map_or(vec![], |good| good.laid);
     while laid.len() < types {
         let choice = random_choice(r, &t, &laid);
         if t.members.len() + choice.1.len() > most {
@@ -770,6 +775,46 @@ fn uniform_edges() -> Vec<Table> {
         list.push(table(&choices));
     }
     list
+}
+
+/// Vectors of three bools: alone, as elements and as members, within structs of structs; and what they are refused as.
+fn bool_edges() -> Vec<Table> {
+    let over = |kind, reference, count| (entry(kind, 0, 0, reference, count), vec![]);
+    let (array, runtime) = (|of, count| over(9, of, count), |of| over(10, of, 0));
+    let of = |ms: Vec<Member>| (entry(12, 0, 0, 0, 0), ms);
+    let all = |types: &[u16]| of(types.iter().map(|ty| member(*ty, None, None)).collect());
+    let plain = |ty| member(ty, None, None);
+    // 0 is bool, 1 a vec3 of it
+    let after = |more: &[Choice]| table(&[&[scalar(0), (entry(7, 0, 3, 0, 0), vec![])], more].concat());
+    vec![
+        after(&[array(1, 4), all(&[1, 0]), all(&[0, 1])]),
+        after(&[runtime(1), all(&[2]), all(&[1, 2])]),
+        after(&[all(&[1, 0]), array(2, 2), all(&[0, 2, 3])]),
+        after(&[all(&[1, 0]), runtime(2), all(&[1, 3])]),
+        after(&[array(1, 2), array(2, 2), all(&[3, 1])]),
+        // among others; 2 is i32 in the first, f16 in the second
+        after(&[scalar(1), over(11, 2, 0), all(&[3, 1, 2])]),
+        after(&[scalar(4), all(&[2, 1, 2]), array(3, 2)]),
+        after(&[(entry(7, 0, 2, 0, 0), vec![]), all(&[2, 1]), all(&[1, 2])]),
+        // a given align, with which the Rust too has one, and a given size
+        after(&[of(vec![member(1, None, Some(16))]), of(vec![member(1, None, Some(32)), plain(0)]), array(2, 3)]),
+        after(&[of(vec![member(1, Some(12), None)]), of(vec![member(1, Some(20), None), plain(0)])]),
+        after(&[of(vec![member(1, Some(20), Some(16)), plain(1)]), of(vec![plain(0), member(1, Some(12), Some(16))])]),
+        after(&[array(1, 2), of(vec![member(2, None, Some(16))]), of(vec![member(2, Some(32), Some(16))])]),
+        after(&[runtime(1), of(vec![member(2, None, Some(16))]), of(vec![plain(0), member(2, None, Some(32))])]),
+        // one that is no multiple of 16, a size below 12; the largest array, and the next
+        after(&[of(vec![member(1, None, Some(8))])]),
+        after(&[of(vec![member(1, Some(11), None)])]),
+        after(&[array(1, 268_435_455)]),
+        after(&[array(1, 268_435_456)]),
+        // an atomic of it, a vector of it, an array of runtime arrays of it, one that is not last
+        after(&[over(11, 1, 0)]),
+        after(&[(entry(7, 0, 2, 1, 0), vec![])]),
+        after(&[runtime(1), array(2, 2)]),
+        after(&[runtime(1), all(&[2, 1])]),
+        // an abstract int beside it
+        after(&[scalar(5), (entry(7, 0, 3, 2, 0), vec![]), array(3, 2)]),
+    ]
 }
 
 /// A member near a rule of the uniform profile: its size or its align given so that it, or the one after it, stands right, or just not.
@@ -1006,6 +1051,10 @@ pub struct Plan {
     pub packed: usize,
     /// tables near the rules of the uniform profile; for each eight a nested one, a random one and two damaged ones
     pub uniforms: usize,
+    /// of the entries over a vec3 of bool, whose edges are asked about: one of so many
+    pub bool_edges: u64,
+    /// random tables over a vec3 of bool; for each four a damaged one
+    pub bools: usize,
 }
 
 pub fn blocks(seed: u64, plan: &Plan, mut each: impl FnMut(Block)) {
@@ -1120,6 +1169,45 @@ pub fn uniform_blocks(seed: u64, plan: &Plan, mut each: impl FnMut(Block)) {
             ask(file(&mut r, &d), &d);
             let b = file(&mut r, &t);
             ask(damaged_file(&mut r, &b), &t);
+        }
+    }
+}
+
+/// The questions about vectors of three bools that those above do not ask. They have random numbers of their own too.
+pub fn bool_blocks(seed: u64, plan: &Plan, mut each: impl FnMut(Block)) {
+    let mut r = Random(!seed.rotate_left(32));
+    for t in bool_edges() {
+        let (mut questions, buffer) = (vec![Question::Check], bytes(&mut r, 80));
+        for e in 1..t.entries.len() as u32 {
+            questions.extend([Question::Size(e), Question::Align(e), Question::MinSize(e), Question::Layout(e)]);
+            questions.extend([Question::Uniform(e), Question::Rank(e, 1)]);
+            for path in [vec![], vec![1], vec![MEMBER], vec![MEMBER, 2], vec![1, 2]] {
+                questions.push(Question::View(e, path, buffer.clone()));
+            }
+            questions.extend([1, 3, 4, 6].map(|n| Question::Write(e, vec![1; n], buffer.clone())));
+            questions.push(Question::Read(e, vec![7; 12], buffer.clone()));
+            questions.push(Question::Set(e, 1, vec![2], buffer.clone()));
+        }
+        if let Ok(good) = model::check(&t.write(&[])) {
+            for e in 1..t.entries.len() {
+                if r.one_in(plan.bool_edges) {
+                    questions.extend(all_edges(&mut r, &good, e));
+                    let (n, field) = (if good.laid[e].open { 2 } else { 0 }, any_field(&mut r));
+                    questions.extend(field_edges(&mut r, &good, e, n, &[field]));
+                }
+            }
+        }
+        each(Block { file: t.write(&[]), questions });
+    }
+    let base = table(&[scalar(0), (entry(7, 0, 3, 0, 0), vec![])]);
+    for i in 0..plan.bools {
+        let types = 3 + r.below(8) as usize;
+        let t = random_over(&mut r, base.clone(), types, 60);
+        let questions = [some(&mut r, &t, 21), some_fields(&mut r, &t, 3), uniform_of_all(&t)].concat();
+        each(Block { file: file(&mut r, &t), questions });
+        if i % 4 == 0 {
+            let d = damaged_table(&mut r, &t);
+            each(Block { file: file(&mut r, &d), questions: some(&mut r, &d, 4) });
         }
     }
 }

@@ -1,6 +1,6 @@
 //! Document 01's rules, written from its text: which file is refused, with what number and place, and what the calls answer; and document
-//! 02's on strides, bit fields and the uniform profile. It decides where Lepugaso and the Rust may differ (the rows of
-//! docs/DIFFERENCES.md), and what Lepugaso has to say there.
+//! 02's on strides, bit fields, vectors of three bools and the uniform profile. It decides where Lepugaso and the Rust may differ (the rows
+//! of docs/DIFFERENCES.md), and what Lepugaso has to say there.
 use std::collections::BTreeSet;
 
 use crate::file::{Entry, Member, Table};
@@ -23,6 +23,18 @@ pub struct Laid {
     /// its scalars, those of a runtime array not counted
     pub words: u64,
     pub holds_bool: bool,
+}
+
+impl Laid {
+    /// "A type has a layout if it has an alignment and is open or has a size."
+    pub fn has_layout(&self) -> bool {
+        self.align.is_some() && (self.open || self.size.is_some())
+    }
+
+    /// The minimum size.
+    pub fn least(&self) -> Option<u64> {
+        self.stride.filter(|_| self.open).or(self.size)
+    }
 }
 
 #[derive(Clone, Copy)]
@@ -56,11 +68,12 @@ fn plain(size: Option<u64>, align: Option<u64>, words: u64, kind: u8) -> Laid {
     Laid { size, align, stride: None, open: false, tail: None, words, holds_bool: kind == 0 }
 }
 
-/// Size and alignment of a vector of `n` over the scalar of kind `kind`.
+/// Size and alignment of a vector of `n` over the scalar of kind `kind`. E4: "WGSL's alignment table lists bool beside i32 in the vector
+/// rows: 12/16."
 fn vector(n: u64, kind: u8) -> Laid {
     let size = scalar(kind).size.map(|s| n * s);
     let align = match (n, kind) {
-        (3, 1..=3) => Some(16),
+        (3, 0..=3) => Some(16),
         (3, 4) => Some(8),
         (3, _) => None,
         _ => size,
@@ -247,10 +260,11 @@ fn given(table: &Table, laid: &[Laid], m: &Member) -> Option<Row> {
     None
 }
 
-/// A table that 01 accepts, with every entry laid out.
+/// A table that 01 accepts, with every entry laid out, and with the numbers that the Rust has of each.
 pub struct Good {
     pub table: Table,
     pub laid: Vec<Laid>,
+    pub rust: Vec<Laid>,
 }
 
 /// A file as 01 sees it: its table, or its refusal.
@@ -260,7 +274,8 @@ pub fn check(bytes: &[u8]) -> Result<Good, Refusal> {
     for k in 0..table.entries.len() {
         laid.push(lay(&table, &laid, k)?);
     }
-    Ok(Good { table, laid })
+    let rust = rows::numbered(&table, &laid);
+    Ok(Good { table, laid, rust })
 }
 
 /// E5's "16".
@@ -289,10 +304,8 @@ pub struct Target {
 }
 
 impl Good {
-    /// "A type has a layout if it has an alignment and is open or has a size."
     pub fn has_layout(&self, e: usize) -> bool {
-        let l = &self.laid[e];
-        l.align.is_some() && (l.open || l.size.is_some())
+        self.laid[e].has_layout()
     }
 
     /// The scalars of a type, with `n` elements if it is open.
@@ -697,6 +710,21 @@ pub fn common(t: &Table, list: &[u32]) -> Option<u32> {
     rest.iter().try_fold(*first, |a, b| two(a, *b))
 }
 
+fn told(n: Option<u64>, refusal: u32) -> String {
+    n.map_or(format!("refused {refusal} at 0"), |n| n.to_string())
+}
+
+/// The answer to a question about the numbers of an entry's type.
+pub fn numbers(q: &Question, l: &Laid) -> String {
+    let marked = |n: Option<u64>| n.map_or("-".into(), |n| n.to_string());
+    match q {
+        Question::Size(_) => told(l.size, 9),
+        Question::Align(_) => told(l.align, 9),
+        Question::MinSize(_) => told(l.least(), 9),
+        _ => [l.size, l.align, l.least(), own_stride(l)].map(marked).join(" "),
+    }
+}
+
 /// What 01 answers, the row that the question falls under, if any, and what the Rust says there, if the row tells.
 pub struct Due {
     pub says: String,
@@ -736,19 +764,11 @@ pub fn answer(checked: &Result<Good, Refusal>, nodes: &[u64], q: &Question) -> D
     if q.entries().iter().any(|e| *e as usize >= laid.len()) {
         return Due { says: unchanged(q, 8, 0), row: Some(Row::NoEntry), rust: None };
     }
-    let told = |n: Option<u64>, refusal: u32| match n {
-        Some(n) => n.to_string(),
-        None => format!("refused {refusal} at 0"),
-    };
-    let marked = |n: Option<u64>| n.map_or("-".into(), |n| n.to_string());
-    let least = |l: &Laid| l.stride.filter(|_| l.open).or(l.size);
-    let of = |e: &u32| &laid[*e as usize];
     let says = match q {
         Question::Check => laid.len().to_string(),
-        Question::Size(e) => told(of(e).size, 9),
-        Question::Align(e) => told(of(e).align, 9),
-        Question::MinSize(e) => told(least(of(e)), 9),
-        Question::Layout(e) => [of(e).size, of(e).align, least(of(e)), own_stride(of(e))].map(marked).join(" "),
+        Question::Size(e) | Question::Align(e) | Question::MinSize(e) | Question::Layout(e) => {
+            numbers(q, &laid[*e as usize])
+        }
         Question::Uniform(e) => question::told(good.uniform(*e as usize)),
         Question::Rank(a, b) => told(rank(&good.table, *a, *b).map(u64::from), 18),
         Question::Common(list) => told(common(&good.table, list).map(u64::from), 18),

@@ -1,6 +1,7 @@
-//! The rows of docs/DIFFERENCES.md. `model` decides which of them a question falls under, and asks here what the Rust does with a buffer
-//! instead; the document's own examples are read here too.
-use crate::model::{Good, Stand, Target, members};
+//! The rows of docs/DIFFERENCES.md. `model` decides which of them a question falls under, and asks here what the Rust says of numbers and
+//! does with a buffer instead; the document's own examples are read here too.
+use crate::file::{Member, Table};
+use crate::model::{self, Good, Laid, Stand, Target, members};
 use crate::question::{Answer, Block, Question, parse_bytes, with_buffer, with_part, with_words};
 use crate::types::{NOTHING, PANICS};
 
@@ -40,6 +41,7 @@ rows! {
     TooLarge = "too-large",
     NoEntry = "no-entry",
     Doubling = "doubling",
+    Vec3Bool = "vec3-bool",
     WordCount = "word-count",
     Vast = "vast",
     F16Word = "f16-word",
@@ -59,6 +61,36 @@ rows! {
 /// The Rust writes into a vector of its own: a longer one is not asked for.
 pub const VAST: u64 = 1 << 20;
 
+/// Every entry's numbers as the Rust has them: 01's, but for the alignment of a vec3 of bool, which it has not, and for what is worked out
+/// from that.
+pub fn numbered(table: &Table, laid: &[Laid]) -> Vec<Laid> {
+    let mut rust: Vec<Laid> = Vec::new();
+    for (x, l) in table.entries.iter().zip(laid) {
+        let sized = |m: &Member| m.flags & 1 != 0 || rust[m.ty as usize].size.is_some();
+        let aligned = |m: &Member| m.flags & 2 != 0 || rust[m.ty as usize].align.is_some();
+        let (size, align) = match x.kind {
+            7 => (true, x.rows != 3 || !l.holds_bool),
+            9 | 10 => {
+                let element = &rust[x.reference as usize];
+                (element.size.is_some() && element.align.is_some(), element.align.is_some())
+            }
+            12 => {
+                let ms = table.members_of(x).expect("members within the table");
+                (ms.iter().all(|m| sized(m) && aligned(m)), ms.iter().all(aligned))
+            }
+            _ => (true, true),
+        };
+        let known = |n: Option<u64>, is: bool| n.filter(|_| is);
+        rust.push(Laid {
+            size: known(l.size, size),
+            align: known(l.align, align),
+            stride: known(l.stride, size),
+            ..*l
+        });
+    }
+    rust
+}
+
 /// What the Rust makes of a value: its bytes; `None`, which it gives where a type can't be shared; or a panic.
 enum Made {
     Bytes(Vec<u8>),
@@ -67,7 +99,7 @@ enum Made {
 }
 
 /// What the Rust writes for an entry's type, of which there are `n` elements if it is open: no struct's end is padded, but where it is a
-/// member of another, and a vector or a matrix of what can't be shared panics.
+/// member of another, a vector or a matrix of what can't be shared panics, and where a number is absent that it needs there is nothing.
 fn made(good: &Good, e: usize, n: u64, words: &mut impl Iterator<Item = u32>) -> Made {
     let x = good.table.entries[e];
     let (l, r) = (&good.laid[e], x.reference as usize);
@@ -90,7 +122,7 @@ fn made(good: &Good, e: usize, n: u64, words: &mut impl Iterator<Item = u32>) ->
             }
         }
         9 | 10 => {
-            let (Some(stride), Some(size)) = (l.stride, good.laid[r].size) else { return Made::Nothing };
+            let (Some(stride), Some(size)) = (good.rust[e].stride, good.laid[r].size) else { return Made::Nothing };
             for _ in 0..if x.kind == 9 { x.count as u64 } else { n } {
                 match made(good, r, n, words) {
                     Made::Bytes(element) => bytes.extend(element),
@@ -102,6 +134,10 @@ fn made(good: &Good, e: usize, n: u64, words: &mut impl Iterator<Item = u32>) ->
         _ => {
             let ms = good.table.members_of(&x).expect("members within the table");
             for (m, p) in ms.iter().zip(members(&good.laid, ms)) {
+                let known = &good.rust[m.ty as usize];
+                if (m.flags & 1 == 0 && known.least().is_none()) || (m.flags & 2 == 0 && known.align.is_none()) {
+                    return Made::Nothing;
+                }
                 bytes.resize(bytes.len().next_multiple_of(p.align as usize), 0);
                 let at = bytes.len();
                 match made(good, m.ty as usize, n, words) {
@@ -132,7 +168,10 @@ fn written(good: &Good, e: usize, words: &[u32], buffer: &[u8]) -> (Row, String)
     let mut buffer = buffer.to_vec();
     let answer: Answer = match made(good, e, n, &mut words.iter().copied()) {
         Made::Panic => return (Row::UnsharedVector, PANICS.into()),
-        Made::Nothing => Err((if l.align.is_none() || (!l.open && l.size.is_none()) { 9 } else { 10 }, 0)),
+        Made::Nothing => {
+            let refusal = if good.rust[e].has_layout() { 10 } else { 9 };
+            return (Row::Vec3Bool, with_buffer(Err((refusal, 0)), &buffer));
+        }
         Made::Bytes(bytes) if bytes.len() > buffer.len() => Err((15, 0)),
         Made::Bytes(bytes) => {
             buffer[..bytes.len()].copy_from_slice(&bytes);
@@ -198,6 +237,14 @@ fn padded(good: &Good, stand: Stand, n: u64, words: &[u32]) -> Vec<u8> {
     bytes
 }
 
+/// What the Rust reads of an entry's type into words; 9 where it has no layout by the Rust's own numbers.
+fn read(good: &Good, e: usize, buffer: &[u8], words: &mut [u32]) -> Answer {
+    if !good.rust[e].has_layout() {
+        return Err((9, 0));
+    }
+    good.read(e, reach(good, e), start(good, e), buffer, words)
+}
+
 /// A value as the Rust reads it: its words, how many elements it has if it is open, and how far before their place in 01 it read those.
 struct Held {
     words: Vec<u32>,
@@ -212,7 +259,7 @@ fn held(good: &Good, e: usize, buffer: &[u8]) -> Result<Held, (u32, u64)> {
     let n = good.elements_in(e, start, length);
     // More words than bytes are never read.
     let mut words = vec![0; good.words(e, n).min(length) as usize];
-    let count = good.read(e, reach(good, e), start, buffer, &mut words)?;
+    let count = read(good, e, buffer, &mut words)?;
     words.truncate(count as usize);
     Ok(Held { words, n, early: l.tail.map_or(0, |t| t.offset - start) })
 }
@@ -229,9 +276,13 @@ impl Held {
     }
 }
 
-/// The row of an entry that the Rust reads where 01 does not.
+/// The row of an entry that the Rust reads where 01 does not, or has no layout of where 01 has one.
 fn early(good: &Good, e: usize) -> Row {
-    if good.laid[e].open { Row::ArrayStart } else { Row::LastPadding }
+    match &good.rust[e] {
+        l if !l.has_layout() => Row::Vec3Bool,
+        l if l.open => Row::ArrayStart,
+        _ => Row::LastPadding,
+    }
 }
 
 /// The first row that holds of a view, and what the Rust says of it.
@@ -289,16 +340,18 @@ fn changed(good: &Good, e: usize, path: &[u32], word: u32, buffer: &[u8]) -> (Ro
     (row, with_buffer(Ok(held.offset(good, e, &t)), &after))
 }
 
-/// The row of a question about a buffer, or about the uniform profile, on a table that 01 accepts, of an entry that it has, and what the
-/// Rust says of it; none where that is what 01 says.
+/// The row of a question on a table that 01 accepts, of an entry that it has, and what the Rust says of it; none where that is what 01
+/// says.
 pub fn departure(good: &Good, q: &Question, says: &str) -> Option<(Row, String)> {
     let (row, said) = match q {
+        Question::Size(e) | Question::Align(e) | Question::MinSize(e) | Question::Layout(e) => {
+            (Row::Vec3Bool, model::numbers(q, &good.rust[*e as usize]))
+        }
         Question::Write(e, words, buffer) => written(good, *e as usize, words, buffer),
         Question::Read(e, words, buffer) => {
             let (e, mut words) = (*e as usize, words.clone());
-            let answer = good.read(e, reach(good, e), start(good, e), buffer, &mut words);
-            let row = if good.laid[e].open { Row::ArrayStart } else { Row::LastPadding };
-            (row, with_words(answer, &words))
+            let answer = read(good, e, buffer, &mut words);
+            (early(good, e), with_words(answer, &words))
         }
         Question::View(e, path, buffer) => viewed(good, *e as usize, path, buffer),
         Question::Set(e, word, path, buffer) => changed(good, *e as usize, path, *word, buffer),
