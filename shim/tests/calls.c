@@ -9,7 +9,7 @@ static const uint8_t good[] = {
     F32,                   /* 2 */
     F16,                   /* 3 */
     ABSTRACT_INT,          /* 4: neither size nor alignment */
-    VECTOR(3, 0),          /* 5: vec3<bool>, 12 bytes and no alignment */
+    VECTOR(3, 0),          /* 5: vec3<bool>, as vec3<f32> (E4) */
     VECTOR(3, 2),          /* 6: vec3<f32> */
     RUNTIME_ARRAY(6),      /* 7: of vec3<f32> */
     STRUCT(0, 3),          /* 8: u32, vec3<f32>, f32 (P6) */
@@ -81,7 +81,8 @@ static void questions(const uint8_t *file, size_t length) {
 
     EXPECT(lepugaso_align(file, length, 6), 0, 0, 16);
     EXPECT(lepugaso_align(file, length, 12), LEPUGASO_REFUSED_ENTRY, 0, 0);
-    EXPECT(lepugaso_align(file, length, 5), LEPUGASO_REFUSED_ABSENT, 0, 0);
+    EXPECT(lepugaso_align(file, length, 5), 0, 0, 16);
+    EXPECT(lepugaso_align(file, length, 4), LEPUGASO_REFUSED_ABSENT, 0, 0);
 
     EXPECT(lepugaso_min_size(file, length, 7), 0, 0, 16);
     EXPECT(lepugaso_min_size(file, length, 6), 0, 0, 12);
@@ -101,7 +102,7 @@ static void laid(const uint8_t *file, size_t length, uint32_t entry, uint64_t si
 static void layouts(const uint8_t *file, size_t length) {
     laid(file, length, 8, 32, 16, 32, 32);
     laid(file, length, 7, NONE, 16, 16, 16);
-    laid(file, length, 5, 12, NONE, 12, NONE);
+    laid(file, length, 5, 12, 16, 12, 16);
     laid(file, length, 4, NONE, NONE, NONE, NONE);
     laid(file, length, 9, NONE, 16, NONE, NONE);
     laid(file, length, 10, 4294967292u, 4, 4294967292u, 4294967292u);
@@ -252,8 +253,8 @@ static const uint8_t stored[] = {
     F32,               /* 3 */
     F16,               /* 4 */
     ABSTRACT_INT,      /* 5: no layout */
-    VECTOR(3, 0),      /* 6: vec3<bool>, no layout */
-    VECTOR(2, 0),      /* 7: vec2<bool>, a layout, and not storable */
+    VECTOR(3, 0),      /* 6: vec3<bool>, a layout (E4), and not storable */
+    VECTOR(2, 0),      /* 7: vec2<bool>, the same */
     VECTOR(3, 3),      /* 8: vec3<f32> */
     VECTOR(4, 3),      /* 9: vec4<f32> */
     VECTOR(3, 4),      /* 10: vec3<f16> */
@@ -272,16 +273,42 @@ static const uint8_t stored[] = {
     RUNTIME_ARRAY(7),  /* 23: of vec2<bool> */
     RUNTIME_ARRAY(4),  /* 24: of f16 */
     STRUCT(13, 2),     /* 25: u32, runtime array of f16 */
-    MEMBER(8),                        /* 0 */
-    MEMBER(2), MEMBER(8), MEMBER(3),  /* 1 to 3 */
-    MEMBER(2), MEMBER(17),            /* 4, 5 */
-    MEMBER_SIZE(2, 20), MEMBER(2),    /* 6, 7 */
-    MEMBER(4), MEMBER(2), MEMBER(10), /* 8 to 10 */
-    MEMBER(2), MEMBER(0),             /* 11, 12 */
-    MEMBER(2), MEMBER(24),            /* 13, 14 */
-    TRAILER(26, 15),
+    ARRAY(6, 4),       /* 26: of vec3<bool> */
+    RUNTIME_ARRAY(6),  /* 27: of vec3<bool> */
+    STRUCT(15, 2),     /* 28: vec3<bool>, bool */
+    STRUCT(17, 3),     /* 29: bool, 28, 27 */
+    STRUCT(20, 2),     /* 30: vec3<bool> of size 20, bool of align 8 */
+    MEMBER(8),                              /* 0 */
+    MEMBER(2), MEMBER(8), MEMBER(3),        /* 1 to 3 */
+    MEMBER(2), MEMBER(17),                  /* 4, 5 */
+    MEMBER_SIZE(2, 20), MEMBER(2),          /* 6, 7 */
+    MEMBER(4), MEMBER(2), MEMBER(10),       /* 8 to 10 */
+    MEMBER(2), MEMBER(0),                   /* 11, 12 */
+    MEMBER(2), MEMBER(24),                  /* 13, 14 */
+    MEMBER(6), MEMBER(0),                   /* 15, 16 */
+    MEMBER(0), MEMBER(28), MEMBER(27),      /* 17 to 19 */
+    MEMBER_SIZE(6, 20), MEMBER_ALIGN(0, 8), /* 20, 21 */
+    TRAILER(31, 22),
 };
-enum { NO_ENTRY = 26 };
+enum { NO_ENTRY = 31 };
+
+/* Vectors of three bools (E4): 12 bytes, aligned to 16, as members and as elements too. They are not storable. */
+static void vectors_of_bools(void) {
+    const uint8_t *file = lent(stored, sizeof stored);
+    EXPECT(lepugaso_check(file, sizeof stored), 0, 0, 31);
+    laid(file, sizeof stored, 6, 12, 16, 12, 16);
+    laid(file, sizeof stored, 26, 64, 16, 64, 64);
+    laid(file, sizeof stored, 27, NONE, 16, 16, 16);
+    laid(file, sizeof stored, 28, 16, 16, 16, 16);
+    laid(file, sizeof stored, 29, NONE, 16, NONE, NONE);
+    laid(file, sizeof stored, 30, 32, 16, 32, 32);
+    EXPECT(lepugaso_rank(file, sizeof stored, 6, 6), 0, 0, 0);
+    EXPECT(lepugaso_rank(file, sizeof stored, 6, 8), LEPUGASO_REFUSED_NO_RANK, 0, 0);
+    EXPECT(lepugaso_uniform(file, sizeof stored, 6), LEPUGASO_REFUSED_NOT_STORABLE, 0, 0);
+    EXPECT(lepugaso_uniform(file, sizeof stored, 26), LEPUGASO_REFUSED_NOT_STORABLE, 0, 0);
+    EXPECT(lepugaso_uniform(file, sizeof stored, 28), LEPUGASO_REFUSED_NOT_STORABLE, 0, 0);
+    EXPECT(lepugaso_uniform(file, sizeof stored, 27), LEPUGASO_REFUSED_ABSENT, 0, 0); /* open */
+}
 
 /* What a buffer, and what the words to read into, hold before a call. */
 enum { OLD_BYTE = 0xA5 };
@@ -368,11 +395,15 @@ static void write_refusals(void) {
     WRITE_REFUSED(NO_ENTRY, 4, LEPUGASO_REFUSED_ENTRY, 0, WORDS(1));
     WRITE_REFUSED(UINT32_MAX, 4, LEPUGASO_REFUSED_ENTRY, 0, WORDS(1));
     WRITE_REFUSED(5, 64, LEPUGASO_REFUSED_ABSENT, 0, WORDS(1));
-    WRITE_REFUSED(6, 64, LEPUGASO_REFUSED_ABSENT, 0, WORDS(1, 1, 1));
     WRITE_REFUSED(0, 64, LEPUGASO_REFUSED_NOT_STORABLE, 0, WORDS(1));
     WRITE_REFUSED(7, 64, LEPUGASO_REFUSED_NOT_STORABLE, 0, WORDS(1, 1));
     WRITE_REFUSED(22, 64, LEPUGASO_REFUSED_NOT_STORABLE, 0, WORDS(1, 1));
     WRITE_REFUSED(23, 64, LEPUGASO_REFUSED_NOT_STORABLE, 0, WORDS(1, 1));
+    WRITE_REFUSED(6, 64, LEPUGASO_REFUSED_NOT_STORABLE, 0, WORDS(1, 1, 1));
+    WRITE_REFUSED(26, 64, LEPUGASO_REFUSED_NOT_STORABLE, 0, WORDS(1, 1, 1, 1, 1, 1, 1, 1, 1, 1, 1, 1));
+    WRITE_REFUSED(27, 64, LEPUGASO_REFUSED_NOT_STORABLE, 0, WORDS(1, 1, 1));
+    WRITE_REFUSED(28, 64, LEPUGASO_REFUSED_NOT_STORABLE, 0, WORDS(1, 1, 1, 1));
+    WRITE_REFUSED(29, 64, LEPUGASO_REFUSED_NOT_STORABLE, 0, WORDS(1, 1, 1, 1, 1, 1, 1, 1));
     WRITE_REFUSED(2, 64, LEPUGASO_REFUSED_WORDS, 0, NULL, 0);
     WRITE_REFUSED(2, 64, LEPUGASO_REFUSED_WORDS, 0, WORDS(1, 2));
     WRITE_REFUSED(16, 64, LEPUGASO_REFUSED_WORDS, 0, WORDS(1, 2, 3, 4));
@@ -410,11 +441,15 @@ static void read_refusals(void) {
     READ_REFUSED(NO_ENTRY, 4, LEPUGASO_REFUSED_ENTRY, bytes, 64);
     READ_REFUSED(UINT32_MAX, 4, LEPUGASO_REFUSED_ENTRY, bytes, 64);
     READ_REFUSED(5, 4, LEPUGASO_REFUSED_ABSENT, bytes, 64);
-    READ_REFUSED(6, 4, LEPUGASO_REFUSED_ABSENT, bytes, 64);
     READ_REFUSED(0, 4, LEPUGASO_REFUSED_NOT_STORABLE, bytes, 64);
     READ_REFUSED(7, 4, LEPUGASO_REFUSED_NOT_STORABLE, bytes, 64);
     READ_REFUSED(22, 4, LEPUGASO_REFUSED_NOT_STORABLE, bytes, 64);
     READ_REFUSED(23, 4, LEPUGASO_REFUSED_NOT_STORABLE, bytes, 64);
+    READ_REFUSED(6, 4, LEPUGASO_REFUSED_NOT_STORABLE, bytes, 64);
+    READ_REFUSED(26, 12, LEPUGASO_REFUSED_NOT_STORABLE, bytes, 64);
+    READ_REFUSED(27, 12, LEPUGASO_REFUSED_NOT_STORABLE, bytes, 64);
+    READ_REFUSED(28, 4, LEPUGASO_REFUSED_NOT_STORABLE, bytes, 64);
+    READ_REFUSED(29, 8, LEPUGASO_REFUSED_NOT_STORABLE, bytes, 64);
     READ_REFUSED(1, 4, LEPUGASO_REFUSED_SHORT_BUFFER, bytes, 0);
     READ_REFUSED(1, 4, LEPUGASO_REFUSED_SHORT_BUFFER, bytes, 3);
     READ_REFUSED(11, 16, LEPUGASO_REFUSED_SHORT_BUFFER, bytes, 44);
@@ -503,16 +538,34 @@ static void viewed_parts(void) {
     VIEWS(7, 8, 4, 4, PATH(1));
     VIEWS(22, 8, 4, 4, PATH(M(1)));
     VIEWS(23, 24, 16, 8, PATH(2));
+    VIEWS(6, 12, 0, 12, WHOLE);
+    VIEWS(6, 12, 8, 4, PATH(2));
+    VIEWS(26, 64, 48, 12, PATH(3));
+    VIEWS(26, 64, 56, 4, PATH(3, 2));
+    VIEWS(27, 47, 0, 32, WHOLE);
+    VIEWS(27, 47, 16, 12, PATH(1));
+    VIEWS(28, 16, 0, 12, PATH(M(0)));
+    VIEWS(28, 16, 4, 4, PATH(M(0), 1));
+    VIEWS(28, 16, 12, 4, PATH(M(1)));
+    VIEWS(29, 63, 0, 48, WHOLE);
+    VIEWS(29, 63, 28, 4, PATH(M(1), M(1)));
+    VIEWS(29, 64, 48, 12, PATH(M(2), 1));
+    VIEWS(30, 32, 0, 12, PATH(M(0)));
+    VIEWS(30, 32, 24, 4, PATH(M(1)));
 }
 
 static void view_refusals(void) {
     VIEW_REFUSED(NO_ENTRY, 64, LEPUGASO_REFUSED_ENTRY, 0, WHOLE);
     VIEW_REFUSED(UINT32_MAX, 64, LEPUGASO_REFUSED_ENTRY, 0, WHOLE);
     VIEW_REFUSED(5, 64, LEPUGASO_REFUSED_ABSENT, 0, WHOLE);
-    VIEW_REFUSED(6, 64, LEPUGASO_REFUSED_ABSENT, 0, PATH(0));
+    VIEW_REFUSED(5, 64, LEPUGASO_REFUSED_ABSENT, 0, PATH(0));
     VIEW_REFUSED(2, 0, LEPUGASO_REFUSED_SHORT_BUFFER, 0, WHOLE);
     VIEW_REFUSED(2, 3, LEPUGASO_REFUSED_SHORT_BUFFER, 0, WHOLE);
     VIEW_REFUSED(11, 47, LEPUGASO_REFUSED_SHORT_BUFFER, 0, PATH(0, 0));
+    VIEW_REFUSED(6, 11, LEPUGASO_REFUSED_SHORT_BUFFER, 0, PATH(0));
+    VIEW_REFUSED(26, 63, LEPUGASO_REFUSED_SHORT_BUFFER, 0, PATH(0));
+    VIEW_REFUSED(27, 15, LEPUGASO_REFUSED_SHORT_BUFFER, 0, PATH(0));
+    VIEW_REFUSED(29, 47, LEPUGASO_REFUSED_SHORT_BUFFER, 0, PATH(M(0)));
     VIEW_REFUSED(18, 31, LEPUGASO_REFUSED_SHORT_BUFFER, 0, PATH(M(0))); /* P10 */
     /* The first bad step. */
     VIEW_REFUSED(2, 4, LEPUGASO_REFUSED_MEMBER_STEP, 0, PATH(M(0)));
@@ -536,6 +589,9 @@ static void view_refusals(void) {
     VIEW_REFUSED(18, 47, LEPUGASO_REFUSED_INDEX, 1, PATH(M(1), 1));
     VIEW_REFUSED(18, 48, LEPUGASO_REFUSED_INDEX, 2, PATH(M(1), 1, 4));
     VIEW_REFUSED(18, 48, LEPUGASO_REFUSED_INDEX_STEP, 1, PATH(M(0), 0));
+    VIEW_REFUSED(6, 12, LEPUGASO_REFUSED_INDEX, 0, PATH(3));
+    VIEW_REFUSED(27, 47, LEPUGASO_REFUSED_INDEX, 0, PATH(2));
+    VIEW_REFUSED(28, 16, LEPUGASO_REFUSED_MEMBER_STEP, 0, PATH(M(2)));
     /* Of two or more the first by document 01's order. */
     VIEW_REFUSED(5, 0, LEPUGASO_REFUSED_ABSENT, 0, PATH(M(0)));
     VIEW_REFUSED(0, 0, LEPUGASO_REFUSED_SHORT_BUFFER, 0, PATH(M(0)));
@@ -563,10 +619,14 @@ static void set_scalars(void) {
 static void set_refusals(void) {
     SET_REFUSED(NO_ENTRY, 64, 1, LEPUGASO_REFUSED_ENTRY, 0, WHOLE);
     SET_REFUSED(5, 64, 1, LEPUGASO_REFUSED_ABSENT, 0, WHOLE);
-    SET_REFUSED(6, 64, 1, LEPUGASO_REFUSED_ABSENT, 0, PATH(0));
     SET_REFUSED(0, 64, 1, LEPUGASO_REFUSED_NOT_STORABLE, 0, WHOLE);
     SET_REFUSED(22, 64, 1, LEPUGASO_REFUSED_NOT_STORABLE, 0, PATH(M(0)));
     SET_REFUSED(23, 64, 1, LEPUGASO_REFUSED_NOT_STORABLE, 0, PATH(0, 0));
+    SET_REFUSED(6, 64, 1, LEPUGASO_REFUSED_NOT_STORABLE, 0, PATH(0));
+    SET_REFUSED(26, 64, 1, LEPUGASO_REFUSED_NOT_STORABLE, 0, PATH(3, 2));
+    SET_REFUSED(27, 64, 1, LEPUGASO_REFUSED_NOT_STORABLE, 0, PATH(0, 0));
+    SET_REFUSED(28, 64, 1, LEPUGASO_REFUSED_NOT_STORABLE, 0, PATH(M(0), 1));
+    SET_REFUSED(29, 64, 1, LEPUGASO_REFUSED_NOT_STORABLE, 0, PATH(M(0)));
     SET_REFUSED(2, 3, 1, LEPUGASO_REFUSED_SHORT_BUFFER, 0, WHOLE);
     SET_REFUSED(11, 47, 1, LEPUGASO_REFUSED_SHORT_BUFFER, 0, PATH(0, 0));
     SET_REFUSED(18, 31, 1, LEPUGASO_REFUSED_SHORT_BUFFER, 0, PATH(M(0)));
@@ -645,6 +705,7 @@ int main(void) {
     strides();
     uniform_buffers();
     conversions(file, sizeof good);
+    vectors_of_bools();
     stored_values();
     write_refusals();
     read_refusals();

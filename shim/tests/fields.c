@@ -148,12 +148,15 @@ static const uint8_t types[] = {
     STRUCT(7, 2),     /* 17: u32, bool */
     RUNTIME_ARRAY(0), /* 18: of bool */
     ARRAY(7, 2),      /* 19: of atomic<u32> */
+    VECTOR(3, 0),     /* 20: vec3<bool>, not storable */
+    STRUCT(9, 2),     /* 21: u32, vec3<bool> */
     MEMBER(2), MEMBER(8), MEMBER(6), MEMBER(4), MEMBER(3), /* 0 to 4 */
     MEMBER(1), MEMBER(15),                                 /* 5, 6 */
     MEMBER(2), MEMBER(0),                                  /* 7, 8 */
-    TRAILER(20, 9),
+    MEMBER(2), MEMBER(20),                                 /* 9, 10 */
+    TRAILER(22, 11),
 };
-enum { NO_ENTRY = 20, MOST = 256 };
+enum { NO_ENTRY = 22, MOST = 256 };
 
 /* What a buffer holds before a call: no two of its bytes are the same. */
 static void fill(uint8_t *buf, size_t length) {
@@ -263,6 +266,8 @@ static void refusals(void) {
     REFUSED(0, 64, LEPUGASO_REFUSED_NOT_STORABLE, 0, WHOLE);
     REFUSED(17, 64, LEPUGASO_REFUSED_NOT_STORABLE, 0, PATH(M(0)));
     REFUSED(18, 64, LEPUGASO_REFUSED_NOT_STORABLE, 0, PATH(0));
+    REFUSED(20, 64, LEPUGASO_REFUSED_NOT_STORABLE, 0, PATH(0));
+    REFUSED(21, 64, LEPUGASO_REFUSED_NOT_STORABLE, 0, PATH(M(0)));
     REFUSED(1, 0, LEPUGASO_REFUSED_SHORT_BUFFER, 0, WHOLE);
     REFUSED(2, 3, LEPUGASO_REFUSED_SHORT_BUFFER, 0, WHOLE);
     REFUSED(13, 47, LEPUGASO_REFUSED_SHORT_BUFFER, 0, PATH(M(0)));
