@@ -26,8 +26,8 @@ fn raised(kind: u32) -> bool
     kind != ATOMIC
 }
 
-// Whether a member of the value `l` may start at `start`. The alignment of its type divides that, a power of two, so that for structs
-// and arrays the unit is left to ask.
+// Whether a member of the value `l` may start at `start`. Every start is a multiple of the type's own alignment, a power of two, so for
+// structs and arrays the unit alone is left to ask.
 fn start_keeps(l: Value, earliest: usize, start: usize) -> bool
     ensures { λ r. ⌜ r ≡ startKeeps l earliest start ⌝ }
 {
