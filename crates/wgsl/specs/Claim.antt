@@ -1,7 +1,7 @@
--- What the laws of proofs/Claims say: the predicates that they use, in the order of the laws.
+-- What the laws of proofs/Claims and Requests say: the predicates that they use.
 --
--- In order: bytes; the lowest bad entry; strides; places; where members lie; paths; bools; the entry that a call is about; when a call is good; what a
--- call leaves; the uniform profile; the places of refusals.
+-- In order: bytes; the lowest bad entry; strides; places; where members lie; paths; bools; the entry that a call is about; when a call is
+-- good; what a call leaves; the uniform profile; the places of refusals.
 -- Not here: demand 3 (`Demand`).
 -- Definitions only. Assumes nothing.
 use Prim.Native.Nat.{ℕ, zero, suc, _+_, _*_, _^_, _<_, _≤_}
