@@ -14,7 +14,7 @@ use borrow.Author.Tests.{eqb-true, eqb-false}
 use lib.Arith.{lt-of-le-ne}
 use lib.Dec.{eqb}
 use Rattle.wgsl.specs.Round.{IsPower, isPower}
-use Rattle.wgsl.specs.Types.{Scalar, bool, i32, u32, f32, f16, abstractInt, abstractFloat, Ty, scalar, vector, matrix, array, runtime, atomic, struct, Members, no-more, member, everywhere, everyMember}
+use Rattle.wgsl.specs.Types.{Scalar, bool, i32, u32, f32, f16, abstractInt, abstractFloat, i64, u64, f64, Ty, scalar, vector, matrix, array, runtime, atomic, struct, Members, no-more, member, everywhere, everyMember}
 use Rattle.wgsl.specs.Size.{both, givenOr, widthOf, vec3Align, vectorSize, vectorAlign, alignOf, membersAlign}
 use Rattle.wgsl.specs.File.{between}
 use Rattle.wgsl.specs.Rule.{isAtomicScalar, isAllowed, isWellFormed, membersGivenFit, givenAlignFits, givenSizeFits, isMultiple}
@@ -27,12 +27,15 @@ use Rattle.wgsl.proofs.Power.{power-tested, power, power-double, power-
 pub record Width (s : Scalar) (w : ℕ) : Type 0 where
   pub is-power : IsPower w
   pub low : 2 ≤ w
-  pub high : w ≤ 4
+  pub high : w ≤ 8
 
 four : {s : Scalar} (w : ℕ) → some 4 ≡ some w → Width s w
 four w e = let q : w ≡ 4 = cc in record { is-power = rw q (power 2); low = omega arith; high = omega arith }
 
--- A scalar that has a size has 2 or 4 bytes.
+eight : {s : Scalar} (w : ℕ) → some 8 ≡ some w → Width s w
+eight w e = let q : w ≡ 8 = cc in record { is-power = rw q (power 3); low = omega arith; high = omega arith }
+
+-- A scalar that has a size has 2, 4 or 8 bytes.
 pub width-power : (s : Scalar) (w : ℕ) → widthOf s ≡ some w → Width s w
 unfolding widthOf
 width-power bool w e = four w e
@@ -42,6 +45,9 @@ width-power f32 w e = four w e
 width-power f16 w e = let q : w ≡ 2 = cc in record { is-power = rw q (power 1); low = omega arith; high = omega arith }
 width-power abstractInt w e = some-not-none {A = ℕ} {a = w} e refl
 width-power abstractFloat w e = some-not-none {A = ℕ} {a = w} e refl
+width-power i64 w e = eight w e
+width-power u64 w e = eight w e
+width-power f64 w e = eight w e
 
 -- A scalar that an atomic may hold has 4 bytes.
 pub atomic-width : (s : Scalar) → isAtomicScalar s ≡ true → widthOf s ≡ some 4
@@ -53,6 +59,9 @@ atomic-width f32 e = refl
 atomic-width f16 e = true-not-false e refl
 atomic-width abstractInt e = true-not-false e refl
 atomic-width abstractFloat e = true-not-false e refl
+atomic-width i64 e = true-not-false e refl
+atomic-width u64 e = true-not-false e refl
+atomic-width f64 e = true-not-false e refl
 
 -- ---- vectors
 
@@ -73,6 +82,9 @@ vec3-align f32 a e = (4, refl, cc)
 vec3-align f16 a e = (2, refl, cc)
 vec3-align abstractInt a e = some-not-none {A = ℕ} {a = a} e refl
 vec3-align abstractFloat a e = some-not-none {A = ℕ} {a = a} e refl
+vec3-align i64 a e = some-not-none {A = ℕ} {a = a} e refl
+vec3-align u64 a e = some-not-none {A = ℕ} {a = a} e refl
+vec3-align f64 a e = some-not-none {A = ℕ} {a = a} e refl
 
 multiple-of : (k m w a : ℕ) (s : Scalar) → widthOf s ≡ some w → a ≡ m * w → IsPower (m * w) → k ≤ m → VectorAligned k s a
 multiple-of k m w a s h e p l =

@@ -10,15 +10,15 @@ use mathlib.Core.Option.{none, some}
 use mathlib.Core.Path.{_≡_, refl, sym, _∙_}
 use native.Mathlib.Omega.{arith}
 use borrow.Author.Tests.{leb-true, leb-false}
-use lib.Dec.{leb}
 use lib.ListN.{length, take, getD, getElem?}
-use Rattle.wgsl.specs.Types.{Scalar, Ty, scalar, vector, matrix, array, runtime, atomic, struct, Members, scalarKind}
+use Rattle.wgsl.specs.Types.{Scalar, Ty, scalar, vector, matrix, array, runtime, atomic, struct, Members, scalarKind, isScalarKind}
 use Rattle.wgsl.specs.Said.{good}
 use Rattle.wgsl.specs.File.{trailerOf, lengthBy, TypeEntry, typeEntryAt}
 use Rattle.wgsl.specs.Rule.{membersFrom, typeOfEntry, typesOf}
 use Rattle.wgsl.proofs.Absent.{some-not-none}
 use Rattle.wgsl.proofs.Judged.{judged-good}
 use Rattle.wgsl.proofs.Accepted.{accepted, below-entry}
+use Rattle.wgsl.proofs.ScalarKind.{other-range, no-scalar}
 use Rattle.wgsl.proofs.Fields.{OverScalar, OverType, OverMembers, scalar-entry, vector-entry, matrix-entry, array-entry, runtime-entry, runtime-count, atomic-entry, struct-entry, kind-bounded}
 
 module _ {A : Type 0} where
@@ -81,7 +81,7 @@ module _ {f : List ℕ} {ts : List Ty} {k : ℕ} {t : Ty} {x : TypeEntry} (at : 
   made : typeOfEntry f (take k ts) k ≡ some t
   made = entry-made f ts (at .good-file) k t (at .type-is)
 
-  pub scalar-at : x .kind ≤ 6 → (s : Scalar) × (t ≡ scalar s) × (scalarKind s ≡ x .kind)
+  pub scalar-at : isScalarKind (x .kind) ≡ true → (s : Scalar) × (t ≡ scalar s) × (scalarKind s ≡ x .kind)
   scalar-at h = rw (at .fields-are) (scalar-entry f (take k ts) k t made (rw (at .fields-are) at h))
 
   pub vector-at : x .kind ≡ 7 → OverScalar ts (x .reference) t (vector (x .rows))
@@ -105,15 +105,18 @@ module _ {f : List ℕ} {ts : List Ty} {k : ℕ} {t : Ty} {x : TypeEntry} (at : 
   pub struct-at : x .kind ≡ 12 → OverMembers f (take k ts) k t (x .reference) (x .count)
   struct-at h = rw (at .fields-are) (struct-entry f (take k ts) k t made (rw (at .fields-are) at h))
 
-  pub kind-high : x .kind ≤ 12
-  kind-high = rw (at .fields-are) (kind-bounded f (take k ts) k t made)
+  pub kind-high : isScalarKind (x .kind) ≡ false → x .kind ≤ 12
+  kind-high h = rw (at .fields-are) (kind-bounded f (take k ts) k t made (rw (at .fields-are) at h))
 
   -- An entry of kind 7 to 11 refers to an entry of a lower number.
-  pub reference-lower : 6 < x .kind → (x .kind ≡ 12 → ⊥) → x .reference < k
+  pub reference-lower : isScalarKind (x .kind) ≡ false → (x .kind ≡ 12 → ⊥) → x .reference < k
   reference-lower h not-struct = rw (at .fields-are) (low (typeEntryAt f k .kind - 7) (omega (arith, six)))
     where
+      other : isScalarKind (typeEntryAt f k .kind) ≡ false
+      other = rw (at .fields-are) at h
+
       six : 6 < typeEntryAt f k .kind
-      six = rw (at .fields-are) at h
+      six = other-range _ other .0
 
       low : (n : ℕ) → typeEntryAt f k .kind ≡ n + 7 → typeEntryAt f k .reference < k
       low zero e = getElem-first k ts _ (vector-entry f (take k ts) k t made e .element-is) .0
@@ -122,7 +125,7 @@ module _ {f : List ℕ} {ts : List Ty} {k : ℕ} {t : Ty} {x : TypeEntry} (at : 
       low (suc (suc (suc zero))) e = getElem-first k ts _ (runtime-entry f (take k ts) k t made e .element-is) .0
       low (suc (suc (suc (suc zero)))) e = getElem-first k ts _ (atomic-entry f (take k ts) k t made e .element-is) .0
       low (suc (suc (suc (suc (suc n))))) e =
-          let r : typeEntryAt f k .kind ≤ 12 = kind-bounded f (take k ts) k t made in
+          let r : typeEntryAt f k .kind ≤ 12 = kind-bounded f (take k ts) k t made other in
           let same : typeEntryAt f k .kind ≡ 12 = omega arith in
           absurd (not-struct (rw (at .fields-are) same))
 
@@ -138,34 +141,34 @@ pub data Refers (f : List ℕ) (ts : List Ty) (k : ℕ) (x : TypeEntry) : Ty →
 
 -- An entry makes its type of what it refers to.
 pub refers : {f : List ℕ} {ts : List Ty} {k : ℕ} {t : Ty} {x : TypeEntry} → At f ts k t x → Refers f ts k x t
-refers {f} {ts} {k} {t} {x} at = go (leb (x .kind) 6) refl
+refers {f} {ts} {k} {t} {x} at = go (isScalarKind (x .kind)) refl
   where
     low : (n : ℕ) → x .kind ≡ n + 7 → n < 5 → x .reference < k
-    low n e h = reference-lower at (omega arith) (λ q. omega arith)
+    low n e h = reference-lower at (no-scalar _ (omega arith) (omega arith)) (λ q. omega arith)
 
-    over : (n : ℕ) → x .kind ≡ n + 7 → Refers f ts k x t
-    over zero e =
+    over : (n : ℕ) → x .kind ≡ n + 7 → x .kind ≤ 12 → Refers f ts k x t
+    over zero e high =
         let o = vector-at at e in
         rw (o .type-is) (to-vector (o .element) (low 0 e (omega arith)) (o .element-is))
-    over (suc zero) e =
+    over (suc zero) e high =
         let o = matrix-at at e in
         rw (o .type-is) (to-matrix (o .element) (low 1 e (omega arith)) (o .element-is))
-    over (suc (suc zero)) e =
+    over (suc (suc zero)) e high =
         let o = array-at at e in
         rw (o .type-is) (to-array (o .element) (low 2 e (omega arith)) (o .element-is))
-    over (suc (suc (suc zero))) e =
+    over (suc (suc (suc zero))) e high =
         let o = runtime-at at e in
         rw (o .type-is) (to-runtime (o .element) (runtime-at-count at e) (low 3 e (omega arith)) (o .element-is))
-    over (suc (suc (suc (suc zero)))) e =
+    over (suc (suc (suc (suc zero)))) e high =
         let o = atomic-at at e in
         rw (o .type-is) (to-atomic (o .element) (low 4 e (omega arith)) (o .element-is))
-    over (suc (suc (suc (suc (suc zero))))) e =
+    over (suc (suc (suc (suc (suc zero))))) e high =
         let o = struct-at at e in
         rw (o .type-is) (to-members (o .members) (o .members-are) (o .within))
-    over (suc (suc (suc (suc (suc (suc n)))))) e = absurd (omega (arith, kind-high at))
+    over (suc (suc (suc (suc (suc (suc n)))))) e high = absurd (omega arith)
 
-    go : (b : Bool) → leb (x .kind) 6 ≡ b → Refers f ts k x t
-    go true q = let (s, is, of) = scalar-at at (leb-true _ _ q) in rw is (to-none s)
+    go : (b : Bool) → isScalarKind (x .kind) ≡ b → Refers f ts k x t
+    go true q = let (s, is, of) = scalar-at at q in rw is (to-none s)
     go false q =
-        let h : 6 < x .kind = leb-false _ _ q in
-        over (x .kind - 7) (omega arith)
+        let h : 6 < x .kind = other-range _ q .0 in
+        over (x .kind - 7) (omega arith) (kind-high at q)

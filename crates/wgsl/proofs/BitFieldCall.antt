@@ -7,18 +7,18 @@ use mathlib.Core.Bool.{Bool, true, false, not, cond}
 use mathlib.Core.List.{List, [], _∷_, map}
 use mathlib.Core.Path.{_≡_, refl, ap, sym, _∙_}
 use native.Mathlib.Omega.{arith}
-use borrow.Author.Tests.{not-false}
+use borrow.Author.Tests.{not-false, eq-eqb}
 use lib.ListN.{length, getD}
 use Rattle.wgsl.specs.Number.{load, store}
-use Rattle.wgsl.specs.Round.{limit}
-use Rattle.wgsl.specs.Types.{Scalar, bool, i32, u32, f32, f16, abstractInt, abstractFloat, Ty}
+use Rattle.wgsl.specs.Round.{limit, up}
+use Rattle.wgsl.specs.Types.{Scalar, bool, i32, u32, f32, f16, abstractInt, abstractFloat, i64, u64, f64, Ty}
 use Rattle.wgsl.specs.Size.{present, widthOf, isStorable}
 use Rattle.wgsl.specs.Said.{good, refused, orRefuse}
-use Rattle.wgsl.specs.Place.{elementsIn, one, shapeOf, spanOf, wordPlaces, storeWords, wordCount}
+use Rattle.wgsl.specs.Place.{elementsIn, one, shapeOf, spanOf, wordPlaces, storeWords, wordCount, wordsFor, wordsOver}
 use Rattle.wgsl.specs.Path.{Target, stepOf}
 use Rattle.wgsl.specs.Call.{Done, entryFor, isShort, targetIn, targetCall, viewCall, scalarAt, setScalar, setTarget, setCall}
 use Rattle.wgsl.specs.BitField.{bitsOf, repeatedTop, inserted}
-use Rattle.wgsl.specs.Claim.{LaidOut, Fit, GoodIf, CanField}
+use Rattle.wgsl.specs.Claim.{LaidOut, Fit, GoodIf, CanField, Holds}
 use Rattle.wgsl.specs.Demand.{Given, Leading, SetThenRead}
 use Rattle.wgsl.specs.BitFieldCall.{isInteger, isSigned, FoundInteger, integerOf, integerAt, wordOf, extractedAs, extractCall, insertCall}
 use Rattle.wgsl.proofs.Absent.{true-not-false}
@@ -46,6 +46,18 @@ integer-width f32 e = true-not-false e refl
 integer-width f16 e = true-not-false e refl
 integer-width abstractInt e = true-not-false e refl
 integer-width abstractFloat e = true-not-false e refl
+integer-width i64 e = true-not-false e refl
+integer-width u64 e = true-not-false e refl
+integer-width f64 e = true-not-false e refl
+
+-- It takes one word, and holds every number of four bytes.
+pub integer-places : (s : Scalar) (a : ℕ) → isInteger s ≡ true → wordPlaces s a ≡ record { at = a; width = 4 } ∷ []
+unfolding wordPlaces wordsFor wordsOver up
+integer-places s a e = rw (integer-width s e)
+
+integer-holds : (s : Scalar) (a w : ℕ) → isInteger s ≡ true → w < 256 ^ 4 → Holds (present (widthOf s)) a (w ∷ [])
+unfolding Fit wordsFor wordsOver up
+integer-holds s a w e small = record { count = rw (integer-width s e); words-fit = rw (integer-width s e) (small, tt) }
 
 -- where it lies
 abbrev found : ℕ → Scalar → FoundInteger
@@ -142,37 +154,35 @@ module _ {f : List ℕ} {e : ℕ} {b path : List ℕ} {a : ℕ} {s : Scalar} (l 
   word-is = rw (integer-width s integer)
 
   -- An insertion is a set with the word that has the field in it.
-  pub insertion-is-set : ((i : ℕ) → getD b i 0 < 256) → (new offset count : ℕ) → insertCall f e path new offset count b ≡ setCall f e path (inserted (load 4 b a) new offset count) b
-  unfolding insertCall setCall setTarget setScalar integerAt scalarAt orRefuse wordPlaces Fit
+  pub insertion-is-set : ((i : ℕ) → getD b i 0 < 256) → (new offset count : ℕ) → insertCall f e path new offset count b ≡ setCall f e path (inserted (load 4 b a) new offset count ∷ []) b
+  unfolding insertCall setCall setTarget setScalar integerAt scalarAt orRefuse wordPlaces
   insertion-is-set bytes new offset count = go (isStorable (v .type)) refl
     where
       w : ℕ
       w = inserted (load 4 b a) new offset count
 
-      fits : w < 256 ^ present (widthOf s)
-      fits =
-          rw (integer-width s integer)
-          (inserted-word (load 4 b a) new offset count (load-bounded 4 b a bytes))
+      holds : Holds (present (widthOf s)) a (w ∷ [])
+      holds = integer-holds s a w integer (inserted-word (load 4 b a) new offset count (load-bounded 4 b a bytes))
 
-      go : (q : Bool) → isStorable (v .type) ≡ q → insertCall f e path new offset count b ≡ setCall f e path w b
+      go : (q : Bool) → isStorable (v .type) ≡ q → insertCall f e path new offset count b ≡ setCall f e path (w ∷ []) b
       go true q =
           then-is _ (integer-is q)
           ∙ ap (λ (x : ℕ). good (done a (storeWords (wordPlaces s a) (inserted x new offset count ∷ []) b))) word-is
           ∙ sym (then-is _ (stored-yes q)
           ∙ then-is _ refl
-          ∙ next-is _ (fit-checkWords 0 (wordPlaces s a) (w ∷ []) (fits, tt)))
+          ∙ refuse-no 14 0 (ap not (eq-eqb _ _ (holds .count)))
+          ∙ next-is _ (fit-checkWords 0 (wordPlaces s a) (w ∷ []) (holds .words-fit)))
       go false q = then-refused _ (then-refused _ (stored-no q)) ∙ sym (then-refused _ (stored-no q))
 
 -- ---- so it changes one word alone
 
 -- Demand 3 for an insertion: it is never refused, the bytes outside its scalar stay, and a read then gives the old words with the word
 -- replaced that has the field in it.
-pub insertion-alone : {f : List ℕ} {e : ℕ} {b path : List ℕ} {a : ℕ} {s : Scalar} (g : Given f e b) → Leading f e b path a s → isInteger s ≡ true → ((i : ℕ) → getD b i 0 < 256) → (new offset count : ℕ) (ws : List ℕ) → wordCount 0 (g .type) ≤ length ws → (x : SetThenRead g path a s (inserted (load 4 b a) new offset count) ws) × (insertCall f e path new offset count b ≡ good (done a (x .b′)))
+pub insertion-alone : {f : List ℕ} {e : ℕ} {b path : List ℕ} {a : ℕ} {s : Scalar} (g : Given f e b) → Leading f e b path a s → isInteger s ≡ true → ((i : ℕ) → getD b i 0 < 256) → (new offset count : ℕ) (ws : List ℕ) → wordCount 0 (g .type) ≤ length ws → (x : SetThenRead g path a s (inserted (load 4 b a) new offset count ∷ []) ws) × (insertCall f e path new offset count b ≡ good (done a (x .b′)))
 insertion-alone {b = b} {path = path} {a = a} {s = s} g l integer bytes new offset count ws enough =
-    let fits : inserted (load 4 b a) new offset count < 256 ^ present (widthOf s) =
-    rw (integer-width s integer)
-    (inserted-word (load 4 b a) new offset count (load-bounded 4 b a bytes)) in
-    let x = demand-three g .set-read path a s l (inserted (load 4 b a) new offset count) fits ws enough in
+    let w = inserted (load 4 b a) new offset count in
+    let holds = integer-holds s a w integer (inserted-word (load 4 b a) new offset count (load-bounded 4 b a bytes)) in
+    let x = demand-three g .set-read path a s l (w ∷ []) holds ws enough in
     (x, insertion-is-set l integer bytes new offset count ∙ x .set-is)
 
 -- ---- what is extracted after it
@@ -215,7 +225,7 @@ extracted-again s old new offset count =
 
 -- Extracting a freshly inserted field gives it back, cut to c bits, and for i32 with the top one of them repeated above.
 pub extraction-after-insertion : (f : List ℕ) (e : ℕ) (path b : List ℕ) → ((i : ℕ) → getD b i 0 < 256) → (new offset count : ℕ) (x : FoundInteger) → integerAt f e path b ≡ good x → (d : Done) → insertCall f e path new offset count b ≡ good d → extractCall f e path (d .contents) offset count ≡ good (cond (isSigned (x .scalar)) (repeatedTop (bitsOf offset count) (new % 2 ^ bitsOf offset count)) (new % 2 ^ bitsOf offset count))
-unfolding insertCall extractCall wordOf storeWords wordPlaces
+unfolding insertCall extractCall wordOf storeWords
 extraction-after-insertion f e path b bytes new offset count x h d is =
     let (integer, inside, within) = integer-room f e path b x h in
     let four = integer-width (x .scalar) integer in
@@ -223,7 +233,7 @@ extraction-after-insertion f e path b bytes new offset count x h d is =
     let w : ℕ = inserted (load 4 b at) new offset count in
     let made : insertCall f e path new offset count b ≡ good (done at (storeWords (wordPlaces (x .scalar) at) (inserted (wordOf x b) new offset count ∷ []) b)) = then-is _ h in
     let same : d ≡ done at (storeWords (wordPlaces (x .scalar) at) (inserted (wordOf x b) new offset count ∷ []) b) = cc in
-    let after : d .contents ≡ store 4 b at w = ap (λ (y : Done). y .contents) same ∙ rw four in
+    let after : d .contents ≡ store 4 b at w = ap (λ (y : Done). y .contents) same ∙ rw (integer-places (x .scalar) at integer, four) in
     let long : length (d .contents) ≡ length b = ap length after ∙ length-store 4 b at w in
     let back : load (present (widthOf (x .scalar))) (d .contents) at ≡ w =
     rw (four, after) (load-store 4 b at w inside (inserted-word (load 4 b at) new offset count (load-bounded 4 b at bytes))) in

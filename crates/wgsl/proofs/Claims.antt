@@ -17,7 +17,7 @@ use Rattle.wgsl.specs.Types.{Scalar, Ty, struct, Members, isOpen, everyw
 use Rattle.wgsl.specs.Size.{present, widthOf, alignOf, offsetsOf, numbersOf, hasLayout}
 use Rattle.wgsl.specs.Said.{good, refused}
 use Rattle.wgsl.specs.Rule.{isWellFormed, judged, typesBelow, typesOf}
-use Rattle.wgsl.specs.Place.{extentOf, elementsIn, shapeOf, Place, places, wordCount}
+use Rattle.wgsl.specs.Place.{extentOf, elementsIn, shapeOf, Place, places, wordCount, wordPlaces}
 use Rattle.wgsl.specs.Call.{Done, entryOf, contentsOf, readCall, writeCall, viewCall, setCall}
 use Rattle.wgsl.specs.Case.{casesPass}
 use Rattle.wgsl.specs.Claim.{Outside, Lowest, Ordered, typesIn, memberStep, LaidOut, HasRoom, GoodIf, CanRead, CanWrite, CanView, CanSet, Wrote, Read, PlacesFit}
@@ -90,8 +90,8 @@ numbers-within-limit = entry.entry-limit
 pub places-in-order : (f : List ℕ) (e : ℕ) (t : Ty) → entryOf f e ≡ good t → hasLayout t ≡ true → (n : ℕ) → Ordered (places n t) 0 (extentOf n t)
 places-in-order = call.entry-places
 
--- A type of fixed size, and an open one with an element, has at least one word.
-pub some-words : (n : ℕ) (t : Ty) → everywhere isWellFormed t ≡ true → (isOpen t ≡ true → 1 ≤ n) → 1 ≤ wordCount n t
+-- A type with an alignment, if it is open with an element, has at least one word.
+pub some-words : (n : ℕ) (t : Ty) (a : ℕ) → everywhere isWellFormed t ≡ true → alignOf t ≡ some a → (isOpen t ≡ true → 1 ≤ n) → 1 ≤ wordCount n t
 some-words = count.words-positive
 
 -- ---- where members lie
@@ -113,7 +113,7 @@ writing-good-if = goods.write-good-if
 pub viewing-good-if : (f : List ℕ) (e : ℕ) (steps b : List ℕ) → GoodIf (viewCall f e steps b) (CanView f e steps b)
 viewing-good-if = goods.view-good-if
 
-pub setting-good-if : (f : List ℕ) (e : ℕ) (steps : List ℕ) (w : ℕ) (b : List ℕ) → GoodIf (setCall f e steps w b) (CanSet f e steps w b)
+pub setting-good-if : (f : List ℕ) (e : ℕ) (steps ws b : List ℕ) → GoodIf (setCall f e steps ws b) (CanSet f e steps ws b)
 setting-good-if = goods.set-good-if
 
 -- ---- writing and reading
@@ -154,8 +154,8 @@ marked-cases = cases-pass
 pub demand-3 : {f : List ℕ} {e : ℕ} {b : List ℕ} (g : Given f e b) → DemandThree g
 demand-3 = demand-three
 
--- A path to a scalar leads to a place, and each place has exactly one such path.
-pub path-has-place : {f : List ℕ} {e : ℕ} {b path : List ℕ} {a : ℕ} {s : Scalar} (g : Given f e b) → Leading f e b path a s → List·Memᴰ (record { at = a; width = present (widthOf s) }) (places 0 (g .type))
+-- A path to a scalar leads to the places of its words, and each place has exactly one such path.
+pub path-has-place : {f : List ℕ} {e : ℕ} {b path : List ℕ} {a : ℕ} {s : Scalar} (g : Given f e b) → Leading f e b path a s → (p : Place) → List·Memᴰ p (wordPlaces s a) → List·Memᴰ p (places 0 (g .type))
 path-has-place = ways.path-has-place
 
 pub place-has-one-path : {f : List ℕ} {e : ℕ} {b : List ℕ} (g : Given f e b) (p : Place) → List·Memᴰ p (places 0 (g .type)) → OnePath g p

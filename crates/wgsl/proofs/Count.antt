@@ -5,17 +5,20 @@
 use Prim.Native.Nat.{ℕ, zero, suc, _+_, _*_, _<_, _≤_}
 use mathlib.Core.Bool.{true, false}
 use mathlib.Core.List.{List}
-use mathlib.Core.Option.{Option, some}
+use mathlib.Core.Option.{Option, none, some}
 use mathlib.Core.Path.{_≡_, refl, ap, _∙_}
 use native.Mathlib.Omega.{arith}
 use native.Mathlib.Nat.{zero-mul, suc-mul, mul-one, mul-left-comm, mul-le-mul-left, mul-pos}
 use lib.ListN.{length, length-append}
-use Rattle.wgsl.specs.Types.{Scalar, bool, i32, u32, f32, f16, abstractInt, abstractFloat, Ty, scalar, vector, matrix, array, runtime, atomic, struct, Members, no-more, member, endsInRuntime, isOpen, everywhere, everyMember}
+use Rattle.wgsl.specs.Round.{up}
+use Rattle.wgsl.specs.Types.{Scalar, bool, i32, u32, f32, f16, abstractInt, abstractFloat, i64, u64, f64, Ty, scalar, vector, matrix, array, runtime, atomic, struct, Members, no-more, member, endsInRuntime, isOpen, everywhere, everyMember}
 use Rattle.wgsl.specs.Size.{present, widthOf, sizeOf, alignOf, memberEnd}
-use Rattle.wgsl.specs.Rule.{countOf, membersAllowed, isAllowed, isWellFormed, membersGivenFit}
-use Rattle.wgsl.specs.Place.{extentOf, Shape, one, parts, field, whole, column, shapeOf, fieldsOf, spanOf, wordPlaces, repeated, placesOf, places, wordCount}
+use Rattle.wgsl.specs.Rule.{isMatrixScalar, countOf, membersAllowed, isAllowed, isWellFormed, membersGivenFit}
+use Rattle.wgsl.specs.Place.{extentOf, Shape, one, parts, field, whole, column, shapeOf, fieldsOf, spanOf, wordsFor, repeated, placesOf, places, wordCount}
 use Rattle.wgsl.specs.Shapes.{shapeWords, From, Sound}
 use Rattle.wgsl.proofs.Absent.{between-true, true-not-false}
+use Rattle.wgsl.proofs.Align.{width-power, atomic-width, vector-align}
+use Rattle.wgsl.proofs.ScalarWords.{scalar-length, words-needed, words-some}
 use Rattle.wgsl.proofs.Passed.{passed, matrix-passed, array-passed, runtime-passed, struct-passed}
 use Rattle.wgsl.proofs.Tail.{sized-has, sized-takes}
 use Rattle.wgsl.proofs.Members.{first-member}
@@ -32,8 +35,8 @@ repeated-length (suc n) stride f at k h =
 
 -- A shape has as many places as words, wherever it lies.
 pub places-words : (x : Shape) (at : ℕ) → length (placesOf x at) ≡ shapeWords x
-unfolding placesOf wordPlaces shapeWords
-places-words (one s) at = refl
+unfolding placesOf shapeWords
+places-words (one s) at = scalar-length s at
 places-words (parts n stride x) at = repeated-length n stride (λ p. placesOf x p) at (shapeWords x) (λ p. places-words x p)
 places-words (field offset x rest) at = rw (length-append, places-words x (at + offset), places-words rest at)
 places-words (whole z) at = refl
@@ -45,20 +48,20 @@ count-words n t = places-words (shapeOf n t) 0
 
 -- ---- how the words of a type add up
 
--- A scalar is one word.
-pub wordCount-scalar : (n : ℕ) (s : Scalar) → wordCount n (scalar s) ≡ 1
+-- A scalar takes as many words as its bytes need.
+pub wordCount-scalar : (n : ℕ) (s : Scalar) → wordCount n (scalar s) ≡ wordsFor (present (widthOf s))
 unfolding shapeOf shapeWords
 wordCount-scalar n s = count-words n (scalar s)
 
--- A vector of k scalars is k words.
-pub wordCount-vector : (n k : ℕ) (s : Scalar) → wordCount n (vector k s) ≡ k
+-- A vector takes those of its k scalars.
+pub wordCount-vector : (n k : ℕ) (s : Scalar) → wordCount n (vector k s) ≡ k * wordsFor (present (widthOf s))
 unfolding shapeOf column shapeWords
-wordCount-vector n k s = count-words n (vector k s) ∙ mul-one k
+wordCount-vector n k s = count-words n (vector k s)
 
--- A matrix is columns times rows words.
-pub wordCount-matrix : (n c r : ℕ) (s : Scalar) → wordCount n (matrix c r s) ≡ c * r
+-- A matrix takes those of its columns.
+pub wordCount-matrix : (n c r : ℕ) (s : Scalar) → wordCount n (matrix c r s) ≡ c * (r * wordsFor (present (widthOf s)))
 unfolding shapeOf column shapeWords
-wordCount-matrix n c r s = count-words n (matrix c r s) ∙ ap (λ (i : ℕ). c * i) (mul-one r)
+wordCount-matrix n c r s = count-words n (matrix c r s)
 
 -- An array of k elements has k times the words of one.
 pub wordCount-array : (n k : ℕ) (t : Ty) → wordCount n (array k t) ≡ k * wordCount n t
@@ -70,8 +73,8 @@ pub wordCount-runtime : (n : ℕ) (t : Ty) → wordCount n (runtime t) ≡ n * w
 unfolding shapeOf shapeWords
 wordCount-runtime n t = rw (count-words n t) (count-words n (runtime t))
 
--- An atomic is one word.
-pub wordCount-atomic : (n : ℕ) (s : Scalar) → wordCount n (atomic s) ≡ 1
+-- An atomic takes those of its scalar.
+pub wordCount-atomic : (n : ℕ) (s : Scalar) → wordCount n (atomic s) ≡ wordsFor (present (widthOf s))
 unfolding shapeOf shapeWords
 wordCount-atomic n s = count-words n (atomic s)
 
@@ -93,22 +96,48 @@ wordCount-struct n k ms = count-words n (struct k ms) ∙ fields-words n (extent
 
 -- ---- bounds
 
-scalar-room : (s : Scalar) → 0 < present (widthOf s) → 2 ≤ present (widthOf s)
-unfolding present widthOf
-scalar-room bool h = omega arith
-scalar-room i32 h = omega arith
-scalar-room u32 h = omega arith
-scalar-room f32 h = omega arith
-scalar-room f16 h = omega arith
-scalar-room abstractInt h = omega arith
-scalar-room abstractFloat h = omega arith
+scalar-room : (s : Scalar) → 2 * wordsFor (present (widthOf s)) ≤ present (widthOf s)
+unfolding present widthOf wordsFor up
+scalar-room bool = omega arith
+scalar-room i32 = omega arith
+scalar-room u32 = omega arith
+scalar-room f32 = omega arith
+scalar-room f16 = omega arith
+scalar-room abstractInt = omega arith
+scalar-room abstractFloat = omega arith
+scalar-room i64 = omega arith
+scalar-room u64 = omega arith
+scalar-room f64 = omega arith
+
+-- A scalar takes at most two words.
+pub words-few : (s : Scalar) → wordsFor (present (widthOf s)) ≤ 2
+unfolding present
+words-few s = omega (arith, words-needed (present (widthOf s)), bytes (widthOf s) refl)
+  where
+    bytes : (x : Option ℕ) → widthOf s ≡ x → present x ≤ 8
+    bytes none e = let z : present none ≡ 0 = refl in omega arith
+    bytes (some w) e = width-power s w e .high
+
+-- A scalar that a matrix may hold takes one word, if it has a size.
+pub matrix-word : (s : Scalar) → isMatrixScalar s ≡ true → 0 < present (widthOf s) → wordsFor (present (widthOf s)) ≡ 1
+unfolding isMatrixScalar widthOf present wordsFor up
+matrix-word bool m w = refl
+matrix-word i32 m w = refl
+matrix-word u32 m w = refl
+matrix-word f32 m w = refl
+matrix-word f16 m w = refl
+matrix-word abstractInt m w = absurd (omega arith)
+matrix-word abstractFloat m w = absurd (omega arith)
+matrix-word i64 m w = true-not-false m refl
+matrix-word u64 m w = true-not-false m refl
+matrix-word f64 m w = true-not-false m refl
 
 -- Each word of a sound shape takes at least 2 of its bytes.
 mutual
   unfolding Sound From shapeWords spanOf
 
   pub words-room : (x : Shape) → Sound x → 2 * shapeWords x ≤ spanOf x
-  words-room (one s) sound = scalar-room s sound
+  words-room (one s) sound = scalar-room s
   words-room (parts n stride x) sound =
       let l : 2 * shapeWords x ≤ stride = omega (arith, words-room x (sound .0), sound .1) in
       rw (mul-left-comm 2 n (shapeWords x)) (mul-le-mul-left n l)
@@ -129,24 +158,31 @@ words-bounded n t a z w e h =
     let l = laid n t a w e (sized-has t z h) in
     omega (arith, count-words n t, words-room (shapeOf n t) (l .sound), l .span, sized-takes n t z w h)
 
-mutual
-  unfolding isAllowed isOpen endsInRuntime column fieldsOf shapeWords countOf
+width-words : (s : Scalar) (w : ℕ) → widthOf s ≡ some w → 1 ≤ wordsFor (present (widthOf s))
+unfolding present
+width-words s w e = rw e (words-some w (omega (arith, width-power s w e .low)))
 
-  shape-positive : (n : ℕ) (t : Ty) → everywhere isWellFormed t ≡ true → (isOpen t ≡ true → 1 ≤ n) → 1 ≤ shapeWords (shapeOf n t)
-  shape-positive n (scalar s) w h = omega arith
-  shape-positive n (vector k s) w h =
-      mul-pos (omega (arith, between-true 2 4 k (passed (vector k s) w .allowed) .0)) (omega arith)
-  shape-positive n (matrix c r s) w h =
+mutual
+  unfolding isAllowed isOpen endsInRuntime column fieldsOf shapeWords countOf alignOf
+
+  shape-positive : (n : ℕ) (t : Ty) (a : ℕ) → everywhere isWellFormed t ≡ true → alignOf t ≡ some a → (isOpen t ≡ true → 1 ≤ n) → 1 ≤ shapeWords (shapeOf n t)
+  shape-positive n (scalar s) a w e h = width-words s a e
+  shape-positive n (vector k s) a w e h =
+      let k-in = passed (vector k s) w .allowed in
+      let v = vector-align k s a k-in e in
+      mul-pos (omega (arith, between-true 2 4 k k-in .0)) (width-words s (v .width) (v .width-is))
+  shape-positive n (matrix c r s) a w e h =
       let sides = matrix-passed c r s w in
+      let v = vector-align r s a (sides .1) e in
       mul-pos (omega (arith, between-true 2 4 c (sides .0) .0))
-      (mul-pos (omega (arith, between-true 2 4 r (sides .1) .0)) (omega arith))
-  shape-positive n (array k t) w h =
+      (mul-pos (omega (arith, between-true 2 4 r (sides .1) .0)) (width-words s (v .width) (v .width-is)))
+  shape-positive n (array k t) a w e h =
       let p = array-passed k t w in
-      mul-pos (p .count) (shape-positive n t (p .below) (λ q. true-not-false q (p .closed)))
-  shape-positive n (runtime t) w h =
-      mul-pos (h refl) (shape-positive n t (runtime-passed t w .below) (λ q. h refl))
-  shape-positive n (atomic s) w h = omega arith
-  shape-positive n (struct k ms) w h =
+      mul-pos (p .count) (shape-positive n t a (p .below) e (λ q. true-not-false q (p .closed)))
+  shape-positive n (runtime t) a w e h =
+      mul-pos (h refl) (shape-positive n t a (runtime-passed t w .below) e (λ q. h refl))
+  shape-positive n (atomic s) a w e h = width-words s 4 (atomic-width s (passed (atomic s) w .allowed))
+  shape-positive n (struct k ms) a w e h =
       let p = struct-passed k ms w in
       fields-positive n (extentOf n (struct k ms)) (some 0) ms (p .below) (p .allowed) (p .given) (p .some-there) h
 
@@ -154,8 +190,8 @@ mutual
   fields-positive n z end no-more w ok g c h = absurd (omega arith)
   fields-positive n z end (member t size align ms) w ok g c h =
       let m = first-member t size align ms w ok g in
-      omega (arith, shape-positive n t (m .well) (λ q. h (member-open t size align ms m q)))
+      omega (arith, shape-positive n t (m .own) (m .well) (m .own-is) (λ q. h (member-open t size align ms m q)))
 
--- A type has at least one word, if an open one holds an element.
-pub words-positive : (n : ℕ) (t : Ty) → everywhere isWellFormed t ≡ true → (isOpen t ≡ true → 1 ≤ n) → 1 ≤ wordCount n t
-words-positive n t w h = rw (count-words n t) (shape-positive n t w h)
+-- A type with an alignment has at least one word, if an open one holds an element.
+pub words-positive : (n : ℕ) (t : Ty) (a : ℕ) → everywhere isWellFormed t ≡ true → alignOf t ≡ some a → (isOpen t ≡ true → 1 ≤ n) → 1 ≤ wordCount n t
+words-positive n t a w e h = rw (count-words n t) (shape-positive n t a w e h)

@@ -3,25 +3,23 @@
 -- In order: what the demand assumes; what follows for the entry and for a path; inside and at a multiple; apart; set, then read; the
 -- demand.
 -- Assumes nothing.
-use Prim.Native.Nat.{ℕ, suc, _+_, _%_, _^_, _<_, _≤_}
-use mathlib.Core.Bool.{false}
+use Prim.Native.Nat.{ℕ, _+_, _%_, _<_, _≤_}
+use mathlib.Core.Bool.{false, not}
 use mathlib.Core.List.{List, [], _∷_, _++_, map, append-assoc}
 use mathlib.Core.Logic.{_⊎_, ⊎-map}
-use mathlib.Core.Option.{some}
 use mathlib.Core.Path.{_≡_, refl, ap, sym, _∙_}
 use native.Mathlib.Omega.{arith}
-use borrow.Author.Tests.{le-ltb}
-use lib.ListN.{length, drop, set, getElem?, length-append}
-use lib.Seq.{set-at}
+use borrow.Author.Tests.{le-ltb, eq-eqb}
+use lib.ListN.{length, take, drop, length-append}
+use lib.Seq.{sets, sets-eq, take-at, drop-at, drop-drop}
 use Rattle.wgsl.specs.Round.{withinLimit}
-use Rattle.wgsl.specs.Number.{load}
 use Rattle.wgsl.specs.Types.{Scalar, Ty, everywhere}
 use Rattle.wgsl.specs.Size.{present, widthOf, sizeOf, hasLayout, isPlain, isStorable}
 use Rattle.wgsl.specs.Said.{good, orRefuse}
 use Rattle.wgsl.specs.Place.{elementsBy, elementsIn, one, shapeOf, spanOf, Place, wordPlaces, places, wordCount, storeWords, wordsRead}
 use Rattle.wgsl.specs.Path.{walk, stepOf}
 use Rattle.wgsl.specs.Call.{isShort, targetIn, targetCall, viewCall, scalarAt, setScalar, setTarget, setCall}
-use Rattle.wgsl.specs.Claim.{Apart, Ordered, Uncovered, Fit, Stored}
+use Rattle.wgsl.specs.Claim.{Apart, Ordered, Fit, Holds, Stored}
 use Rattle.wgsl.specs.Demand.{Given, Leading, Words, SetThenRead, DemandThree}
 use Rattle.wgsl.specs.Shapes.{Divides, Sound}
 use Rattle.wgsl.proofs.Absent.{both-hold, present-is}
@@ -29,7 +27,8 @@ use Rattle.wgsl.proofs.Said.{next-is, then-good, then-is, refuse-good, 
 use Rattle.wgsl.proofs.Path.{target, target-inside, target-multiple, paths-apart}
 use Rattle.wgsl.proofs.PathPlace.{path-place}
 use Rattle.wgsl.proofs.Step.{stepOf-injective}
-use Rattle.wgsl.proofs.Word.{length-storeWords, storeWords-uncovered, fit-checkWords, length-wordsRead, wordsRead-append, wordsRead-middle}
+use Rattle.wgsl.proofs.ScalarWords.{scalar-length}
+use Rattle.wgsl.proofs.Word.{scalar-uncovered, length-storeWords, storeWords-uncovered, fit-checkWords, length-wordsRead, wordsRead-append, wordsRead-middle}
 use Rattle.wgsl.proofs.Tail.{closed-tail, closed-extent, sized-closed}
 use Rattle.wgsl.proofs.EntryFor.{laid-good, stored-is, entry-well-formed, entry-sound}
 use Rattle.wgsl.proofs.Call.{entry-places, done, read-is}
@@ -126,72 +125,83 @@ module _ {f : List ℕ} {e : ℕ} {b : List ℕ} (g : Given f e b) where
 
 -- ---- set, then read
 
-element-seam : {A : Type 0} (front : List A) (x : A) (back : List A) → getElem? (front ++ (x ∷ back)) (length front) ≡ some x
-element-seam [] x back = refl
-element-seam (y ∷ front) x back = element-seam front x back
+-- a list of as many elements in the place of the middle one of three
+sets-middle : (front old back new : List ℕ) (n : ℕ) → length front ≡ n → length old ≡ length new → sets (front ++ (old ++ back)) n new ≡ front ++ (new ++ back)
+sets-middle front old back new n e same =
+    let l = front ++ (old ++ back) in
+    let long : length l ≡ length front + (length old + length back) = rw (length-append, length-append) refl in
+    sets-eq new l n (omega arith)
+    ∙ append-assoc (take n l) new (drop (n + length new) l)
+    ∙ ap (λ (r : List ℕ). take n l ++ (new ++ r)) (sym (drop-drop (length new) n l))
+    ∙ ap (λ (r : List ℕ). take n l ++ (new ++ drop (length new) r)) (drop-at front (old ++ back) n e)
+    ∙ ap (λ (r : List ℕ). take n l ++ (new ++ r)) (drop-at old back (length new) same)
+    ∙ ap (λ (r : List ℕ). r ++ (new ++ back)) (take-at front (old ++ back) n e)
 
--- the word w stored at the place of a scalar s is the one word that a read of the places around it finds changed
-one-changed : (before after : List Place) (s : Scalar) (a w : ℕ) (b rest : List ℕ) (hi : ℕ) → Ordered (before ++ (wordPlaces s a ++ after)) 0 hi → hi ≤ length b → w < 256 ^ present (widthOf s) → wordsRead (before ++ (wordPlaces s a ++ after)) (storeWords (wordPlaces s a) (w ∷ []) b) ++ rest ≡ set (wordsRead (before ++ (wordPlaces s a ++ after)) b ++ rest) (length before) w
-unfolding wordPlaces Fit wordsRead
-one-changed before after s a w b rest hi o room small =
-    let here = wordPlaces s a in
-    let x = load (present (widthOf s)) b a in
+-- what is stored at the places of some words is all that a read of the places around them finds changed
+words-changed : (before here after : List Place) (new b rest : List ℕ) (hi : ℕ) → Ordered (before ++ (here ++ after)) 0 hi → hi ≤ length b → length new ≡ length here → Fit here new → wordsRead (before ++ (here ++ after)) (storeWords here new b) ++ rest ≡ sets (wordsRead (before ++ (here ++ after)) b ++ rest) (length before) new
+words-changed before here after new b rest hi o room many fit =
     let front = wordsRead before b in
+    let old = wordsRead here b in
     let back = wordsRead after b in
-    let new = wordsRead-middle before here after (w ∷ []) b 0 hi o room refl (small, tt) in
-    let was = wordsRead-append before (here ++ after) b in
-    ap (λ (l : List ℕ). l ++ rest) new
-    ∙ append-assoc front (w ∷ back) rest
-    ∙ sym (set-at front x (back ++ rest) w (length before) (length-wordsRead before b))
-    ∙ ap (λ (l : List ℕ). set l (length before) w) (sym (append-assoc front (x ∷ back) rest))
-    ∙ ap (λ (l : List ℕ). set (l ++ rest) (length before) w) (sym was)
+    let was : wordsRead (before ++ (here ++ after)) b ≡ front ++ (old ++ back) =
+    wordsRead-append before (here ++ after) b ∙ ap (λ (l : List ℕ). front ++ l) (wordsRead-append here after b) in
+    ap (λ (l : List ℕ). l ++ rest) (wordsRead-middle before here after new b 0 hi o room many fit)
+    ∙ append-assoc front (new ++ back) rest
+    ∙ ap (λ (l : List ℕ). front ++ l) (append-assoc new back rest)
+    ∙ sym (sets-middle front old (back ++ rest) new (length before) (length-wordsRead before b) (length-wordsRead here b ∙ sym many))
+    ∙ ap (λ (l : List ℕ). sets (front ++ l) (length before) new) (sym (append-assoc old back rest))
+    ∙ ap (λ (l : List ℕ). sets l (length before) new) (sym (append-assoc front (old ++ back) rest))
+    ∙ ap (λ (l : List ℕ). sets (l ++ rest) (length before) new) (sym was)
 
--- a set at a path to a scalar that can hold the word is not refused
-set-done : {f : List ℕ} {e : ℕ} {b path : List ℕ} {a : ℕ} {s : Scalar} (g : Given f e b) → Leading f e b path a s → (w : ℕ) → w < 256 ^ present (widthOf s) → setCall f e path w b ≡ good (done a (storeWords (wordPlaces s a) (w ∷ []) b))
-unfolding setCall setTarget setScalar targetCall targetIn scalarAt orRefuse wordPlaces Fit
-set-done {f} {e} {b} {path} {a} {s} g l w small =
+-- a set at a path to a scalar that can hold the words is not refused
+set-done : {f : List ℕ} {e : ℕ} {b path : List ℕ} {a : ℕ} {s : Scalar} (g : Given f e b) → Leading f e b path a s → (new : List ℕ) → Holds (present (widthOf s)) a new → setCall f e path new b ≡ good (done a (storeWords (wordPlaces s a) new b))
+unfolding setCall setTarget setScalar targetCall targetIn scalarAt orRefuse wordPlaces
+set-done {f} {e} {b} {path} {a} {s} g l new holds =
     let x = fixed b g refl in
     let there = ap (λ (n : ℕ). walk 0 0 (shapeOf n (g .type)) (map stepOf path)) (x .no-elements) ∙ walks g l in
     then-is _ (then-is _ (stored-is (x .stored)) ∙ refuse-no 15 0 (x .not-short) ∙ there)
     ∙ then-is _ refl
-    ∙ next-is _ (fit-checkWords 0 (wordPlaces s a) (w ∷ []) (small, tt))
+    ∙ refuse-no 14 0 (ap not (eq-eqb _ _ (holds .count)))
+    ∙ next-is _ (fit-checkWords 0 (wordPlaces s a) new (holds .words-fit))
 
--- A word that the scalar can hold, set at a path, is read back at the scalar's position, and nothing else changes.
-pub set-then-read : {f : List ℕ} {e : ℕ} {b path : List ℕ} {a : ℕ} {s : Scalar} (g : Given f e b) → Leading f e b path a s → (w : ℕ) → w < 256 ^ present (widthOf s) → (ws : List ℕ) → wordCount 0 (g .type) ≤ length ws → SetThenRead g path a s w ws
-unfolding wordPlaces places wordCount Uncovered
-set-then-read {f} {e} {b} {path} {a} {s} g l w small ws room =
+-- Words that the scalar can hold, set at a path, are read back from the scalar's position on, and nothing else changes.
+pub set-then-read : {f : List ℕ} {e : ℕ} {b path : List ℕ} {a : ℕ} {s : Scalar} (g : Given f e b) → Leading f e b path a s → (new : List ℕ) → Holds (present (widthOf s)) a new → (ws : List ℕ) → wordCount 0 (g .type) ≤ length ws → SetThenRead g path a s new ws
+unfolding places wordCount wordPlaces
+set-then-read {f} {e} {b} {path} {a} {s} g l new holds ws room =
     let t = g .type in
     let here = wordPlaces s a in
-    let b′ = storeWords here (w ∷ []) b in
-    let same = length-storeWords here (w ∷ []) b in
+    let b′ = storeWords here new b in
+    let same = length-storeWords here new b in
+    let many : length new ≡ length here = holds .count ∙ sym (scalar-length s a) in
     let x = fixed b g refl in
     let x′ = fixed b′ g same in
     let k = wordCount 0 t in
     let p = path-place 0 0 (shapeOf 0 t) (map stepOf path) a s (walks g l) in
     let o : Ordered (p .before ++ (here ++ p .after)) 0 (g .size) = rw (p .split) at (x .ordered) in
     let rest = drop k ws in
-    let changed = one-changed (p .before) (p .after) s a w b rest (g .size) o (g .room) small in
-    let long : length (places 0 t) ≡ length (p .before) + suc (length (p .after)) =
-    ap length (p .split) ∙ length-append (p .before) (here ++ p .after) in
+    let changed = words-changed (p .before) here (p .after) new b rest (g .size) o (g .room) many (holds .words-fit) in
+    let long : length (places 0 t) ≡ length (p .before) + (length here + length (p .after)) =
+    ap length (p .split) ∙ rw (length-append, length-append) refl in
     record {
       b′ = b′;
-      set-is = set-done g l w small;
+      set-is = set-done g l new holds;
       length-same = same;
-      others-stay = λ i u. storeWords-uncovered here (w ∷ []) b i (u, tt);
+      others-stay = λ i u. storeWords-uncovered here new b i (scalar-uncovered s a i u);
       count = k;
       old = wordsRead (places 0 t) b ++ rest;
       read-before = read-is f e b ws t 0 (x .stored) (x .not-short) (x .no-elements) room;
       position = length (p .before);
       position-inside = omega arith;
       position-is =
-          ap (λ (ps : List Place). getElem? ps (length (p .before))) (p .split)
-          ∙ element-seam (p .before) (record { at = a; width = present (widthOf s) }) (p .after);
+          ap (λ (ps : List Place). take (length new) (drop (length (p .before)) ps)) (p .split)
+          ∙ ap (λ (ps : List Place). take (length new) ps) (drop-at (p .before) (here ++ p .after) _ refl)
+          ∙ take-at here (p .after) (length new) (sym many);
       read-after =
           read-is f e b′ ws t 0 (x′ .stored) (x′ .not-short) (x′ .no-elements) room
           ∙ ap (λ (l : List ℕ). good (done k l))
           (ap (λ (ps : List Place). wordsRead ps b′ ++ rest) (p .split)
           ∙ changed
-          ∙ ap (λ (ps : List Place). set (wordsRead ps b ++ rest) (length (p .before)) w) (sym (p .split)));
+          ∙ ap (λ (ps : List Place). sets (wordsRead ps b ++ rest) (length (p .before)) new) (sym (p .split)));
     }
 
 -- ---- the demand
@@ -201,5 +211,5 @@ pub demand-three : {f : List ℕ} {e : ℕ} {b : List ℕ} (g : Given f e b) →
 demand-three g = record {
   inside = λ path a s l. scalar-inside g l;
   apart = λ p q a c s u l m v w. scalars-apart g l m v w;
-  set-read = λ path a s l w small ws room. set-then-read g l w small ws room;
+  set-read = λ path a s l new holds ws room. set-then-read g l new holds ws room;
 }

@@ -66,7 +66,7 @@ elements-counted n t w o =
     let same : (m : ℕ) → wordCount m u ≡ wordCount 0 u =
     λ m. count-words m u ∙ ap shapeWords (closed-shape u (p .below) closed m 0) ∙ sym (count-words 0 u) in
     let k = wordCount 0 u in
-    let pos : 1 ≤ k = words-positive 0 u (p .below) (λ q. true-not-false q closed) in
+    let pos : 1 ≤ k = words-positive 0 u (p .aligned) (p .below) (p .aligned-is) (λ q. true-not-false q closed) in
     let all : (m : ℕ) → wordCount m t - wordCount 0 t ≡ m * k =
     λ m. let e : m * wordCount m u ≡ m * k = ap (λ (i : ℕ). m * i) (same m) in omega (arith, opened-words x m) in
     rw (all n, all 1, one-mul) (mul-div-cancel n pos)

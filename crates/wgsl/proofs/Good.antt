@@ -3,11 +3,11 @@
 -- In order: read; write; view; set.
 -- Assumes nothing.
 use Prim.Native.Nat.{ℕ, _≤_}
-use mathlib.Core.Bool.{false}
+use mathlib.Core.Bool.{false, not}
 use mathlib.Core.List.{List, [], _∷_, map}
 use mathlib.Core.Option.{some, Option·some-injective}
 use mathlib.Core.Path.{_≡_, refl, ap, _∙_}
-use borrow.Author.Tests.{ltb-false, le-ltb}
+use borrow.Author.Tests.{ltb-false, le-ltb, eq-eqb, eqb-true, not-false}
 use lib.ListN.{length}
 use Rattle.wgsl.specs.Types.{Scalar}
 use Rattle.wgsl.specs.Said.{orRefuse}
@@ -131,10 +131,10 @@ one-scalar (whole z) s e = some-not-none e refl
 pub leads-to : {off a : ℕ} {x y z : Shape} {steps : List Step} → y ≡ z → Leads off x steps a y → Leads off x steps a z
 leads-to e l = rw e at l
 
--- A set is good exactly if the entry is stored, the buffer has room, and the steps lead to one scalar that can hold the word.
-pub set-good-if : (f : List ℕ) (e : ℕ) (steps : List ℕ) (w : ℕ) (b : List ℕ) → GoodIf (setCall f e steps w b) (CanSet f e steps w b)
-unfolding setCall setTarget setScalar targetCall targetIn scalarAt orRefuse wordPlaces Fit
-set-good-if f e steps w b =
+-- A set is good exactly if the entry is stored, the buffer has room, and the steps lead to one scalar that can hold the words.
+pub set-good-if : (f : List ℕ) (e : ℕ) (steps ws b : List ℕ) → GoodIf (setCall f e steps ws b) (CanSet f e steps ws b)
+unfolding setCall setTarget setScalar targetCall targetIn scalarAt orRefuse wordPlaces
+set-good-if f e steps ws b =
     record {
       if-so = λ c.
           let t = c .type in
@@ -144,7 +144,8 @@ set-good-if f e steps w b =
             then-is {a = x} _
                 (then-is _ (stored-is (c .stored)) ∙ refuse-no 15 0 (room-short t b well (c .room)) ∙ leads-walk (c .valid) 0)
                 ∙ then-is _ refl
-                ∙ next-is _ (fit-checkWords 0 (wordPlaces (c .scalar-there) (c .offset)) (w ∷ []) (c .word-fits, tt)),
+                ∙ refuse-no 14 0 (ap not (eq-eqb _ _ (c .holds .count)))
+                ∙ next-is _ (fit-checkWords 0 (wordPlaces (c .scalar-there) (c .offset)) ws (c .holds .words-fit)),
           );
       only-if = λ d h.
           let path = then-good _ _ h in
@@ -155,7 +156,8 @@ set-good-if f e steps w b =
           let short = refuse-good _ _ _ _ (s .after) in
           let single = then-good _ _ (path .after) in
           let is = one-scalar (u .shape) (single .value) (orRefuse-good _ _ _ (single .first)) in
-          let fit = next-good _ _ (single .after) in
+          let many = refuse-good _ _ _ _ (single .after) in
+          let fit = next-good _ _ (many .1) in
           let valid = walk-leads 0 0 (shapeOf (elementsIn (length b) t) t) (map stepOf steps) u (short .1) in
           record {
             type = t;
@@ -164,6 +166,10 @@ set-good-if f e steps w b =
             offset = u .offset;
             scalar-there = single .value;
             valid = leads-to is valid;
-            word-fits = checkWords-fit 0 (wordPlaces (single .value) (u .offset)) (w ∷ []) (fit .0) .0;
+            holds =
+                record {
+                  count = eqb-true _ _ (not-false _ (many .0));
+                  words-fit = checkWords-fit 0 (wordPlaces (single .value) (u .offset)) ws (fit .0);
+                };
           };
     }

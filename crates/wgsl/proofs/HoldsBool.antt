@@ -4,7 +4,7 @@ use Prim.Native.Nat.{ℕ}
 use mathlib.Core.Bool.{Bool, true, false, not}
 use mathlib.Core.List.{List}
 use mathlib.Core.Path.{_≡_, refl}
-use Rattle.wgsl.specs.Types.{Scalar, bool, i32, u32, f32, f16, abstractInt, abstractFloat, Ty, scalar, vector, matrix, array, runtime, atomic, struct, Members, no-more, member, everywhere, everyMember}
+use Rattle.wgsl.specs.Types.{Scalar, bool, i32, u32, f32, f16, abstractInt, abstractFloat, i64, u64, f64, Ty, scalar, vector, matrix, array, runtime, atomic, struct, Members, no-more, member, everywhere, everyMember}
 use Rattle.wgsl.specs.Size.{hasLayout, isStored, isPlain, isStorable}
 use Rattle.wgsl.specs.Said.{refused}
 use Rattle.wgsl.specs.Call.{entryFor}
@@ -47,6 +47,9 @@ stored-no-bool f32 h = refl
 stored-no-bool f16 h = refl
 stored-no-bool abstractInt h = refl
 stored-no-bool abstractFloat h = refl
+stored-no-bool i64 h = refl
+stored-no-bool u64 h = refl
+stored-no-bool f64 h = refl
 
 plain-no-bool : (t : Ty) → isPlain t ≡ true → isNoBool t ≡ true
 unfolding isPlain isNoBool

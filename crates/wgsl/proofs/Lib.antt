@@ -7,6 +7,7 @@ pub mod Passed
 pub mod Said
 pub mod Align
 pub mod Judged
+pub mod ScalarKind
 pub mod Made
 pub mod Trailed
 pub mod Accepted
@@ -17,6 +18,7 @@ pub mod ReachedTypes
 pub mod Uniform
 pub mod UniformPart
 pub mod HoldsBool
+pub mod ScalarWords
 pub mod Shape
 pub mod Path
 pub mod PathPlace

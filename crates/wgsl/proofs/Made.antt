@@ -7,9 +7,9 @@ use mathlib.Core.Bool.{Bool, true, false, cond}
 use mathlib.Core.List.{List}
 use mathlib.Core.Option.{Option, none, some, Option·some-injective}
 use mathlib.Core.Path.{_≡_, refl}
-use lib.Dec.{eqb, leb}
+use lib.Dec.{eqb}
 use lib.ListN.{getElem?}
-use Rattle.wgsl.specs.Types.{Scalar, Ty, scalar, vector, matrix, array, runtime, atomic, struct, Members, no-more, everywhere, everyMember}
+use Rattle.wgsl.specs.Types.{Scalar, Ty, scalar, vector, matrix, array, runtime, atomic, struct, Members, no-more, isScalarKind, everywhere, everyMember}
 use Rattle.wgsl.specs.File.{TypeEntry, typeEntryAt}
 use Rattle.wgsl.specs.Rule.{when, andThen, lower, membersFrom, scalarMade, vectorMade, matrixMade, arrayMade, runtimeMade, atomicMade, structMade, overMade, typeMade, typeOfEntry}
 use Rattle.wgsl.proofs.Absent.{hold-both, some-not-none}
@@ -46,7 +46,7 @@ module _ (f : List ℕ) (ts : List Ty) (k : ℕ) where
   unfolding typeOfEntry typeMade overMade scalarMade vectorMade matrixMade arrayMade runtimeMade atomicMade structMade lower
   entry-made t e =
       let x : TypeEntry = typeEntryAt f k in
-      makes-cond (leb (x .kind) 6) (makes-then _ _ _ (λ s h. made-scalar s))
+      makes-cond (isScalarKind (x .kind)) (makes-then _ _ _ (λ s h. made-scalar s))
       (makes-cond (eqb (x .kind) 12) (makes-then _ _ _ (λ ms h. made-struct (x .count) (x .reference) ms h))
       (makes-cond (eqb (x .kind) 7) (makes-then _ _ _ (λ s h. made-vector (x .rows) s))
       (makes-cond (eqb (x .kind) 8) (makes-then _ _ _ (λ s h. made-matrix (x .columns) (x .rows) s))

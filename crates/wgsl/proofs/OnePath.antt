@@ -2,8 +2,8 @@
 --
 -- In order: bytes that begin at one place; steps as numbers; the one path to a place of an entry; a path's place.
 -- Assumes nothing.
-use Prim.Native.Nat.{ℕ, _^_, _<_}
-use mathlib.Core.List.{List, [], _∷_, map, List·Memᴰ, List·Memᴰ·head, Memᴰ·append-right}
+use Prim.Native.Nat.{ℕ, _+_, _^_, _<_, _≤_}
+use mathlib.Core.List.{List, [], _∷_, map, List·Memᴰ, Memᴰ·append-left, Memᴰ·append-right}
 use mathlib.Core.Logic.{_⊎_, inl, inr}
 use mathlib.Core.Path.{_≡_, refl, ap, _∙_}
 use native.Mathlib.Omega.{arith}
@@ -22,15 +22,16 @@ use Rattle.wgsl.proofs.Step.{number-of, step-code, stepOf-code, Below, 
 use Rattle.wgsl.proofs.Tail.{sized-has}
 use Rattle.wgsl.proofs.Index.{entry-small}
 use Rattle.wgsl.proofs.EntryFor.{laid-is, entry-well-formed}
-use Rattle.wgsl.proofs.Demand.{fixed, walks, scalar-sized, scalars-apart}
+use Rattle.wgsl.proofs.ScalarWords.{word-inside}
+use Rattle.wgsl.proofs.Demand.{fixed, walks, scalars-apart}
 
 -- ---- the one path to a place of a shape
 
--- two stretches of bytes that begin at a are not apart, unless one is empty
-same-start : {A : Type 0} {p q : A} (a m n : ℕ) → 0 < m → 0 < n → (p ≡ q) ⊎ Apart a m a n → p ≡ q
-same-start a m n g h (inl e) = e
-same-start a m n g h (inr (inl l)) = absurd (omega arith)
-same-start a m n g h (inr (inr l)) = absurd (omega arith)
+-- two stretches of bytes that share byte i are not apart
+not-apart : {A : Type 0} {p q : A} (a m b n i : ℕ) → (a ≤ i) × (i < a + m) → (b ≤ i) × (i < b + n) → (p ≡ q) ⊎ Apart a m b n → p ≡ q
+not-apart a m b n i g h (inl e) = e
+not-apart a m b n i g h (inr (inl l)) = absurd (omega (arith, g .1, h .0))
+not-apart a m b n i g h (inr (inr l)) = absurd (omega (arith, g .0, h .1))
 
 -- ---- steps as numbers
 
@@ -74,26 +75,28 @@ place-has-one-path {f} {e} {b} g p m =
     let path = map step-code steps in
     let well = entry-well-formed f e t (g .entry) in
     let small = entry-small 0 t well (sized-has t (g .size) (g .sized)) (λ o. omega arith) in
-    let below = steps-below 0 0 x steps (target (p .at) (one s)) (2 ^ 31) small (found .leads 0) in
+    let a = found .scalar-at in
+    let below = steps-below 0 0 x steps (target a (one s)) (2 ^ 31) small (found .leads 0) in
     let numbers = codes-words steps below in
-    let there : Leading f e b path (p .at) s =
+    let there : Leading f e b path a s =
     walk-leading g (ap (λ (l : List Step). walk 0 0 x l) (codes-read steps below) ∙ found .leads 0) in
     record {
       path = path;
       scalar-is = s;
       numbers = numbers;
+      scalar-at = a;
       leads = there;
-      width-is = found .width-is;
-      only = λ q u v l.
-          same-start (p .at) (present (widthOf u)) (present (widthOf s)) (scalar-sized g l) (scalar-sized g there)
+      one-of-its = found .one-of-its;
+      only = λ q c u v l m.
+          not-apart c (present (widthOf u)) a (present (widthOf s)) (p .at) (word-inside u c p m) (word-inside s a p (found .one-of-its))
           (scalars-apart g l there v numbers);
     }
 
 -- ---- a path's place
 
--- Every path to a scalar leads to a place of the entry.
-pub path-has-place : {f : List ℕ} {e : ℕ} {b path : List ℕ} {a : ℕ} {s : Scalar} (g : Given f e b) → Leading f e b path a s → List·Memᴰ (record { at = a; width = present (widthOf s) }) (places 0 (g .type))
-unfolding places wordPlaces
-path-has-place {path = path} {a = a} {s = s} g l =
+-- Every path to a scalar leads to places of the entry: those of its words.
+pub path-has-place : {f : List ℕ} {e : ℕ} {b path : List ℕ} {a : ℕ} {s : Scalar} (g : Given f e b) → Leading f e b path a s → (p : Place) → List·Memᴰ p (wordPlaces s a) → List·Memᴰ p (places 0 (g .type))
+unfolding places
+path-has-place {path = path} {a = a} {s = s} g l p m =
     let r = path-place 0 0 (shapeOf 0 (g .type)) (map stepOf path) a s (walks g l) in
-    rw (r .split) (Memᴰ·append-right (r .before) (List·Memᴰ·head refl))
+    rw (r .split) (Memᴰ·append-right (r .before) (Memᴰ·append-left (r .after) m))

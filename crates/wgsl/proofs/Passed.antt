@@ -41,12 +41,13 @@ everywhere-here p (struct k ms) e = both-hold (p (struct k ms)) (everyMember p m
 pub passed : (t : Ty) → everywhere isWellFormed t ≡ true → Passed t
 passed t e = well-formed t (everywhere-here isWellFormed t e)
 
--- A matrix has two to four columns and rows.
-pub matrix-passed : (c r : ℕ) (s : Scalar) → everywhere isWellFormed (matrix c r s) ≡ true → (between 2 4 c ≡ true) × (between 2 4 r ≡ true)
+-- A matrix has two to four columns and rows, of scalars that it may hold.
+pub matrix-passed : (c r : ℕ) (s : Scalar) → everywhere isWellFormed (matrix c r s) ≡ true → (between 2 4 c ≡ true) × (between 2 4 r ≡ true) × (isMatrixScalar s ≡ true)
 unfolding isAllowed
 matrix-passed c r s w =
     let ok = both-hold (between 2 4 c && between 2 4 r) (isMatrixScalar s) (passed (matrix c r s) w .allowed) in
-    both-hold (between 2 4 c) (between 2 4 r) (ok .0)
+    let sides = both-hold (between 2 4 c) (between 2 4 r) (ok .0) in
+    (sides .0, sides .1, ok .1)
 
 -- an array has at least one element, which is not open
 pub record ArrayPassed (k : ℕ) (t : Ty) : Type 0 where

@@ -3,13 +3,12 @@
 -- In order: a path to a scalar leads to a place; each place has a path.
 -- Assumes nothing.
 use Prim.Native.Nat.{ℕ, zero, suc, _+_, _*_, _<_}
-use mathlib.Core.List.{List, [], _∷_, _++_, append-nil, append-assoc, List·Memᴰ, List·Memᴰ·append-cases, List·Memᴰ·eq-of-singleton, List·Memᴰ·not-nil}
+use mathlib.Core.List.{List, [], _∷_, _++_, append-nil, append-assoc, List·Memᴰ, List·Memᴰ·append-cases, List·Memᴰ·not-nil}
 use mathlib.Core.Logic.{⊎-elim}
 use mathlib.Core.Path.{_≡_, refl}
 use native.Mathlib.Omega.{arith}
 use native.Mathlib.Nat.{add-zero, zero-mul, suc-mul}
 use Rattle.wgsl.specs.Types.{Scalar}
-use Rattle.wgsl.specs.Size.{present, widthOf}
 use Rattle.wgsl.specs.Said.{good}
 use Rattle.wgsl.specs.Place.{Shape, one, parts, field, whole, spanOf, Place, wordPlaces, repeated, placesOf}
 use Rattle.wgsl.specs.Path.{Step, index, member, walk}
@@ -17,7 +16,7 @@ use Rattle.wgsl.specs.Claim.{Leads, here, part, first, later}
 use Rattle.wgsl.specs.Shapes.{From, Sound}
 use Rattle.wgsl.proofs.Path.{target, walk-leads, leads-walk}
 
--- the place of a scalar s at a is in the list of a shape at off
+-- the words of a scalar s at a are in the list of a shape at off
 pub record PathPlace (x : Shape) (off a : ℕ) (s : Scalar) : Type 0 where
   pub before : List Place
   pub after : List Place
@@ -44,8 +43,8 @@ repeated-split (suc n) (suc i) stride f at h =
     (f at ++ r .0, r .1, rw (r .2, append-assoc, next-part at i stride))
 
 leads-place : {off a : ℕ} {x : Shape} {steps : List Step} {s : Scalar} → Leads off x steps a (one s) → PathPlace x off a s
-unfolding placesOf wordPlaces
-leads-place here = record { before = []; after = []; split = refl }
+unfolding placesOf
+leads-place here = record { before = []; after = []; split = rw append-nil }
 leads-place (part {off = off} {n = n} {stride = stride} {i = i} {x = x} h l) =
     let r = repeated-split n i stride (λ p. placesOf x p) off h in
     wider (r .0) (r .1) (r .2) (leads-place l)
@@ -66,10 +65,10 @@ repeated-member {p} (suc n) stride f at m =
     let r = repeated-member n stride f (at + stride) h in
     (suc (r .0), omega (arith, r .1), rw (next-part at (r .0) stride) at (r .2))) (List·Memᴰ·append-cases (f at) m)
 
--- a path to a scalar that lies at p
+-- a path to a scalar one of whose words lies at p
 abbrev HasPath : ℕ → Shape → Place → Type 0
 HasPath off x p =
-    (s : Scalar) × (steps : List Step) × Leads off x steps (p .at) (one s) × (p .width ≡ present (widthOf s))
+    (s : Scalar) × (a : ℕ) × (steps : List Step) × Leads off x steps a (one s) × List·Memᴰ p (wordPlaces s a)
 
 -- a path to a scalar among the members that are left of a struct begins with a member step
 one-later : {off a : ℕ} {rest : Shape} {steps : List Step} {s : Scalar} (lo offset : ℕ) (x : Shape) → From rest lo → Leads off rest steps a (one s) → (further : List Step) × Leads off (field offset x rest) further a (one s)
@@ -80,32 +79,39 @@ one-later lo offset x from (first {steps = steps} l) = (member 1 ∷ steps, late
 one-later lo offset x from (later {i = i} {steps = steps} l) = (member (suc (suc i)) ∷ steps, later (later l))
 
 found : (off : ℕ) (x : Shape) (p : Place) → Sound x → List·Memᴰ p (placesOf x off) → HasPath off x p
-unfolding Sound placesOf wordPlaces
-found off (one s) p sound m = rw (List·Memᴰ·eq-of-singleton m) (s, [], here, refl)
+unfolding Sound placesOf
+found off (one s) p sound m = (s, off, [], here, m)
 found off (parts n stride x) p sound m =
     let r = repeated-member n stride (λ at. placesOf x at) off m in
     let f = found (off + r .0 * stride) x p (sound .0) (r .2) in
-    (f .0, index (r .0) ∷ f .1, part (r .1) (f .2), f .3)
+    (f .0, f .1, index (r .0) ∷ f .2, part (r .1) (f .3), f .4)
 found off (field offset x rest) p sound m =
     ⊎-elim
     (λ (h : List·Memᴰ p (placesOf x (off + offset))).
     let f = found (off + offset) x p (sound .0) h in
-    (f .0, member 0 ∷ f .1, first (f .2), f .3))
+    (f .0, f .1, member 0 ∷ f .2, first (f .3), f .4))
     (λ (h : List·Memᴰ p (placesOf rest off)).
     let f = found off rest p (sound .1) h in
-    let g = one-later (offset + spanOf x) offset x (sound .2) (f .2) in
-    (f .0, g .0, g .1, f .3)) (List·Memᴰ·append-cases (placesOf x (off + offset)) m)
+    let g = one-later (offset + spanOf x) offset x (sound .2) (f .3) in
+    (f .0, f .1, g .0, g .1, f .4)) (List·Memᴰ·append-cases (placesOf x (off + offset)) m)
 found off (whole z) p sound m = absurd (List·Memᴰ·not-nil m)
 
--- a path that leads to a scalar at the place p
+-- a path that leads to a scalar one of whose words lies at the place p
 pub record PlacePath (x : Shape) (off : ℕ) (p : Place) : Type 0 where
   pub scalar-is : Scalar
   pub steps : List Step
-  pub leads : (k : ℕ) → walk k off x steps ≡ good (target (p .at) (one scalar-is))
-  pub width-is : p .width ≡ present (widthOf scalar-is)
+  pub scalar-at : ℕ
+  pub leads : (k : ℕ) → walk k off x steps ≡ good (target scalar-at (one scalar-is))
+  pub one-of-its : List·Memᴰ p (wordPlaces scalar-is scalar-at)
 
 -- Every place of a sound shape has a path that leads to it.
 pub place-path : (off : ℕ) (x : Shape) (p : Place) → Sound x → List·Memᴰ p (placesOf x off) → PlacePath x off p
 place-path off x p sound m =
     let f = found off x p sound m in
-    record { scalar-is = f .0; steps = f .1; leads = λ k. leads-walk (f .2) k; width-is = f .3 }
+    record {
+      scalar-is = f .0;
+      steps = f .2;
+      scalar-at = f .1;
+      leads = λ k. leads-walk (f .3) k;
+      one-of-its = f .4;
+    }

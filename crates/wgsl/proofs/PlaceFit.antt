@@ -24,7 +24,8 @@ use Rattle.wgsl.specs.Uniform.{mayLive, uniformCall}
 use Rattle.wgsl.specs.Claim.{PlaceFits, PlacesFit}
 use Rattle.wgsl.proofs.Said.{good-not-refused, then-cases, refuse-cases, orRefuse-good, orRefuse-refused}
 use Rattle.wgsl.proofs.Accepted.{refused-place}
-use Rattle.wgsl.proofs.Count.{places-words, words-room}
+use Rattle.wgsl.proofs.ScalarWords.{scalar-length}
+use Rattle.wgsl.proofs.Count.{words-few, places-words, words-room}
 use Rattle.wgsl.proofs.EntryFor.{laid-good, stored-good, entry-sound}
 use Rattle.wgsl.proofs.Deep.{walk-place, entry-deep}
 use Rattle.wgsl.proofs.Uniform.{Asked, named-low}
@@ -129,12 +130,12 @@ fits-write f e ws b =
     fits-check (places n t) ws _
     (omega (arith, places-words (shapeOf n t) 0, words-room (shapeOf n t) (sound .0), sound .1, ltb-false (length b) (extentOf n t) room, s .within)))))
 
-fits-set : (f : List ℕ) (e : ℕ) (steps : List ℕ) (w : ℕ) (b : List ℕ) → PlaceFits (setCall f e steps w b)
-unfolding setCall setTarget setScalar wordPlaces
-fits-set f e steps w b =
+fits-set : (f : List ℕ) (e : ℕ) (steps ws b : List ℕ) → PlaceFits (setCall f e steps ws b)
+unfolding setCall setTarget setScalar
+fits-set f e steps ws b =
     fits-then (targetCall true f e steps b) _ (fits-path true f e steps b) (λ u h.
     fits-then (orRefuse 14 0 (scalarAt (u .shape))) _ (fits-or _ _ _ (omega arith)) (λ s g.
-    fits-check (wordPlaces s (u .offset)) (w ∷ []) _ (omega arith)))
+    fits-refuse _ _ _ _ (omega arith) (λ ok. fits-check (wordPlaces s (u .offset)) ws _ (omega (arith, scalar-length s (u .offset), words-few s)))))
 
 fits-integer : (f : List ℕ) (e : ℕ) (steps b : List ℕ) → PlaceFits (integerAt f e steps b)
 unfolding integerAt integerOf

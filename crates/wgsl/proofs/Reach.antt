@@ -11,10 +11,10 @@ use mathlib.Core.Logic.{⊎-elim}
 use mathlib.Core.Option.{some}
 use mathlib.Core.Path.{_≡_, refl}
 use native.Mathlib.Omega.{arith}
-use borrow.Author.Tests.{leb-true, leb-false, eqb-true, eq-eqb}
-use lib.Dec.{leb, eqb}
+use borrow.Author.Tests.{eqb-true, eq-eqb}
+use lib.Dec.{eqb}
 use lib.ListN.{take, getElem?}
-use Rattle.wgsl.specs.Types.{Ty, scalar, vector, matrix, array, runtime, atomic, struct, Members}
+use Rattle.wgsl.specs.Types.{Ty, scalar, vector, matrix, array, runtime, atomic, struct, Members, isScalarKind}
 use Rattle.wgsl.specs.Said.{good}
 use Rattle.wgsl.specs.File.{TypeEntry, typeEntryAt, memberEntryAt}
 use Rattle.wgsl.specs.Rule.{lower, membersFrom, typesOf}
@@ -22,6 +22,7 @@ use Rattle.wgsl.specs.Uniform.{memberTypes, refersTo, anyOf, reachesBy}
 use Rattle.wgsl.specs.Claim.{Reaches, itself, onward}
 use Rattle.wgsl.proofs.Absent.{either-holds, true-not-false}
 use Rattle.wgsl.proofs.Said.{when-some, andThen-some}
+use Rattle.wgsl.proofs.ScalarKind.{other-range}
 use Rattle.wgsl.proofs.AtEntry.{getElem-first, At, scalar-at, vector-at, matrix-at, array-at, runtime-at, atomic-at, struct-at, kind-high, Refers, to-none, to-vector, to-matrix, to-array, to-runtime, to-atomic, to-members, refers}
 
 -- ---- one of some numbers
@@ -53,22 +54,22 @@ linksOf f e (struct k ms) = memberTypes f (e .count) (e .reference)
 
 links-at : {f : List ℕ} {ts : List Ty} {k : ℕ} {t : Ty} → At f ts k t (typeEntryAt f k) → refersTo f k ≡ linksOf f (typeEntryAt f k) t
 unfolding refersTo linksOf
-links-at {f} {ts} {k} {t} at = go (leb (typeEntryAt f k .kind) 6) refl
+links-at {f} {ts} {k} {t} at = go (isScalarKind (typeEntryAt f k .kind)) refl
   where
-    over : (n : ℕ) → typeEntryAt f k .kind ≡ n + 7 → refersTo f k ≡ linksOf f (typeEntryAt f k) t
-    over zero e = rw (vector-at at e .type-is, e)
-    over (suc zero) e = rw (matrix-at at e .type-is, e)
-    over (suc (suc zero)) e = rw (array-at at e .type-is, e)
-    over (suc (suc (suc zero))) e = rw (runtime-at at e .type-is, e)
-    over (suc (suc (suc (suc zero)))) e = rw (atomic-at at e .type-is, e)
-    over (suc (suc (suc (suc (suc zero))))) e = rw (struct-at at e .type-is, e)
-    over (suc (suc (suc (suc (suc (suc n)))))) e = absurd (omega (arith, kind-high at))
+    over : isScalarKind (typeEntryAt f k .kind) ≡ false → (n : ℕ) → typeEntryAt f k .kind ≡ n + 7 → typeEntryAt f k .kind ≤ 12 → refersTo f k ≡ linksOf f (typeEntryAt f k) t
+    over q zero e high = rw (vector-at at e .type-is, q, e)
+    over q (suc zero) e high = rw (matrix-at at e .type-is, q, e)
+    over q (suc (suc zero)) e high = rw (array-at at e .type-is, q, e)
+    over q (suc (suc (suc zero))) e high = rw (runtime-at at e .type-is, q, e)
+    over q (suc (suc (suc (suc zero)))) e high = rw (atomic-at at e .type-is, q, e)
+    over q (suc (suc (suc (suc (suc zero))))) e high = rw (struct-at at e .type-is, q, e)
+    over q (suc (suc (suc (suc (suc (suc n)))))) e high = absurd (omega arith)
 
-    go : (b : Bool) → leb (typeEntryAt f k .kind) 6 ≡ b → refersTo f k ≡ linksOf f (typeEntryAt f k) t
-    go true q = let (s, is, of) = scalar-at at (leb-true _ _ q) in rw (is, q)
+    go : (b : Bool) → isScalarKind (typeEntryAt f k .kind) ≡ b → refersTo f k ≡ linksOf f (typeEntryAt f k) t
+    go true q = let (s, is, of) = scalar-at at q in rw (is, q)
     go false q =
-        let h : 6 < typeEntryAt f k .kind = leb-false _ _ q in
-        over (typeEntryAt f k .kind - 7) (omega arith)
+        let h : 6 < typeEntryAt f k .kind = other-range _ q .0 in
+        over q (typeEntryAt f k .kind - 7) (omega arith) (kind-high at q)
 
 -- entry r of a file with these types, lower than k
 pub record Lower (ts : List Ty) (k r : ℕ) : Type 0 where

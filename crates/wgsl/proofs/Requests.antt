@@ -4,7 +4,7 @@
 -- Assumes nothing.
 use Prim.Native.Nat.{ℕ, _+_, _-_, _%_, _^_, _<_, _≤_, max}
 use mathlib.Core.Bool.{true, false, cond}
-use mathlib.Core.List.{List}
+use mathlib.Core.List.{List, _∷_, []}
 use mathlib.Core.Option.{Option, some}
 use mathlib.Core.Path.{_≡_}
 use lib.Dec.{T}
@@ -128,11 +128,11 @@ pub inserting-good-if : (f : List ℕ) (e : ℕ) (steps b : List ℕ) (new offse
 inserting-good-if = calls.insert-good-if
 
 -- An insertion at a path is a set with the word that has the field in it,
-pub insertion-is-set : {f : List ℕ} {e : ℕ} {b path : List ℕ} {a : ℕ} {s : Scalar} → Leading f e b path a s → isInteger s ≡ true → ((i : ℕ) → getD b i 0 < 256) → (new offset count : ℕ) → insertCall f e path new offset count b ≡ setCall f e path (inserted (load 4 b a) new offset count) b
+pub insertion-is-set : {f : List ℕ} {e : ℕ} {b path : List ℕ} {a : ℕ} {s : Scalar} → Leading f e b path a s → isInteger s ≡ true → ((i : ℕ) → getD b i 0 < 256) → (new offset count : ℕ) → insertCall f e path new offset count b ≡ setCall f e path (inserted (load 4 b a) new offset count ∷ []) b
 insertion-is-set = calls.insertion-is-set
 
 -- so demand 3 holds of it: the bytes outside its scalar stay, and of all words that are read that one changes.
-pub insertion-alone : {f : List ℕ} {e : ℕ} {b path : List ℕ} {a : ℕ} {s : Scalar} (g : Given f e b) → Leading f e b path a s → isInteger s ≡ true → ((i : ℕ) → getD b i 0 < 256) → (new offset count : ℕ) (ws : List ℕ) → wordCount 0 (g .type) ≤ length ws → (x : SetThenRead g path a s (inserted (load 4 b a) new offset count) ws) × (insertCall f e path new offset count b ≡ good (record { value = a; contents = x .b′ }))
+pub insertion-alone : {f : List ℕ} {e : ℕ} {b path : List ℕ} {a : ℕ} {s : Scalar} (g : Given f e b) → Leading f e b path a s → isInteger s ≡ true → ((i : ℕ) → getD b i 0 < 256) → (new offset count : ℕ) (ws : List ℕ) → wordCount 0 (g .type) ≤ length ws → (x : SetThenRead g path a s (inserted (load 4 b a) new offset count ∷ []) ws) × (insertCall f e path new offset count b ≡ good (record { value = a; contents = x .b′ }))
 insertion-alone = calls.insertion-alone
 
 -- What is extracted after an insertion is the field that was inserted.

@@ -11,12 +11,13 @@ use native.Mathlib.Nat.{zero-add}
 use borrow.Author.Tests.{eqb-true}
 use lib.Dec.{eqb}
 use lib.ListN.{getD}
-use Rattle.wgsl.specs.Types.{Scalar, bool, i32, u32, f32, f16, abstractInt, abstractFloat, scalarKind}
+use Rattle.wgsl.specs.Types.{Scalar, bool, i32, u32, f32, f16, abstractInt, abstractFloat, i64, u64, f64, scalarKind}
 use Rattle.wgsl.specs.Rank.{fromAbstractInt, fromAbstractFloat, ifSame, scalarRank, leafRank}
 
--- every scalar, by its kind
+-- every scalar, by its kind; kinds 7 to 12 are no scalars'
 pub scalars : List Scalar
-scalars = bool ∷ i32 ∷ u32 ∷ f32 ∷ f16 ∷ abstractInt ∷ abstractFloat ∷ []
+scalars =
+    bool ∷ i32 ∷ u32 ∷ f32 ∷ f16 ∷ abstractInt ∷ abstractFloat ∷ bool ∷ bool ∷ bool ∷ bool ∷ bool ∷ bool ∷ i64 ∷ u64 ∷ f64 ∷ []
 
 -- Each scalar stands in the list at its kind.
 pub scalar-found : (a : Scalar) → getD scalars (scalarKind a) bool ≡ a
@@ -28,6 +29,9 @@ scalar-found f32 = refl
 scalar-found f16 = refl
 scalar-found abstractInt = refl
 scalar-found abstractFloat = refl
+scalar-found i64 = refl
+scalar-found u64 = refl
+scalar-found f64 = refl
 
 -- Scalars of the same kind are equal.
 pub kind-same : {a b : Scalar} → scalarKind a ≡ scalarKind b → a ≡ b
@@ -61,6 +65,9 @@ scalar-refl f32 = refl
 scalar-refl f16 = refl
 scalar-refl abstractInt = refl
 scalar-refl abstractFloat = refl
+scalar-refl i64 = refl
+scalar-refl u64 = refl
+scalar-refl f64 = refl
 
 -- the test t passes if the rank is 0
 zeroed : Option ℕ → Bool → Bool

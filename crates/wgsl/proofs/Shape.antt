@@ -2,15 +2,17 @@
 --
 -- In order: multiples; lists of places in order (`Ordered`); the places of a sound shape are in order, inside.
 -- Assumes nothing.
-use Prim.Native.Nat.{ℕ, zero, suc, _+_, _*_, _/_, _%_, _≤_}
+use Prim.Native.Nat.{ℕ, zero, suc, _+_, _-_, _*_, _/_, _%_, _<_, _≤_, min}
 use mathlib.Core.List.{List, [], _∷_, _++_}
 use mathlib.Core.Path.{_≡_}
 use native.Mathlib.Omega.{arith}
 use native.Mathlib.Nat.{suc-mul, mul-assoc, mul-mod-left, div-add-mod'}
 use Rattle.wgsl.specs.Size.{present, widthOf}
-use Rattle.wgsl.specs.Place.{Shape, one, parts, field, whole, spanOf, Place, wordPlaces, repeated, placesOf}
+use Rattle.wgsl.specs.Types.{Scalar}
+use Rattle.wgsl.specs.Place.{Shape, one, parts, field, whole, spanOf, Place, wordsOver, wordPlaces, repeated, placesOf}
 use Rattle.wgsl.specs.Claim.{Ordered}
 use Rattle.wgsl.specs.Shapes.{Divides, From, Sound}
+use Rattle.wgsl.proofs.ScalarWords.{words-needed}
 
 -- a multiple of a multiple is a multiple
 pub multiple-trans : (w a m : ℕ) → a % w ≡ 0 → m % a ≡ 0 → m % w ≡ 0
@@ -56,6 +58,20 @@ unfolding Ordered
 ordered-span [] lo hi o = o
 ordered-span (p ∷ ps) lo hi o = omega (arith, o .0, ordered-span ps (p .at + p .width) hi (o .1))
 
+over-ordered : (n bytes at : ℕ) → 4 * n < bytes + 4 → Ordered (wordsOver n bytes at) at (at + bytes)
+unfolding wordsOver Ordered
+over-ordered zero bytes at h = omega arith
+over-ordered (suc zero) bytes at h = (omega arith, omega arith)
+over-ordered (suc (suc n)) bytes at h =
+    let rest = over-ordered (suc n) (bytes - 4) (at + 4) (omega arith) in
+    let ps = wordsOver (suc n) (bytes - 4) (at + 4) in
+    (omega arith, ordered-high ps _ _ (at + bytes) (omega arith) (ordered-low ps (at + min 4 bytes) (at + 4) _ (omega arith) rest))
+
+-- The words of a scalar lie one after the other, inside it.
+pub scalar-ordered : (s : Scalar) (at : ℕ) → Ordered (wordPlaces s at) at (at + present (widthOf s))
+unfolding wordPlaces
+scalar-ordered s at = over-ordered _ _ at (words-needed _)
+
 repeated-ordered : (n stride z : ℕ) (f : ℕ → List Place) (at : ℕ) → ((p : ℕ) → Ordered (f p) p (p + z)) → z ≤ stride → Ordered (repeated n stride f at) at (at + n * stride)
 unfolding repeated Ordered
 repeated-ordered zero stride z f at h l = omega arith
@@ -74,10 +90,10 @@ field-ordered at offset x rest o u =
 -- The places of a sound shape are in rising order, share no byte and lie inside it; those of the members that are left of a struct lie
 -- past the members before.
 mutual
-  unfolding Sound From placesOf spanOf Ordered wordPlaces
+  unfolding Sound From placesOf spanOf Ordered
 
   pub places-ordered : (x : Shape) (at : ℕ) → Sound x → Ordered (placesOf x at) at (at + spanOf x)
-  places-ordered (one s) at sound = (omega arith, omega arith)
+  places-ordered (one s) at sound = scalar-ordered s at
   places-ordered (parts n stride x) at sound =
       repeated-ordered n stride (spanOf x) (λ p. placesOf x p) at (λ p. places-ordered x p (sound .0)) (sound .1)
   places-ordered (field offset x rest) at sound =

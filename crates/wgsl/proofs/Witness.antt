@@ -14,16 +14,16 @@ use native.Mathlib.Omega.{arith}
 use lib.ListN.{getD, take, drop, getElem?, replicate}
 use Rattle.wgsl.specs.Number.{load, bytesOf, store}
 use Rattle.wgsl.specs.Round.{IsUp, up, IsPower, powerBelow, isPower, limit, withinLimit}
-use Rattle.wgsl.specs.Types.{bool, u32, f32, f16, Ty, scalar, vector, matrix, array, runtime, struct, no-more, member, isRuntime, endsInRuntime, isOpen, everywhere, everyMember}
+use Rattle.wgsl.specs.Types.{bool, u32, f32, f16, Ty, scalar, vector, matrix, array, runtime, struct, no-more, member, isRuntime, endsInRuntime, isOpen, everywhere, everyMember, isScalarKind}
 use Rattle.wgsl.specs.Size.{both, givenOr, isPresent, present, widthOf, vec3Align, vectorSize, vectorAlign, startAfter, endAfter, memberStart, memberEnd, sizeOf, alignOf, membersAlign, membersEnd, strideOf, ownStrideOf, minSizeOf, offsetsOf, innerNumbersOf, numbersOf, withinLimits, fitsLimit, hasLayout, isStored, isPlain, isStorable}
 use Rattle.wgsl.specs.Said.{good, refused, _>>=_, _>>_, refuse, orRefuse}
 use Rattle.wgsl.specs.File.{trailerOf, lengthBy, typeEntryFrom, typeEntryAt, memberEntryFrom, memberEntryAt, sizeIsGiven, alignIsGiven, givenSize, givenAlign, restIsZero, between, checkTrailer}
 use Rattle.wgsl.specs.Rule.{when, andThen, unused, scalarOfKind, scalarIn, lower, membersFrom, scalarMade, vectorMade, matrixMade, arrayMade, runtimeMade, atomicMade, structMade, overMade, typeMade, typeOfEntry, isMatrixScalar, isAtomicScalar, isLast, countOf, memberAllowed, membersAllowed, isAllowed, atLeast, givenSizeFits, isMultiple, givenAlignFits, membersGivenFit, givenFits, isWellFormed, judged, typesBelow, typesOf}
-use Rattle.wgsl.specs.Place.{tailAt, membersTail, tailOf, extentBy, extentOf, elementsBy, elementsIn, one, column, shapeOf, fieldsOf, spanOf, wordPlaces, repeated, placesOf, places, wordCount, storeWords, written, wordsRead, canHold, checkWords}
+use Rattle.wgsl.specs.Place.{tailAt, membersTail, tailOf, extentBy, extentOf, elementsBy, elementsIn, one, column, shapeOf, fieldsOf, spanOf, wordPlaces, wordsFor, wordsOver, repeated, placesOf, places, wordCount, storeWords, written, wordsRead, canHold, checkWords}
 use Rattle.wgsl.specs.Path.{stepOf, enter, walk}
 use Rattle.wgsl.specs.Call.{Done, checkOf, entryOf, allowed, entryFor, isShort, readElements, readType, readCall, elementsFor, isWrongCount, writeWords, writeElements, writeType, writeCall, targetIn, targetCall, viewCall, scalarAt, setScalar, setTarget, setCall}
 use Rattle.wgsl.specs.BoolCase.{boolFile}
-use Rattle.wgsl.specs.Claim.{isBool, isNoBool, Lowest, ByElement, Ordered, typesIn, memberStep, CanRead, CanWrite, CanView, CanSet, CanField, Wrote, Read, Reaches, CanUniform, LowestBroken}
+use Rattle.wgsl.specs.Claim.{isBool, isNoBool, Lowest, ByElement, Ordered, typesIn, memberStep, CanRead, CanWrite, CanView, CanSet, CanField, Wrote, Read, Reaches, CanUniform, LowestBroken, Fit}
 use Rattle.wgsl.specs.BitField.{startOf, bitsOf, bitAt, fieldAt, repeatedTop, extractedU32, extractedI32, putAt, inserted, isInside, bitExtracted, bitInserted}
 use Rattle.wgsl.specs.BitFieldCall.{isInteger, isSigned, integerOf, integerAt, wordOf, extractedAs, extractCall, insertCall}
 use Rattle.wgsl.specs.Uniform.{uniformAlign, earliestAfter, membersKeep, keepsUniform, isUniform, memberTypes, refersTo, anyOf, reachesBy, reaches, isBrokenType, isBroken, lowestFrom, lowestBroken, refuseBroken, mayLive, uniformCall}
@@ -97,7 +97,7 @@ pub record Witnesses : Type 0 where
   pub can-read : CanRead openStruct 4 rubbish nine
   pub can-write : CanWrite openStruct 4 nine rubbish
   pub can-view : CanView matrixOfF32 1 inMatrix rubbish
-  pub can-set : CanSet matrixOfF32 1 inMatrix 5 rubbish
+  pub can-set : CanSet matrixOfF32 1 inMatrix (5 ∷ []) rubbish
   pub wrote : Done
   pub write-good : writeCall openStruct 4 nine rubbish ≡ good wrote
   pub writing : Wrote openStruct 4 nine rubbish wrote
@@ -108,11 +108,11 @@ pub record Witnesses : Type 0 where
   pub refused-places-fit : 1 < 2 ^ 32
   pub matrix-given : Given matrixOfF32 1 rubbish
   pub matrix-leading : Leading matrixOfF32 1 rubbish inMatrix 36 f32
-  pub matrix-demand : SetThenRead matrix-given inMatrix 36 f32 5 nine
+  pub matrix-demand : SetThenRead matrix-given inMatrix 36 f32 (5 ∷ []) nine
   pub matrix-path : OnePath matrix-given (record { at = 36; width = 4 })
   pub struct-given : Given structWithSize 1 rubbish
   pub struct-leading : Leading structWithSize 1 rubbish inStruct 20 u32
-  pub struct-demand : SetThenRead struct-given inStruct 20 u32 5 nine
+  pub struct-demand : SetThenRead struct-given inStruct 20 u32 (5 ∷ []) nine
   -- E1
   pub strides-unique : ownStrideOf (vector 3 f16) ≡ some 8
   pub array-by-element : ByElement (array 4 (vector 3 f32)) (vector 3 f32) (λ n. 4)
@@ -126,8 +126,8 @@ pub record Witnesses : Type 0 where
   pub extract-none : (extractedU32 7 32 1 ≡ 0) × (extractedI32 7 32 1 ≡ 0)
   pub insert-none : inserted 7 1 32 1 ≡ 7
   pub can-field : CanField structWithSize 1 inStruct rubbish
-  pub insertion-is-set : insertCall structWithSize 1 inStruct 255 4 8 rubbish ≡ setCall structWithSize 1 inStruct (inserted (load 4 rubbish 20) 255 4 8) rubbish
-  pub insertion-alone : SetThenRead struct-given inStruct 20 u32 (inserted (load 4 rubbish 20) 255 4 8) nine
+  pub insertion-is-set : insertCall structWithSize 1 inStruct 255 4 8 rubbish ≡ setCall structWithSize 1 inStruct (inserted (load 4 rubbish 20) 255 4 8 ∷ []) rubbish
+  pub insertion-alone : SetThenRead struct-given inStruct 20 u32 (inserted (load 4 rubbish 20) 255 4 8 ∷ []) nine
   pub insertion : Done
   pub insert-good : insertCall structWithSize 1 inStruct 255 4 8 rubbish ≡ good insertion
   pub extraction-after-insertion : extractCall structWithSize 1 inStruct (insertion .contents) 4 8 ≡ good 255
@@ -143,7 +143,7 @@ pub record Witnesses : Type 0 where
   pub unreached-never-matters : uniformCall (arrayOfU32 5) 0 ≡ uniformCall (arrayOfU32 7) 0
 
 pub witnesses : Witnesses
-unfolding load bytesOf up powerBelow isPower withinLimit isRuntime endsInRuntime isOpen everywhere everyMember both givenOr isPresent present widthOf vec3Align vectorSize vectorAlign startAfter endAfter sizeOf alignOf membersAlign membersEnd strideOf ownStrideOf minSizeOf offsetsOf innerNumbersOf numbersOf withinLimits fitsLimit hasLayout isStored isPlain isStorable _>>=_ _>>_ refuse orRefuse trailerOf lengthBy typeEntryFrom typeEntryAt memberEntryFrom memberEntryAt sizeIsGiven alignIsGiven givenSize givenAlign restIsZero between checkTrailer when andThen unused scalarOfKind scalarIn lower membersFrom scalarMade vectorMade matrixMade arrayMade runtimeMade atomicMade structMade overMade typeMade typeOfEntry isMatrixScalar isAtomicScalar isLast countOf memberAllowed membersAllowed isAllowed atLeast givenSizeFits isMultiple givenAlignFits membersGivenFit givenFits judged typesBelow typesOf tailAt membersTail tailOf extentBy extentOf elementsBy elementsIn column shapeOf fieldsOf spanOf wordPlaces repeated placesOf places wordCount wordsRead stepOf enter walk entryOf allowed entryFor isShort readElements readType readCall targetIn targetCall viewCall typeEntry memberGiven memberEntry trailer arrayOfU32 openStruct matrixOfF32 structWithSize memberStart memberEnd memberStep store storeWords written canHold checkWords elementsFor isWrongCount writeWords writeElements writeType writeCall scalarAt setScalar setTarget setCall typesIn isWellFormed checkOf startOf bitsOf bitAt fieldAt repeatedTop extractedU32 extractedI32 putAt inserted isInside bitExtracted bitInserted isInteger isSigned integerOf integerAt wordOf extractedAs extractCall insertCall uniformAlign earliestAfter membersKeep keepsUniform isUniform memberTypes refersTo anyOf reachesBy reaches isBrokenType isBroken lowestFrom lowestBroken refuseBroken mayLive uniformCall brokenFile nestedFile isBool isNoBool boolFile fiveAndSix sixAndSeven matrixTypes nine rubbish inMatrix inStruct
+unfolding load bytesOf up powerBelow isPower withinLimit isRuntime endsInRuntime isOpen everywhere everyMember both givenOr isPresent present widthOf vec3Align vectorSize vectorAlign startAfter endAfter sizeOf alignOf membersAlign membersEnd strideOf ownStrideOf minSizeOf offsetsOf innerNumbersOf numbersOf withinLimits fitsLimit hasLayout isStored isPlain isStorable _>>=_ _>>_ refuse orRefuse trailerOf lengthBy typeEntryFrom typeEntryAt memberEntryFrom memberEntryAt sizeIsGiven alignIsGiven givenSize givenAlign restIsZero between checkTrailer when andThen unused scalarOfKind isScalarKind scalarIn lower membersFrom scalarMade vectorMade matrixMade arrayMade runtimeMade atomicMade structMade overMade typeMade typeOfEntry isMatrixScalar isAtomicScalar isLast countOf memberAllowed membersAllowed isAllowed atLeast givenSizeFits isMultiple givenAlignFits membersGivenFit givenFits judged typesBelow typesOf tailAt membersTail tailOf extentBy extentOf elementsBy elementsIn column shapeOf fieldsOf spanOf wordPlaces wordsFor wordsOver repeated placesOf places wordCount wordsRead stepOf enter walk entryOf allowed entryFor isShort readElements readType readCall targetIn targetCall viewCall typeEntry memberGiven memberEntry trailer arrayOfU32 openStruct matrixOfF32 structWithSize memberStart memberEnd memberStep store storeWords written canHold checkWords Fit elementsFor isWrongCount writeWords writeElements writeType writeCall scalarAt setScalar setTarget setCall typesIn isWellFormed checkOf startOf bitsOf bitAt fieldAt repeatedTop extractedU32 extractedI32 putAt inserted isInside bitExtracted bitInserted isInteger isSigned integerOf integerAt wordOf extractedAs extractCall insertCall uniformAlign earliestAfter membersKeep keepsUniform isUniform memberTypes refersTo anyOf reachesBy reaches isBrokenType isBroken lowestFrom lowestBroken refuseBroken mayLive uniformCall brokenFile nestedFile isBool isNoBool boolFile fiveAndSix sixAndSeven matrixTypes nine rubbish inMatrix inStruct
 witnesses =
     let types : typesBelow matrixOfF32 2 ≡ good matrixTypes = refl in
     let entry : entryOf matrixOfF32 1 ≡ good (matrix 3 3 f32) = refl in
@@ -185,14 +185,14 @@ witnesses =
       alignments = claims.alignments matrixOfF32 matrixTypes refl 1 (matrix 3 3 f32) refl 16 refl;
       numbers-within-limit = claims.numbers-within-limit matrixOfF32 matrixTypes refl 1 (matrix 3 3 f32) refl 48 (List·Memᴰ·head refl);
       places-in-order = claims.places-in-order matrixOfF32 1 (matrix 3 3 f32) entry refl 0;
-      some-words = claims.some-words 0 (matrix 3 3 f32) refl (λ o. true-not-false o refl);
+      some-words = claims.some-words 0 (matrix 3 3 f32) 16 refl refl (λ o. true-not-false o refl);
       members-lie =
           claims.members-lie {f = structWithSize} {e = 1} {b = replicate 24 0}
           (record { entry = sized .entry; within = omega arith; layout = refl }) (omega arith) 1 20 (scalar u32) refl refl;
       can-read = claims.reading-good-if openStruct 4 rubbish nine .only-if _ refl;
       can-write = claims.writing-good-if openStruct 4 nine rubbish .only-if _ refl;
       can-view = claims.viewing-good-if matrixOfF32 1 inMatrix rubbish .only-if _ refl;
-      can-set = claims.setting-good-if matrixOfF32 1 inMatrix 5 rubbish .only-if _ refl;
+      can-set = claims.setting-good-if matrixOfF32 1 inMatrix (5 ∷ []) rubbish .only-if _ refl;
       wrote = _;
       write-good = refl;
       writing = claims.writing openStruct 4 nine rubbish _ refl;
@@ -203,8 +203,8 @@ witnesses =
       refused-places-fit = claims.refused-places-fit (arrayOfU32 1_073_741_824) .check 7 1 refl;
       matrix-given = given;
       matrix-leading = leading;
-      matrix-demand = claims.demand-3 given .set-read inMatrix 36 f32 leading 5 (omega arith) nine (omega arith);
-      matrix-path = claims.place-has-one-path given (record { at = 36; width = 4 }) (claims.path-has-place given leading);
+      matrix-demand = claims.demand-3 given .set-read inMatrix 36 f32 leading (5 ∷ []) (record { count = refl; words-fit = (omega arith, tt) }) nine (omega arith);
+      matrix-path = claims.place-has-one-path given (record { at = 36; width = 4 }) (claims.path-has-place given leading _ (List·Memᴰ·head refl));
       struct-given = sized;
       struct-leading = second;
       strides-unique = requests.strides-unique (vector 3 f16) (requests.strides (vector 3 f16)) (requests.strides (vector 3 f16));
@@ -224,7 +224,7 @@ witnesses =
       insert-good = refl;
       extraction-after-insertion =
           requests.extraction-after-insertion structWithSize 1 inStruct rubbish bytes 255 4 8 (record { offset = 20; scalar = u32 }) refl _ refl;
-      struct-demand = claims.demand-3 sized .set-read inStruct 20 u32 second 5 (omega arith) nine (omega arith);
+      struct-demand = claims.demand-3 sized .set-read inStruct 20 u32 second (5 ∷ []) (record { count = refl; words-fit = (omega arith, tt) }) nine (omega arith);
       bool-not-storable = requests.bool-not-storable (vector 3 bool) refl;
       bool-refused = requests.bool-refused {f = boolFile} {e = 1} {b = rubbish} {t = vector 3 bool} (record { entry = refl; within = omega arith; layout = refl }) refl;
       can-uniform = requests.uniform-good-if nestedFile 3 .only-if 0 refl;

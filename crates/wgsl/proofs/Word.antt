@@ -13,13 +13,14 @@ use lib.Dec.{ltb}
 use lib.ListN.{length, getD, drop, replicate, length-append, length-drop, length-replicate, getD-replicate, List·getD-append}
 use lib.Seq.{getD-drop, getD-append-add}
 use Rattle.wgsl.specs.Number.{load, store}
-use Rattle.wgsl.specs.Types.{Ty}
+use Rattle.wgsl.specs.Types.{Scalar, Ty}
+use Rattle.wgsl.specs.Size.{present, widthOf}
 use Rattle.wgsl.specs.Said.{good, _>>_, refuse}
-use Rattle.wgsl.specs.Place.{Place, extentOf, places, storeWords, written, wordsRead, canHold, checkWords}
-use Rattle.wgsl.specs.Claim.{Ordered, Uncovered, Fit}
+use Rattle.wgsl.specs.Place.{Place, wordPlaces, extentOf, places, storeWords, written, wordsRead, canHold, checkWords}
+use Rattle.wgsl.specs.Claim.{Outside, Ordered, Uncovered, Fit}
 use Rattle.wgsl.proofs.Said.{refuse-good}
 use Rattle.wgsl.proofs.Number.{length-store, store-other, load-same, load-store}
-use Rattle.wgsl.proofs.Shape.{ordered-span}
+use Rattle.wgsl.proofs.Shape.{ordered-span, scalar-ordered}
 
 -- ---- lengths
 
@@ -59,6 +60,11 @@ unfolding Ordered Uncovered
 uncovered-past [] lo hi i o h = tt
 uncovered-past (p ∷ ps) lo hi i o h =
     (inr (omega (arith, ordered-span ps (p .at + p .width) hi (o .1))), uncovered-past ps (p .at + p .width) hi i (o .1) h)
+
+-- The words of a scalar cover nothing outside it.
+pub scalar-uncovered : (s : Scalar) (at i : ℕ) → Outside at (present (widthOf s)) i → Uncovered (wordPlaces s at) i
+scalar-uncovered s at i (inl below) = uncovered-below (wordPlaces s at) at _ i (scalar-ordered s at) below
+scalar-uncovered s at i (inr past) = uncovered-past (wordPlaces s at) at _ i (scalar-ordered s at) past
 
 -- ---- words that fit
 

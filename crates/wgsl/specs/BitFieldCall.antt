@@ -7,7 +7,7 @@ use Prim.Native.Nat.{ℕ}
 use mathlib.Core.Bool.{Bool, true, false, cond, not}
 use mathlib.Core.List.{List, [], _∷_}
 use Rattle.wgsl.specs.Number.{load}
-use Rattle.wgsl.specs.Types.{Scalar, bool, i32, u32, f32, f16, abstractInt, abstractFloat}
+use Rattle.wgsl.specs.Types.{Scalar, bool, i32, u32, f32, f16, abstractInt, abstractFloat, i64, u64, f64}
 use Rattle.wgsl.specs.Size.{present, widthOf}
 use Rattle.wgsl.specs.Said.{Said, good, _>>=_, _>>_, refuse, orRefuse}
 use Rattle.wgsl.specs.Place.{wordPlaces, storeWords}
@@ -26,7 +26,11 @@ isInteger f32 = false
 isInteger f16 = false
 isInteger abstractInt = false
 isInteger abstractFloat = false
+isInteger i64 = false
+isInteger u64 = false
+isInteger f64 = false
 
+-- of these two, the signed one
 unfoldable pub isSigned : Scalar → Bool
 isSigned bool = false
 isSigned i32 = true
@@ -35,6 +39,9 @@ isSigned f32 = false
 isSigned f16 = false
 isSigned abstractInt = false
 isSigned abstractFloat = false
+isSigned i64 = false
+isSigned u64 = false
+isSigned f64 = false
 
 -- where the one i32 or u32 lies that a path leads to, and which of the two it is
 pub record FoundInteger : Type 0 where

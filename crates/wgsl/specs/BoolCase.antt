@@ -52,7 +52,7 @@ boolCases =
     -- "Bool stays not storable"
     ∷ says (answerOf (writeCall boolFile 1 (1 ∷ 0 ∷ 1 ∷ []) (replicate 16 0))) (refused 10 0)
     ∷ says (answerOf (readCall boolFile 1 (replicate 16 0) (0 ∷ 0 ∷ 0 ∷ []))) (refused 10 0)
-    ∷ says (answerOf (setCall boolFile 1 (0 ∷ []) 1 (replicate 16 0))) (refused 10 0)
+    ∷ says (answerOf (setCall boolFile 1 (0 ∷ []) (1 ∷ []) (replicate 16 0))) (refused 10 0)
     -- a view asks for a layout alone
     ∷ says (offsetOf (viewCall boolFile 1 [] (replicate 12 0))) (good 0)
     ∷ says (offsetOf (viewCall boolFile 1 (2 ∷ []) (replicate 12 0))) (good 8)

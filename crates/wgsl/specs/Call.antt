@@ -15,10 +15,10 @@ use lib.ListN.{length, getElem?, take, drop}
 use lib.Dec.{eqb, ltb}
 use Rattle.wgsl.specs.Round.{withinLimit}
 use Rattle.wgsl.specs.Types.{Scalar, Ty, isOpen}
-use Rattle.wgsl.specs.Size.{present, sizeOf, alignOf, minSizeOf, ownStrideOf, hasLayout, isStorable}
+use Rattle.wgsl.specs.Size.{present, widthOf, sizeOf, alignOf, minSizeOf, ownStrideOf, hasLayout, isStorable}
 use Rattle.wgsl.specs.Said.{Said, good, refused, _>>=_, _>>_, refuse, orRefuse}
 use Rattle.wgsl.specs.Rule.{typesOf}
-use Rattle.wgsl.specs.Place.{Shape, one, parts, field, whole, shapeOf, spanOf, wordPlaces, places, wordCount, extentOf, elementsIn, storeWords, written, wordsRead, checkWords}
+use Rattle.wgsl.specs.Place.{Shape, one, parts, field, whole, shapeOf, spanOf, wordsFor, wordPlaces, places, wordCount, extentOf, elementsIn, storeWords, written, wordsRead, checkWords}
 use Rattle.wgsl.specs.Path.{Target, walk, stepOf}
 use Rattle.wgsl.specs.Rank.{Candidate, rankOf, commonOfAll}
 
@@ -106,7 +106,8 @@ isShort t b = cond (isOpen t) (eqb (elementsIn (length b) t) 0) (ltb (length b) 
 
 -- ---- read
 
--- "It fills as many words as there are scalars and answers that number; later words stay." 14: too few words. An open type has n elements.
+-- "It fills as many words as there are scalars and answers that number; later words stay." (since E6, as many as its scalars take)
+-- 14: too few words. An open type has n elements.
 unfoldable pub readElements : ℕ → Ty → List ℕ → List ℕ → Said Done
 readElements n t b ws = do
   refuse 14 0 (ltb (length ws) (wordCount n t))
@@ -129,8 +130,8 @@ readCall f e b ws = do
 unfoldable pub elementsFor : ℕ → Ty → ℕ
 elementsFor words t = (words - wordCount 0 t) / (wordCount 1 t - wordCount 0 t)
 
--- 14: "Writing takes exactly as many words as scalars; for an open type the words beyond the fixed part are a positive multiple of one
--- element's."
+-- 14: "Writing takes exactly as many words as scalars" (since E6, as many as its scalars take) "; for an open type the words beyond the
+-- fixed part are a positive multiple of one element's."
 unfoldable pub isWrongCount : Ty → List ℕ → Bool
 isWrongCount t ws =
     not (eqb (length ws) (wordCount (elementsFor (length ws) t) t)) || (isOpen t && eqb (elementsFor (length ws) t) 0)
@@ -199,22 +200,24 @@ scalarAt (parts n stride x) = none
 scalarAt (field offset x rest) = none
 scalarAt (whole z) = none
 
--- "Setting changes one scalar at a path." It answers the scalar's offset. 16: a word that the scalar cannot hold.
-unfoldable pub setScalar : Scalar → ℕ → ℕ → List ℕ → Said Done
-setScalar s at w b = do
-  checkWords 0 (wordPlaces s at) (w ∷ [])
-  good (record { value = at; contents = storeWords (wordPlaces s at) (w ∷ []) b })
+-- "Setting changes one scalar at a path." It answers the scalar's offset. 14: "Setting takes a word list of that length. Refusals: 14 for
+-- another length" (E6). 16: a word that the scalar cannot hold.
+unfoldable pub setScalar : Scalar → ℕ → List ℕ → List ℕ → Said Done
+setScalar s at ws b = do
+  refuse 14 0 (not (eqb (length ws) (wordsFor (present (widthOf s)))))
+  checkWords 0 (wordPlaces s at) ws
+  good (record { value = at; contents = storeWords (wordPlaces s at) ws b })
 
 -- 14 comes before it
-unfoldable pub setTarget : Target → ℕ → List ℕ → Said Done
-setTarget target w b = do
+unfoldable pub setTarget : Target → List ℕ → List ℕ → Said Done
+setTarget target ws b = do
   s ← orRefuse 14 0 (scalarAt (target .shape))
-  setScalar s (target .offset) w b
+  setScalar s (target .offset) ws b
 
-unfoldable pub setCall : List ℕ → ℕ → List ℕ → ℕ → List ℕ → Said Done
-setCall f e path w b = do
+unfoldable pub setCall : List ℕ → ℕ → List ℕ → List ℕ → List ℕ → Said Done
+setCall f e path ws b = do
   target ← targetCall true f e path b
-  setTarget target w b
+  setTarget target ws b
 
 -- ---- rank and common
 

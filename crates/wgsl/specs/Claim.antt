@@ -12,11 +12,11 @@ use mathlib.Core.Option.{Option, none, some}
 use mathlib.Core.Path.{_≡_}
 use lib.ListN.{length, getD, getElem?, take, drop}
 use Rattle.wgsl.specs.Round.{up, limit}
-use Rattle.wgsl.specs.Types.{Scalar, bool, i32, u32, f32, f16, abstractInt, abstractFloat, Ty, scalar, vector, matrix, array, runtime, atomic, struct, Members, no-more, member, isRuntime, isOpen, everywhere}
+use Rattle.wgsl.specs.Types.{Scalar, bool, i32, u32, f32, f16, abstractInt, abstractFloat, i64, u64, f64, Ty, scalar, vector, matrix, array, runtime, atomic, struct, Members, no-more, member, isRuntime, isOpen, everywhere}
 use Rattle.wgsl.specs.Size.{present, widthOf, sizeOf, alignOf, strideOf, ownStrideOf, fitsLimit, hasLayout, isStorable}
 use Rattle.wgsl.specs.Said.{Said, good, refused}
 use Rattle.wgsl.specs.Rule.{typeOfEntry, isAllowed, givenFits, typesBelow, typesOf}
-use Rattle.wgsl.specs.Place.{extentOf, elementsIn, Shape, one, parts, field, shapeOf, Place, places, wordCount, wordsRead}
+use Rattle.wgsl.specs.Place.{extentOf, elementsIn, Shape, one, parts, field, shapeOf, Place, wordsOver, wordsFor, places, wordCount, wordsRead}
 use Rattle.wgsl.specs.Path as path
 use Rattle.wgsl.specs.Path.{Step, stepOf}
 use Rattle.wgsl.specs.Call.{Done, checkOf, entryOf, sizeCall, alignCall, minSizeCall, layoutCall, readCall, writeCall, viewCall, setCall, rankCall, commonCall}
@@ -87,6 +87,16 @@ Fit [] ws = Unit {0}
 Fit (p ∷ ps) [] = Unit {0}
 Fit (p ∷ ps) (w ∷ ws) = (w < 256 ^ p .width) × Fit ps ws
 
+-- ws are words that a scalar of so many bytes at `at` can hold: as many as it takes, each one that its place can hold
+pub record Holds (bytes at : ℕ) (ws : List ℕ) : Type 0 where
+  pub count : length ws ≡ wordsFor bytes
+  pub words-fit : Fit (wordsOver (wordsFor bytes) bytes at) ws
+
+-- the number that words hold together, the lowest first
+unfoldable pub together : List ℕ → ℕ
+together [] = 0
+together (w ∷ ws) = w + 2 ^ 32 * together ws
+
 -- ---- where members lie
 
 -- the types of the members, in their order
@@ -117,6 +127,9 @@ isBool f32 = false
 isBool f16 = false
 isBool abstractInt = false
 isBool abstractFloat = false
+isBool i64 = false
+isBool u64 = false
+isBool f64 = false
 
 -- of a type itself, and not of those within it: its scalar is no bool
 unfoldable pub isNoBool : Ty → Bool
@@ -185,15 +198,15 @@ pub record CanView (f : List ℕ) (e : ℕ) (steps b : List ℕ) : Type 0 where
   pub shape : Shape
   pub valid : Leads 0 (shapeOf (elementsIn (length b) type) type) (map stepOf steps) offset shape
 
--- Nor 14 nor 16 to set: the steps lead to one scalar, which can hold the word.
-pub record CanSet (f : List ℕ) (e : ℕ) (steps : List ℕ) (w : ℕ) (b : List ℕ) : Type 0 where
+-- Nor 14 nor 16 to set: the steps lead to one scalar, which takes so many words and can hold these.
+pub record CanSet (f : List ℕ) (e : ℕ) (steps ws b : List ℕ) : Type 0 where
   pub type : Ty
   pub stored : Stored f e b type
   pub room : HasRoom type b
   pub offset : ℕ
   pub scalar-there : Scalar
   pub valid : Leads 0 (shapeOf (elementsIn (length b) type) type) (map stepOf steps) offset (one scalar-there)
-  pub word-fits : w < 256 ^ present (widthOf scalar-there)
+  pub holds : Holds (present (widthOf scalar-there)) offset ws
 
 -- To extract and to insert a field: the steps lead to one i32 or u32.
 pub record CanField (f : List ℕ) (e : ℕ) (steps b : List ℕ) : Type 0 where
@@ -277,7 +290,7 @@ pub record PlacesFit (f : List ℕ) : Type 0 where
   pub read : (e : ℕ) (b ws : List ℕ) → PlaceFits (readCall f e b ws)
   pub write : (e : ℕ) (ws b : List ℕ) → PlaceFits (writeCall f e ws b)
   pub view : (e : ℕ) (steps b : List ℕ) → PlaceFits (viewCall f e steps b)
-  pub set : (e : ℕ) (steps : List ℕ) (w : ℕ) (b : List ℕ) → PlaceFits (setCall f e steps w b)
+  pub set : (e : ℕ) (steps ws b : List ℕ) → PlaceFits (setCall f e steps ws b)
   pub extract : (e : ℕ) (steps b : List ℕ) (offset count : ℕ) → PlaceFits (extractCall f e steps b offset count)
   pub insert : (e : ℕ) (steps : List ℕ) (new offset count : ℕ) (b : List ℕ) → PlaceFits (insertCall f e steps new offset count b)
   pub uniform : (e : ℕ) → PlaceFits (uniformCall f e)

@@ -4,12 +4,13 @@
 -- Not here: refusals (`Call`).
 -- An open type's shape depends on how many elements its array holds, the first argument `n` below; no other type's does.
 -- Definitions only. Assumes nothing.
-use Prim.Native.Nat.{ℕ, zero, suc, _+_, _-_, _*_, _/_, _^_}
+use Prim.Native.Nat.{ℕ, zero, suc, _+_, _-_, _*_, _/_, _^_, min}
 use mathlib.Core.List.{List, [], _∷_, _++_, map}
 use mathlib.Core.Bool.{Bool, not}
 use mathlib.Core.Option.{Option, none, some}
 use lib.ListN.{length, drop, replicate}
 use lib.Dec.{ltb}
+use Rattle.wgsl.specs.Round.{up}
 use Rattle.wgsl.specs.Number.{load, store}
 use Rattle.wgsl.specs.Types.{Scalar, Ty, scalar, vector, matrix, array, runtime, atomic, struct, Members, no-more, member}
 use Rattle.wgsl.specs.Size.{present, widthOf, vectorAlign, memberStart, memberEnd, sizeOf, alignOf, strideOf}
@@ -105,9 +106,17 @@ pub record Place : Type 0 where
   pub at : ℕ
   pub width : ℕ
 
--- "one u32 each": where the words lie that a scalar takes
+-- n words over so many bytes at `at`: word k holds four of them, from byte 4 x k on, or the rest
+unfoldable pub wordsOver : ℕ → ℕ → ℕ → List Place
+wordsOver zero bytes at = []
+wordsOver (suc n) bytes at = record { at = at; width = min 4 bytes } ∷ wordsOver n (bytes - 4) (at + 4)
+
+-- "A 64-bit scalar takes two words, low first" (E6): how many words hold so many bytes, and where those of a scalar lie
+unfoldable pub wordsFor : ℕ → ℕ
+wordsFor bytes = up 4 bytes / 4
+
 unfoldable pub wordPlaces : Scalar → ℕ → List Place
-wordPlaces s at = record { at = at; width = present (widthOf s) } ∷ []
+wordPlaces s at = wordsOver (wordsFor (present (widthOf s))) (present (widthOf s)) at
 
 -- what f gives at `at`, at + stride, ..: n of them
 unfoldable pub repeated : {A : Type 0} → ℕ → ℕ → (ℕ → List A) → ℕ → List A

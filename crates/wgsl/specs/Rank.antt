@@ -7,7 +7,7 @@ use mathlib.Core.List.{List, [], _∷_}
 use mathlib.Core.Bool.{Bool, true, false, cond, _&&_}
 use mathlib.Core.Option.{Option, none, some}
 use lib.Dec.{eqb}
-use Rattle.wgsl.specs.Types.{Scalar, bool, i32, u32, f32, f16, abstractInt, abstractFloat, Ty, scalar, vector, matrix, array, runtime, atomic, struct, scalarKind, vectorKind, matrixKind, arrayKind, runtimeKind, atomicKind, structKind}
+use Rattle.wgsl.specs.Types.{Scalar, bool, i32, u32, f32, f16, abstractInt, abstractFloat, i64, u64, f64, Ty, scalar, vector, matrix, array, runtime, atomic, struct, scalarKind, vectorKind, matrixKind, arrayKind, runtimeKind, atomicKind, structKind}
 
 -- "abstract int to i32 3, u32 4, abstract float 5, f32 6, f16 7"
 unfoldable pub fromAbstractInt : Scalar → Option ℕ
@@ -18,6 +18,9 @@ fromAbstractInt f32 = some 6
 fromAbstractInt f16 = some 7
 fromAbstractInt abstractInt = some 0
 fromAbstractInt abstractFloat = some 5
+fromAbstractInt i64 = none
+fromAbstractInt u64 = none
+fromAbstractInt f64 = none
 
 -- "abstract float to f32 1, f16 2"
 unfoldable pub fromAbstractFloat : Scalar → Option ℕ
@@ -28,6 +31,9 @@ fromAbstractFloat f32 = some 1
 fromAbstractFloat f16 = some 2
 fromAbstractFloat abstractInt = none
 fromAbstractFloat abstractFloat = some 0
+fromAbstractFloat i64 = none
+fromAbstractFloat u64 = none
+fromAbstractFloat f64 = none
 
 -- "equal types 0"
 unfoldable pub ifSame : Bool → Option ℕ
@@ -42,6 +48,9 @@ scalarRank f32 b = ifSame (eqb (scalarKind f32) (scalarKind b))
 scalarRank f16 b = ifSame (eqb (scalarKind f16) (scalarKind b))
 scalarRank abstractInt b = fromAbstractInt b
 scalarRank abstractFloat b = fromAbstractFloat b
+scalarRank i64 b = ifSame (eqb (scalarKind i64) (scalarKind b))
+scalarRank u64 b = ifSame (eqb (scalarKind u64) (scalarKind b))
+scalarRank f64 b = ifSame (eqb (scalarKind f64) (scalarKind b))
 
 -- All of a type but the scalar that converts, as numbers: its kinds and counts from the outside in.
 -- "Types are compared by structure, structs by entry number." Atomics convert to nothing else, so their scalar belongs to the outline.

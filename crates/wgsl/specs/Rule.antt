@@ -4,14 +4,14 @@
 -- entries, or the refusal of the lowest bad one.
 -- Not here: the fields themselves (`File`), the limit (`Size`, refusal 7).
 -- Definitions only. Assumes nothing.
-use Prim.Native.Nat.{ℕ, zero, suc, _+_, _%_}
+use Prim.Native.Nat.{ℕ, zero, suc, _+_, _-_, _%_}
 use mathlib.Core.List.{List, [], _∷_, _++_}
 use mathlib.Core.Bool.{Bool, true, false, cond, not, _&&_, _||_}
 use mathlib.Core.Option.{Option, none, some}
 use lib.ListN.{getElem?}
-use lib.Dec.{eqb, leb}
+use lib.Dec.{eqb, ltb, leb}
 use Rattle.wgsl.specs.Round.{isPower}
-use Rattle.wgsl.specs.Types.{Scalar, bool, i32, u32, f32, f16, abstractInt, abstractFloat, Ty, scalar, vector, matrix, array, runtime, atomic, struct, Members, no-more, member, lastScalarKind, vectorKind, matrixKind, arrayKind, runtimeKind, atomicKind, structKind, isRuntime, isOpen}
+use Rattle.wgsl.specs.Types.{Scalar, bool, i32, u32, f32, f16, abstractInt, abstractFloat, i64, u64, f64, Ty, scalar, vector, matrix, array, runtime, atomic, struct, Members, no-more, member, isScalarKind, vectorKind, matrixKind, arrayKind, runtimeKind, atomicKind, structKind, isRuntime, isOpen}
 use Rattle.wgsl.specs.Size.{isPresent, sizeOf, alignOf, fitsLimit}
 use Rattle.wgsl.specs.Said.{Said, good, _>>=_, _>>_, refuse, orRefuse}
 use Rattle.wgsl.specs.File.{TypeEntry, MemberEntry, trailerOf, typeEntryAt, memberEntryAt, givenSize, givenAlign, restIsZero, between, mostMembers, checkTrailer}
@@ -30,9 +30,11 @@ unfoldable pub unused : List ℕ → Bool
 unused [] = true
 unused (n ∷ ns) = eqb n 0 && unused ns
 
--- "0 to 6: bool, i32, u32, f32, f16, abstract int, abstract float"
+-- "0 to 6: bool, i32, u32, f32, f16, abstract int, abstract float"; E6: "kinds 13, 14, 15 for i64, u64, f64"
 unfoldable pub scalarOfKind : ℕ → Option Scalar
-scalarOfKind kind = getElem? (bool ∷ i32 ∷ u32 ∷ f32 ∷ f16 ∷ abstractInt ∷ abstractFloat ∷ []) kind
+scalarOfKind kind =
+    cond (ltb kind 13) (getElem? (bool ∷ i32 ∷ u32 ∷ f32 ∷ f16 ∷ abstractInt ∷ abstractFloat ∷ []) kind)
+    (getElem? (i64 ∷ u64 ∷ f64 ∷ []) (kind - 13))
 
 unfoldable pub scalarIn : Ty → Option Scalar
 scalarIn (scalar s) = some s
@@ -57,7 +59,7 @@ membersFrom f ts (suc n) m =
 
 -- The table of kinds: the type that an entry's fields make, if they make one. Which of these types are allowed is said below.
 
--- "0 to 6 .. nothing"
+-- "0 to 6 .. nothing", and 13 to 15
 unfoldable pub scalarMade : TypeEntry → Option Ty
 scalarMade e =
     when (unused (e .columns ∷ e .rows ∷ e .reference ∷ e .count ∷ []))
@@ -65,7 +67,7 @@ scalarMade e =
 
 -- The next five take the type that the reference leads to.
 
--- "7 vector: rows .., reference to a kind 0-6"
+-- "7 vector: rows .., reference to a kind 0-6"; E6: "They may be vector elements"
 unfoldable pub vectorMade : Option Ty → TypeEntry → Option Ty
 vectorMade below e =
     when (unused (e .columns ∷ e .count ∷ [])) (andThen (andThen below scalarIn) (λ s. some (vector (e .rows) s)))
@@ -104,7 +106,7 @@ overMade below e =
 
 unfoldable pub typeMade : List ℕ → List Ty → ℕ → TypeEntry → Option Ty
 typeMade f ts k e =
-    cond (leb (e .kind) lastScalarKind) (scalarMade e)
+    cond (isScalarKind (e .kind)) (scalarMade e)
     (cond (eqb (e .kind) structKind) (structMade f ts k e) (overMade (lower ts (e .reference)) e))
 
 -- the type that entry k makes, over the types of the entries below it
@@ -113,7 +115,7 @@ typeOfEntry f ts k =
     let e : TypeEntry = typeEntryAt f k in
     when (unused (e .zero3 ∷ e .zero6 ∷ [])) (typeMade f ts k e)
 
--- "reference to f32, f16 or abstract float"
+-- "reference to f32, f16 or abstract float"; E6: "not matrix or atomic ones"
 unfoldable pub isMatrixScalar : Scalar → Bool
 isMatrixScalar bool = false
 isMatrixScalar i32 = false
@@ -122,6 +124,9 @@ isMatrixScalar f32 = true
 isMatrixScalar f16 = true
 isMatrixScalar abstractInt = false
 isMatrixScalar abstractFloat = true
+isMatrixScalar i64 = false
+isMatrixScalar u64 = false
+isMatrixScalar f64 = false
 
 -- "reference to i32 or u32"
 unfoldable pub isAtomicScalar : Scalar → Bool
@@ -132,6 +137,9 @@ isAtomicScalar f32 = false
 isAtomicScalar f16 = false
 isAtomicScalar abstractInt = false
 isAtomicScalar abstractFloat = false
+isAtomicScalar i64 = false
+isAtomicScalar u64 = false
+isAtomicScalar f64 = false
 
 unfoldable pub isLast : Members → Bool
 isLast no-more = true

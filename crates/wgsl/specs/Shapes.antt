@@ -7,7 +7,7 @@ use mathlib.Core.Option.{some}
 use mathlib.Core.Path.{_≡_}
 use Rattle.wgsl.specs.Types.{Ty, runtime}
 use Rattle.wgsl.specs.Size.{present, widthOf, strideOf}
-use Rattle.wgsl.specs.Place.{Tail, tailOf, Shape, one, parts, field, whole, shapeOf, spanOf, placesOf, places}
+use Rattle.wgsl.specs.Place.{Tail, tailOf, Shape, one, parts, field, whole, shapeOf, spanOf, wordsFor, placesOf, places}
 
 -- ---- laid out as it should be
 
@@ -34,9 +34,9 @@ Sound (whole z) = Unit {0}
 
 -- ---- its words
 
--- how many scalars a shape holds
+-- how many words a shape takes
 unfoldable pub shapeWords : Shape → ℕ
-shapeWords (one s) = 1
+shapeWords (one s) = wordsFor (present (widthOf s))
 shapeWords (parts n stride x) = n * shapeWords x
 shapeWords (field offset x rest) = shapeWords x + shapeWords rest
 shapeWords (whole z) = 0

@@ -11,7 +11,7 @@ use mathlib.Core.Bool.{Bool, true, false, cond, _&&_, _||_}
 use mathlib.Core.Option.{Option, none, some}
 use lib.Dec.{eqb}
 use Rattle.wgsl.specs.Round.{up, withinLimit}
-use Rattle.wgsl.specs.Types.{Scalar, bool, i32, u32, f32, f16, abstractInt, abstractFloat, Ty, scalar, vector, matrix, array, runtime, atomic, struct, Members, no-more, member, isOpen, everywhere}
+use Rattle.wgsl.specs.Types.{Scalar, bool, i32, u32, f32, f16, abstractInt, abstractFloat, i64, u64, f64, Ty, scalar, vector, matrix, array, runtime, atomic, struct, Members, no-more, member, isOpen, everywhere}
 
 -- "A number made from an absent one is absent."
 unfoldable pub both : (ℕ → ℕ → ℕ) → Option ℕ → Option ℕ → Option ℕ
@@ -33,7 +33,7 @@ unfoldable pub present : Option ℕ → ℕ
 present (some n) = n
 present none = 0
 
--- "bool, i32, u32, f32, atomic: 4/4 (size/alignment). f16: 2/2. Abstract: neither."
+-- "bool, i32, u32, f32, atomic: 4/4 (size/alignment). f16: 2/2. Abstract: neither."; E6: "i64, u64, f64: 8/8"
 unfoldable pub widthOf : Scalar → Option ℕ
 widthOf bool = some 4
 widthOf i32 = some 4
@@ -42,8 +42,12 @@ widthOf f32 = some 4
 widthOf f16 = some 2
 widthOf abstractInt = none
 widthOf abstractFloat = none
+widthOf i64 = some 8
+widthOf u64 = some 8
+widthOf f64 = some 8
 
--- "For n = 3: 16 over i32, u32, f32; 8 over f16"; E4: "WGSL's alignment table lists bool beside i32 in the vector rows: 12/16."
+-- "For n = 3: 16 over i32, u32, f32; 8 over f16"; E4: "WGSL's alignment table lists bool beside i32 in the vector rows: 12/16."; E6: "of 3
+-- size 24 and no alignment, as the Rust"
 unfoldable pub vec3Align : Scalar → Option ℕ
 vec3Align bool = some 16
 vec3Align i32 = some 16
@@ -52,6 +56,9 @@ vec3Align f32 = some 16
 vec3Align f16 = some 8
 vec3Align abstractInt = none
 vec3Align abstractFloat = none
+vec3Align i64 = none
+vec3Align u64 = none
+vec3Align f64 = none
 
 -- "Vector of n: size n x scalar size."
 unfoldable pub vectorSize : ℕ → Scalar → Option ℕ
@@ -176,6 +183,9 @@ isStored f32 = true
 isStored f16 = true
 isStored abstractInt = false
 isStored abstractFloat = false
+isStored i64 = true
+isStored u64 = true
+isStored f64 = true
 
 -- of a type itself, and not of those within it: its scalar is no bool and not abstract
 unfoldable pub isPlain : Ty → Bool

@@ -4,10 +4,11 @@
 -- Not here: which trees a file may hold (`Rule`), sizes (`Size`).
 -- Definitions only. Assumes nothing.
 use Prim.Native.Nat.{ℕ}
-use mathlib.Core.Bool.{Bool, true, false, _&&_}
+use mathlib.Core.Bool.{Bool, true, false, _&&_, _||_}
 use mathlib.Core.Option.{Option}
+use lib.Dec.{leb}
 
--- "kinds 0 to 6", in their order
+-- "kinds 0 to 6", in their order; E6: "kinds 13, 14, 15 for i64, u64, f64"
 pub data Scalar : Type 0 where
   bool : Scalar
   i32 : Scalar
@@ -16,9 +17,12 @@ pub data Scalar : Type 0 where
   f16 : Scalar
   abstractInt : Scalar
   abstractFloat : Scalar
+  i64 : Scalar
+  u64 : Scalar
+  f64 : Scalar
 
 mutual
-  -- "kinds 0 to 6", then 7 to 12 in their order
+  -- scalars, then kinds 7 to 12 in their order
   pub data Ty : Type 0 where
     scalar : Scalar → Ty
     vector : ℕ → Scalar → Ty
@@ -46,9 +50,13 @@ scalarKind f32 = 3
 scalarKind f16 = 4
 scalarKind abstractInt = 5
 scalarKind abstractFloat = 6
+-- E6: "kinds 13, 14, 15 for i64, u64, f64"
+scalarKind i64 = 13
+scalarKind u64 = 14
+scalarKind f64 = 15
 
-abbrev pub lastScalarKind : ℕ
-lastScalarKind = 6
+unfoldable pub isScalarKind : ℕ → Bool
+isScalarKind kind = leb kind 6 || (leb 13 kind && leb kind 15)
 
 -- "7 vector", "8 matrix", "9 array", "10 runtime array", "11 atomic", "12 struct"
 abbrev pub vectorKind : ℕ

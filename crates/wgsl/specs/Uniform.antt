@@ -10,7 +10,7 @@ use mathlib.Core.Option.{Option, none, some}
 use lib.ListN.{getElem?}
 use lib.Dec.{eqb, leb}
 use Rattle.wgsl.specs.Round.{up}
-use Rattle.wgsl.specs.Types.{Ty, scalar, vector, matrix, array, runtime, atomic, struct, Members, no-more, member, lastScalarKind, structKind, isOpen, everywhere}
+use Rattle.wgsl.specs.Types.{Ty, scalar, vector, matrix, array, runtime, atomic, struct, Members, no-more, member, isScalarKind, structKind, isOpen, everywhere}
 use Rattle.wgsl.specs.Size.{both, isPresent, present, memberStart, memberEnd, sizeOf, alignOf, strideOf, hasLayout, isStorable}
 use Rattle.wgsl.specs.Said.{Said, good, refused, _>>=_, _>>_, refuse, orRefuse}
 use Rattle.wgsl.specs.File.{TypeEntry, typeEntryAt, memberEntryAt}
@@ -82,7 +82,7 @@ memberTypes f (suc n) m = memberEntryAt f m .type ∷ memberTypes f n (suc m)
 unfoldable pub refersTo : List ℕ → ℕ → List ℕ
 refersTo f k =
     let e : TypeEntry = typeEntryAt f k in
-    cond (leb (e .kind) lastScalarKind) []
+    cond (isScalarKind (e .kind)) []
     (cond (eqb (e .kind) structKind) (memberTypes f (e .count) (e .reference)) (e .reference ∷ []))
 
 -- one of the numbers passes the test
