@@ -7,12 +7,11 @@ use mathlib.Core.Bool.{Bool, true, false}
 use mathlib.Core.List.{List}
 use mathlib.Core.Path.{_≡_, refl, sym, _∙_}
 use native.Mathlib.Omega.{arith}
-use borrow.Author.Tests.{leb-true, leb-false}
-use lib.Dec.{leb}
-use Rattle.wgsl.specs.Types.{Scalar, Ty, scalar, scalarKind, structKind}
+use Rattle.wgsl.specs.Types.{Scalar, Ty, scalar, scalarKind, structKind, isScalarKind}
 use Rattle.wgsl.specs.File.{TypeEntry}
 use Rattle.wgsl.specs.Rank.{outlineOf}
 use Rattle.wgsl.proofs.Fields.{OverScalar}
+use Rattle.wgsl.proofs.ScalarKind.{other-range}
 use Rattle.wgsl.proofs.AtEntry.{At, scalar-at, vector-at, matrix-at, array-at, runtime-at, atomic-at, struct-at, kind-high}
 use Rattle.convert_rank.specs.Ranked.{overScalar}
 use Rattle.convert_rank.proofs.RankOf.{front}
@@ -20,8 +19,8 @@ use Rattle.convert_rank.proofs.OverScalar.{is-vector, is-matrix, is-ato
 
 module _ {f : List ℕ} {ts : List Ty} {k : ℕ} {t : Ty} {x : TypeEntry} (at : At f ts k t x) where
   -- The type of an entry of kind 7, 8 or 11 is the one over a scalar that its fields say.
-  pub over-scalar-at : 6 < x .kind → (x .kind ≡ 9 → ⊥) → (x .kind ≡ 10 → ⊥) → (x .kind ≡ structKind → ⊥) → OverScalar ts (x .reference) t (overScalar x)
-  over-scalar-at high no-array no-runtime no-struct = go (x .kind - 7) (omega arith)
+  pub over-scalar-at : isScalarKind (x .kind) ≡ false → (x .kind ≡ 9 → ⊥) → (x .kind ≡ 10 → ⊥) → (x .kind ≡ structKind → ⊥) → OverScalar ts (x .reference) t (overScalar x)
+  over-scalar-at high no-array no-runtime no-struct = let h = other-range _ high .0 in go (x .kind - 7) (omega arith)
     where
       over : {make : Scalar → Ty} → OverScalar ts (x .reference) t make → ((s : Scalar) → overScalar x s ≡ make s) → OverScalar ts (x .reference) t (overScalar x)
       over h is =
@@ -35,17 +34,17 @@ module _ {f : List ℕ} {ts : List Ty} {k : ℕ} {t : Ty} {x : TypeEntry} (at : 
       go (suc (suc (suc (suc zero)))) e =
           over (atomic-at at e) (λ s. is-atomic x s (λ h. omega (arith, h, e)) (λ h. omega (arith, h, e)))
       go (suc (suc (suc (suc (suc zero))))) e = absurd (no-struct e)
-      go (suc (suc (suc (suc (suc (suc n)))))) e = absurd (omega (arith, kind-high at))
+      go (suc (suc (suc (suc (suc (suc n)))))) e = absurd (omega (arith, kind-high at high))
 
-  -- The type of an entry of kind 0 to 6 is a scalar.
-  pub front-scalar : x .kind ≤ 6 → front t ≡ 0
+  -- The type of an entry of a scalar's kind is a scalar.
+  pub front-scalar : isScalarKind (x .kind) ≡ true → front t ≡ 0
   unfolding front outlineOf
   front-scalar h = let (s, is, of) = scalar-at at h in rw is
 
   -- The kind of any other entry is that of its type.
-  pub front-kind : 6 < x .kind → front t ≡ x .kind
+  pub front-kind : isScalarKind (x .kind) ≡ false → front t ≡ x .kind
   unfolding front outlineOf
-  front-kind h = go (x .kind - 7) (omega arith)
+  front-kind h = let low = other-range _ h .0 in go (x .kind - 7) (omega arith)
     where
       go : (n : ℕ) → x .kind ≡ n + 7 → front t ≡ x .kind
       go zero e = rw (vector-at at e .type-is) (sym e)
@@ -54,15 +53,15 @@ module _ {f : List ℕ} {ts : List Ty} {k : ℕ} {t : Ty} {x : TypeEntry} (at : 
       go (suc (suc (suc zero))) e = rw (runtime-at at e .type-is) (sym e)
       go (suc (suc (suc (suc zero)))) e = rw (atomic-at at e .type-is) (sym e)
       go (suc (suc (suc (suc (suc zero))))) e = rw (struct-at at e .type-is) (sym e)
-      go (suc (suc (suc (suc (suc (suc n)))))) e = absurd (omega (arith, kind-high at))
+      go (suc (suc (suc (suc (suc (suc n)))))) e = absurd (omega (arith, kind-high at h))
 
 -- An entry whose type is a scalar has that scalar's kind.
 pub scalar-kind : {f : List ℕ} {ts : List Ty} {k : ℕ} {s : Scalar} {x : TypeEntry} → At f ts k (scalar s) x → scalarKind s ≡ x .kind
 unfolding front outlineOf
-scalar-kind {s = s} {x = x} at = go (leb (x .kind) 6) refl
+scalar-kind {s = s} {x = x} at = go (isScalarKind (x .kind)) refl
   where
-    go : (b : Bool) → leb (x .kind) 6 ≡ b → scalarKind s ≡ x .kind
-    go true q = let (u, is, of) = scalar-at at (leb-true _ _ q) in cc
+    go : (b : Bool) → isScalarKind (x .kind) ≡ b → scalarKind s ≡ x .kind
+    go true q = let (u, is, of) = scalar-at at q in cc
     go false q =
-        let h : 6 < x .kind = leb-false _ _ q in
-        absurd (omega (arith, front-kind at h))
+        let h : 6 < x .kind = other-range _ q .0 in
+        absurd (omega (arith, front-kind at q))

@@ -8,13 +8,12 @@ use mathlib.Core.List.{List}
 use mathlib.Core.Option.{Option, none, some}
 use mathlib.Core.Path.{_≡_, refl, sym, _∙_}
 use native.Mathlib.Omega.{arith}
-use borrow.Author.Tests.{leb-true, leb-false}
-use lib.Dec.{leb}
 use lib.ListN.{length, getElem?}
-use Rattle.wgsl.specs.Types.{Scalar, Ty, scalar, scalarKind, structKind}
+use Rattle.wgsl.specs.Types.{Scalar, Ty, scalar, scalarKind, structKind, isScalarKind}
 use Rattle.wgsl.specs.File.{trailerOf, TypeEntry, typeEntryAt, typeEntryLength}
 use Rattle.wgsl.specs.Rank.{scalarRank, rankOf}
 use Rattle.convert_rank.specs.Ranked.{Pair, overScalar}
+use Rattle.wgsl.proofs.ScalarKind.{other-range}
 use Rattle.wgsl.proofs.AtEntry.{entry-inside, At, scalar-at, array-at, runtime-at, struct-at, reference-lower}
 use Rattle.convert_rank.proofs.EntryKinds.{over-scalar-at, front-scalar, front-kind, scalar-kind}
 use Rattle.convert_rank.proofs.RankOf.{front-other, scalars, array-same, array-other, runtimes, struct-same, struct-other}
@@ -33,26 +32,24 @@ pub record Two (f : List ℕ) (ts : List Ty) (a b : ℕ) (s t : Ty) (x y : TypeE
   pub second : At f ts b t y
 
 module _ {f : List ℕ} {ts : List Ty} {a b : ℕ} {s t : Ty} {x y : TypeEntry} (two : Two f ts a b s t x y) where
-  pub scalars-rank : {r : Option ℕ} → x .kind ≤ 6 → y .kind ≤ 6 → ((u v : Scalar) → scalarKind u ≡ x .kind → scalarKind v ≡ y .kind → r ≡ scalarRank u v) → r ≡ rankOf s t
+  pub scalars-rank : {r : Option ℕ} → isScalarKind (x .kind) ≡ true → isScalarKind (y .kind) ≡ true → ((u v : Scalar) → scalarKind u ≡ x .kind → scalarKind v ≡ y .kind → r ≡ scalarRank u v) → r ≡ rankOf s t
   scalars-rank low low′ h =
       let (u, s-is, p) = scalar-at (two .first) low in
       let (v, t-is, q) = scalar-at (two .second) low′ in
       h u v p q ∙ scalars s-is t-is
 
-  pub scalar-other : x .kind ≤ 6 → 6 < y .kind → none ≡ rankOf s t
+  pub scalar-other : isScalarKind (x .kind) ≡ true → isScalarKind (y .kind) ≡ false → none ≡ rankOf s t
   scalar-other low high =
-      front-other s t (λ e. omega (arith, front-scalar (two .first) low, front-kind (two .second) high))
+      front-other s t (λ e. omega (arith, front-scalar (two .first) low, front-kind (two .second) high, other-range _ high .0))
 
-  pub kinds-other : 6 < x .kind → (x .kind ≡ y .kind → ⊥) → none ≡ rankOf s t
-  kinds-other high h = go (leb (y .kind) 6) refl
+  pub kinds-other : isScalarKind (x .kind) ≡ false → (x .kind ≡ y .kind → ⊥) → none ≡ rankOf s t
+  kinds-other high h = go (isScalarKind (y .kind)) refl
     where
-      go : (b : Bool) → leb (y .kind) 6 ≡ b → none ≡ rankOf s t
+      go : (b : Bool) → isScalarKind (y .kind) ≡ b → none ≡ rankOf s t
       go true q =
-          let low = leb-true (y .kind) 6 q in
-          front-other s t (λ e. omega (arith, front-kind (two .first) high, front-scalar (two .second) low))
+          front-other s t (λ e. omega (arith, front-kind (two .first) high, front-scalar (two .second) q, other-range _ high .0))
       go false q =
-          let high′ = leb-false (y .kind) 6 q in
-          front-other s t (λ e. h (omega (arith, front-kind (two .first) high, front-kind (two .second) high′)))
+          front-other s t (λ e. h (omega (arith, front-kind (two .first) high, front-kind (two .second) q)))
 
   module _ (same : x .kind ≡ y .kind) where
     pub structs-same : x .kind ≡ structKind → a ≡ b → some 0 ≡ rankOf s t
@@ -70,10 +67,10 @@ module _ {f : List ℕ} {ts : List Ty} {a b : ℕ} {s t : Ty} {x y : TypeEntry} 
     -- i and j are the entries that the two refer to,
     module _ {i j : ℕ} (i-is : i ≡ x .reference) (j-is : j ≡ y .reference) where
       -- which have lower numbers, so the file has them,
-      pub lower-pair : {start : ℕ} → Pair f ts start a b → 6 < x .kind → (x .kind ≡ structKind → ⊥) → (i < a) × Pair f ts start i j
+      pub lower-pair : {start : ℕ} → Pair f ts start a b → isScalarKind (x .kind) ≡ false → (x .kind ≡ structKind → ⊥) → (i < a) × Pair f ts start i j
       lower-pair p high no-struct =
           let low : i < a = omega (arith, i-is, reference-lower (two .first) high no-struct) in
-          let low′ : j < b = omega (arith, j-is, reference-lower (two .second) (omega arith) (λ e. no-struct (same ∙ e))) in (
+          let low′ : j < b = omega (arith, j-is, reference-lower (two .second) (rw (← same) high) (λ e. no-struct (same ∙ e))) in (
             low,
             record {
               accepted = p .accepted;
@@ -103,8 +100,8 @@ module _ {f : List ℕ} {ts : List Ty} {a b : ℕ} {s t : Ty} {x y : TypeEntry} 
         right : {c : Scalar} → getElem? ts (y .reference) ≡ some (scalar c) → scalarKind c ≡ v .kind
         right e = scalar-kind (record { good-file = two .first .good-file; type-is = rw j-is e; fields-are = v-is })
 
-        pub over-scalars-rank : {r : Option ℕ} → 6 < x .kind → (x .kind ≡ 9 → ⊥) → (x .kind ≡ 10 → ⊥) → (x .kind ≡ structKind → ⊥) → ((c d : Scalar) → scalarKind c ≡ u .kind → scalarKind d ≡ v .kind → r ≡ rankOf (overScalar x c) (overScalar y d)) → r ≡ rankOf s t
+        pub over-scalars-rank : {r : Option ℕ} → isScalarKind (x .kind) ≡ false → (x .kind ≡ 9 → ⊥) → (x .kind ≡ 10 → ⊥) → (x .kind ≡ structKind → ⊥) → ((c d : Scalar) → scalarKind c ≡ u .kind → scalarKind d ≡ v .kind → r ≡ rankOf (overScalar x c) (overScalar y d)) → r ≡ rankOf s t
         over-scalars-rank high no-array no-runtime no-struct h =
             let p = over-scalar-at (two .first) high no-array no-runtime no-struct in
-            let q = over-scalar-at (two .second) (omega arith) (λ e. no-array (same ∙ e)) (λ e. no-runtime (same ∙ e)) (λ e. no-struct (same ∙ e)) in
+            let q = over-scalar-at (two .second) (rw (← same) high) (λ e. no-array (same ∙ e)) (λ e. no-runtime (same ∙ e)) (λ e. no-struct (same ∙ e)) in
             rw (p .type-is, q .type-is) (h _ _ (left (p .element-is)) (right (q .element-is)))

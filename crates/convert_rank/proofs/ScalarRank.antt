@@ -6,7 +6,7 @@ use Prim.Native.Nat.{ℕ}
 use mathlib.Core.Option.{none, some}
 use mathlib.Core.Path.{_≡_, refl, ap, sym, _∙_}
 use borrow.Author.Tests.{ne-eqb}
-use Rattle.wgsl.specs.Types.{Scalar, bool, i32, u32, f32, f16, abstractInt, abstractFloat, scalarKind}
+use Rattle.wgsl.specs.Types.{Scalar, bool, i32, u32, f32, f16, abstractInt, abstractFloat, i64, u64, f64, scalarKind}
 use Rattle.wgsl.specs.Rank.{fromAbstractInt, fromAbstractFloat, ifSame, scalarRank}
 use Rattle.wgsl.proofs.ScalarRank.{kind-same, scalar-refl}
 
@@ -66,6 +66,9 @@ int-none f32 kind of h₅ h₁ h₂ h₆ h₃ h₄ = absurd (h₃ (sym of))
 int-none f16 kind of h₅ h₁ h₂ h₆ h₃ h₄ = absurd (h₄ (sym of))
 int-none abstractInt kind of h₅ h₁ h₂ h₆ h₃ h₄ = absurd (h₅ (sym of))
 int-none abstractFloat kind of h₅ h₁ h₂ h₆ h₃ h₄ = absurd (h₆ (sym of))
+int-none i64 kind of h₅ h₁ h₂ h₆ h₃ h₄ = refl
+int-none u64 kind of h₅ h₁ h₂ h₆ h₃ h₄ = refl
+int-none f64 kind of h₅ h₁ h₂ h₆ h₃ h₄ = refl
 
 -- Abstract float converts to no other kind.
 pub float-none : (s : Scalar) (kind : ℕ) → scalarKind s ≡ kind → (kind ≡ 6 → ⊥) → (kind ≡ 3 → ⊥) → (kind ≡ 4 → ⊥) → none ≡ fromAbstractFloat s
@@ -77,6 +80,9 @@ float-none f32 kind of h₆ h₃ h₄ = absurd (h₃ (sym of))
 float-none f16 kind of h₆ h₃ h₄ = absurd (h₄ (sym of))
 float-none abstractInt kind of h₆ h₃ h₄ = refl
 float-none abstractFloat kind of h₆ h₃ h₄ = absurd (h₆ (sym of))
+float-none i64 kind of h₆ h₃ h₄ = refl
+float-none u64 kind of h₆ h₃ h₄ = refl
+float-none f64 kind of h₆ h₃ h₄ = refl
 
 -- A scalar that is not abstract converts to no other.
 pub scalar-none : (s t : Scalar) (a b : ℕ) → scalarKind s ≡ a → scalarKind t ≡ b → (a ≡ b → ⊥) → (a ≡ 5 → ⊥) → (a ≡ 6 → ⊥) → none ≡ scalarRank s t
@@ -88,3 +94,6 @@ scalar-none f32 t a b p q h h₅ h₆ = rw (ne-eqb 3 (scalarKind t) (λ e. h (sy
 scalar-none f16 t a b p q h h₅ h₆ = rw (ne-eqb 4 (scalarKind t) (λ e. h (sym p ∙ e ∙ q)))
 scalar-none abstractInt t a b p q h h₅ h₆ = absurd (h₅ (sym p))
 scalar-none abstractFloat t a b p q h h₅ h₆ = absurd (h₆ (sym p))
+scalar-none i64 t a b p q h h₅ h₆ = rw (ne-eqb 13 (scalarKind t) (λ e. h (sym p ∙ e ∙ q)))
+scalar-none u64 t a b p q h h₅ h₆ = rw (ne-eqb 14 (scalarKind t) (λ e. h (sym p ∙ e ∙ q)))
+scalar-none f64 t a b p q h h₅ h₆ = rw (ne-eqb 15 (scalarKind t) (λ e. h (sym p ∙ e ∙ q)))

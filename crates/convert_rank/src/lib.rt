@@ -7,11 +7,11 @@ use file::fields::TYPE_ENTRY_LENGTH;
 use file::fields::TypeEntry;
 use file::fields::entry_at;
 use file::kinds::ARRAY;
-use file::kinds::LAST_SCALAR;
 use file::kinds::MATRIX;
 use file::kinds::RUNTIME;
 use file::kinds::STRUCT;
 use file::kinds::VECTOR;
+use file::kinds::is_scalar;
 use numbers::wide::wide;
 ghost use mathlib.Core.Path.{_≡_};
 ghost use mathlib.Core.List.{List};
@@ -68,8 +68,8 @@ pub fn entry_rank(f: &[u8], start: usize, a: usize, b: usize) -> Ranked
 {
     let x = entry_of(f, start, a);
     let y = entry_of(f, start, b);
-    if x.kind <= LAST_SCALAR {
-        if y.kind <= LAST_SCALAR {
+    if is_scalar(x.kind) {
+        if is_scalar(y.kind) {
             return scalar_rank(x.kind, y.kind);
         }
         return Ranked::No;

@@ -24,7 +24,7 @@ use Rattle.wgsl.proofs.EntryFor.{entry-well-formed}
 use Rattle.said.specs.Refusal.{numberOf, placeOf}
 use Rattle.said.specs.declared.refusal.Refusal.{Refusal}
 use Rattle.file.specs.declared.trailer.Trailer.{Trailer}
-use Rattle.layout_values.proofs.ScalarMade.{kind-bounded}
+use Rattle.wgsl.proofs.ScalarKind.{no-scalar-kind}
 use Rattle.layout_values.proofs.ValuesOf.{own-reference}
 use Rattle.layout_values.specs.Value.{partsOf, valueOf}
 use Rattle.layout_values.specs.declared.value.Value.{Value}
@@ -68,7 +68,7 @@ marked-is ask p t w e = rw e (marked-present (ask t) (λ n h. p t n w h))
 
 runtime-least : (t : Ty) → kindOf t ≡ 10 → present (partsOf t .stride) ≡ present (minSizeOf t)
 unfolding kindOf partsOf minSizeOf
-runtime-least (scalar s) h = absurd (omega (arith, kind-bounded s))
+runtime-least (scalar s) h = absurd (no-scalar-kind s 10 (omega arith) (omega arith) h)
 runtime-least (vector n s) h = absurd (omega arith)
 runtime-least (matrix c r s) h = absurd (omega arith)
 runtime-least (array n t) h = absurd (omega arith)

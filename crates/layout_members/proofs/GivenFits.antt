@@ -10,7 +10,7 @@ use native.Mathlib.Omega.{arith}
 use borrow.Author.Tests.{eq-eqb, ne-eqb, le-leb}
 use lib.Dec.{eqb, leb}
 use Rattle.wgsl.specs.Round.{IsPower, isPower}
-use Rattle.wgsl.specs.Types.{bool, i32, u32, f32, f16, abstractInt, abstractFloat, Ty, scalar, vector, matrix, array, runtime, atomic, struct, isRuntime, everywhere, scalarKind, kindOf}
+use Rattle.wgsl.specs.Types.{bool, i32, u32, f32, f16, abstractInt, abstractFloat, i64, u64, f64, Ty, scalar, vector, matrix, array, runtime, atomic, struct, isRuntime, everywhere, scalarKind, kindOf}
 use Rattle.wgsl.specs.Size.{isPresent, present, sizeOf, alignOf}
 use Rattle.wgsl.specs.File.{MemberEntry, sizeIsGiven, alignIsGiven, givenSize, givenAlign}
 use Rattle.wgsl.specs.Rule.{memberAllowed, givenSizeFits, givenAlignFits, atLeast, isMultiple, isWellFormed}
@@ -54,6 +54,9 @@ runtime-kind (scalar f32) = refl
 runtime-kind (scalar f16) = refl
 runtime-kind (scalar abstractInt) = refl
 runtime-kind (scalar abstractFloat) = refl
+runtime-kind (scalar i64) = refl
+runtime-kind (scalar u64) = refl
+runtime-kind (scalar f64) = refl
 runtime-kind (vector n s) = refl
 runtime-kind (matrix c r s) = refl
 runtime-kind (array n t) = refl

@@ -8,10 +8,13 @@ use mathlib.Core.List.{[], _∷_}
 use mathlib.Core.Option.{some}
 use mathlib.Core.Path.{_≡_, refl, sym, _∙_}
 use native.Mathlib.Omega.{arith}
-use Rattle.wgsl.specs.Types.{Scalar, bool, i32, u32, f32, f16, abstractInt, abstractFloat, Ty, atomic, isOpen, scalarKind, kindOf}
+use Rattle.wgsl.specs.Types.{Scalar, bool, i32, u32, f32, f16, abstractInt, abstractFloat, i64, u64, f64, Ty, atomic, isOpen, scalarKind, kindOf}
 use Rattle.wgsl.specs.Size.{isPresent, present, widthOf, sizeOf, alignOf, minSizeOf, innerNumbersOf, isStored}
 use Rattle.wgsl.specs.File.{TypeEntry}
 use Rattle.wgsl.specs.Rule.{andThen, unused, scalarIn, atomicMade, isAtomicScalar, isAllowed, givenFits}
+use Rattle.wgsl.specs.Round.{up}
+use Rattle.wgsl.specs.Place.{wordsFor}
+use Rattle.wgsl.proofs.ScalarKind.{low-scalar}
 use Rattle.layout_values.proofs.VerdictOn.{fits-small, layout-closed, value-is, verdict-laid, made-used, made-rule, made-over}
 use Rattle.layout_values.proofs.ScalarMade.{scalar-known, scalar-kind}
 use Rattle.layout_values.specs.Value.{storedWidth, narrowOf, partsOf, valueOf, madeOf}
@@ -29,6 +32,9 @@ scalar-low f32 h = refl
 scalar-low f16 h = refl
 scalar-low abstractInt h = refl
 scalar-low abstractFloat h = refl
+scalar-low i64 h = refl
+scalar-low u64 h = refl
+scalar-low f64 h = refl
 
 scalar-high : (s : Scalar) → 2 < scalarKind s → isAtomicScalar s ≡ false
 unfolding scalarKind isAtomicScalar
@@ -39,6 +45,9 @@ scalar-high f32 h = refl
 scalar-high f16 h = refl
 scalar-high abstractInt h = refl
 scalar-high abstractFloat h = refl
+scalar-high i64 h = refl
+scalar-high u64 h = refl
+scalar-high f64 h = refl
 
 scalar-atomic : (s : Scalar) → 1 ≤ scalarKind s → scalarKind s ≤ 2 → (isAtomicScalar s ≡ true) × (storedWidth s ≡ 4) × (present (widthOf s) ≡ 4)
 unfolding scalarKind isAtomicScalar storedWidth isStored widthOf present
@@ -49,6 +58,9 @@ scalar-atomic f32 h k = absurd (omega arith)
 scalar-atomic f16 h k = absurd (omega arith)
 scalar-atomic abstractInt h k = absurd (omega arith)
 scalar-atomic abstractFloat h k = absurd (omega arith)
+scalar-atomic i64 h k = absurd (omega arith)
+scalar-atomic u64 h k = absurd (omega arith)
+scalar-atomic f64 h k = absurd (omega arith)
 
 -- ---- the entry
 
@@ -69,13 +81,13 @@ module _ (t : Ty) (l : Value) (is : l ≡ valueOf (l .reference) t) (e : TypeEnt
   atomic-high h = other-scalar (λ s k. scalar-high s (omega arith))
 
   pub atomic-laid : unused (e .columns ∷ e .rows ∷ e .count ∷ []) ≡ true → 1 ≤ l .kind → l .kind ≤ 2 → madeOf (e .reference) (atomicMade (some t) e) ≡ Laid (record { kind = 11; narrow = 4; reference = e .reference; count = 1; unit = 1; stride = 4; size = 4; align = 4 })
-  unfolding atomicMade andThen isAllowed givenFits sizeOf alignOf minSizeOf innerNumbersOf kindOf narrowOf partsOf present isPresent isOpen
+  unfolding atomicMade andThen isAllowed givenFits sizeOf alignOf minSizeOf innerNumbersOf kindOf narrowOf partsOf present isPresent isOpen wordsFor up
   atomic-laid zeros low high =
-      let x = scalar-known t l is (omega arith) in
+      let x = scalar-known t l is (low-scalar _ (omega arith)) in
       let s = x .scalar in
       let k = x .kind-is in
       let (allowed, narrow, width) = scalar-atomic s (omega arith) (omega arith) in
       let laid = layout-closed (atomic s) refl refl refl in
       made-over _ atomic zeros (x .found)
       ∙ verdict-laid (atomic s) _ allowed refl (fits-small (atomic s) refl (omega arith) (omega arith) refl)
-      (value-is (atomic s) _ refl (sym narrow) refl (rw laid) (sym width) refl refl)
+      (value-is (atomic s) _ refl (sym narrow) refl (rw (laid, width)) (sym width) refl refl)

@@ -6,53 +6,51 @@ use Prim.Native.Nat.{ℕ, zero, suc, _*_, _<_, _≤_}
 use mathlib.Core.Bool.{true, false, cond, _&&_, and-false}
 use mathlib.Core.List.{[], _∷_}
 use mathlib.Core.Option.{Option, none, some}
-use mathlib.Core.Path.{_≡_, refl, sym, _∙_}
-use native.Mathlib.Nat.{mul-le-mul}
+use mathlib.Core.Path.{_≡_, refl, ap, sym, _∙_}
+use native.Mathlib.Nat.{mul-le-mul, mul-one}
 use native.Mathlib.Omega.{arith}
 use borrow.Author.Tests.{le-leb, lt-leb}
 use lib.Dec.{eqb}
-use Rattle.wgsl.specs.Types.{Scalar, bool, i32, u32, f32, f16, abstractInt, abstractFloat, Ty, matrix, isOpen, scalarKind, kindOf}
-use Rattle.wgsl.specs.Size.{both, isPresent, present, vectorAlign, sizeOf, alignOf, minSizeOf, innerNumbersOf, hasLayout}
+use Rattle.wgsl.specs.Types.{Scalar, bool, i32, u32, f32, f16, abstractInt, abstractFloat, i64, u64, f64, Ty, matrix, isOpen, scalarKind, isScalarKind, kindOf}
+use Rattle.wgsl.specs.Size.{both, isPresent, present, widthOf, vectorAlign, sizeOf, alignOf, minSizeOf, innerNumbersOf, hasLayout}
 use Rattle.wgsl.specs.File.{TypeEntry, between}
 use Rattle.wgsl.specs.Rule.{andThen, unused, scalarIn, matrixMade, isMatrixScalar, isAllowed, givenFits}
-use Rattle.layout_values.proofs.VerdictOn.{present-positive, fits-small, layout-closed, layout-none, value-is, unit-laid, unit-none, verdict-laid, made-used, made-rule, made-over}
+use Rattle.wgsl.proofs.Count.{matrix-word}
+use Rattle.wgsl.proofs.ScalarRank.{kind-same}
+use Rattle.layout_values.proofs.VerdictOn.{present-positive, fits-small, layout-closed, layout-none, value-is, unit-laid, verdict-laid, made-used, made-rule, made-over}
 use Rattle.layout_values.proofs.ScalarMade.{scalar-known, scalar-kind}
-use Rattle.layout_values.proofs.VectorAlign.{times-present, align-absent}
-use Rattle.layout_values.specs.Value.{storedWidth, narrowOf, partsOf, valueOf, madeOf}
+use Rattle.layout_values.proofs.VectorAlign.{times-present, align-absent, width-there}
+use Rattle.layout_values.specs.Value.{storedWidth, scalarWords, narrowOf, partsOf, valueOf, madeOf}
 use Rattle.layout_values.specs.declared.value.Value.{Value}
 use Rattle.layout_values.specs.declared.value.Made.the-variants.{Laid, Rule}
 
 -- ---- the scalars of a matrix
 
-scalar-low : (s : Scalar) → scalarKind s < 3 → isMatrixScalar s ≡ false
+-- "f32, f16 or abstract float", by their kinds
+pub is-f32 : (s : Scalar) → scalarKind s ≡ 3 → isMatrixScalar s ≡ true
 unfolding scalarKind isMatrixScalar
-scalar-low bool h = refl
-scalar-low i32 h = refl
-scalar-low u32 h = refl
-scalar-low f32 h = absurd (omega arith)
-scalar-low f16 h = absurd (omega arith)
-scalar-low abstractInt h = refl
-scalar-low abstractFloat h = absurd (omega arith)
+is-f32 s e = rw (kind-same {a = s} {b = f32} e)
 
-scalar-five : (s : Scalar) → scalarKind s ≡ 5 → isMatrixScalar s ≡ false
+pub is-f16 : (s : Scalar) → scalarKind s ≡ 4 → isMatrixScalar s ≡ true
 unfolding scalarKind isMatrixScalar
-scalar-five bool h = refl
-scalar-five i32 h = refl
-scalar-five u32 h = refl
-scalar-five f32 h = absurd (omega arith)
-scalar-five f16 h = absurd (omega arith)
-scalar-five abstractInt h = refl
-scalar-five abstractFloat h = absurd (omega arith)
+is-f16 s e = rw (kind-same {a = s} {b = f16} e)
 
-scalar-float : (s : Scalar) → 3 ≤ scalarKind s → (scalarKind s ≡ 5 → ⊥) → isMatrixScalar s ≡ true
+-- and of the others the last alone
+pub is-abstract : (s : Scalar) (kind : ℕ) → scalarKind s ≡ kind → (kind ≡ 3 → ⊥) → (kind ≡ 4 → ⊥) → isMatrixScalar s ≡ eqb kind 6
 unfolding scalarKind isMatrixScalar
-scalar-float bool h n = absurd (omega arith)
-scalar-float i32 h n = absurd (omega arith)
-scalar-float u32 h n = absurd (omega arith)
-scalar-float f32 h n = refl
-scalar-float f16 h n = refl
-scalar-float abstractInt h n = absurd (n refl)
-scalar-float abstractFloat h n = refl
+is-abstract s kind e x y = rw (← e) (go s (λ q. x (sym e ∙ q)) (λ q. y (sym e ∙ q)))
+  where
+    go : (s : Scalar) → (scalarKind s ≡ 3 → ⊥) → (scalarKind s ≡ 4 → ⊥) → isMatrixScalar s ≡ eqb (scalarKind s) 6
+    go bool x y = refl
+    go i32 x y = refl
+    go u32 x y = refl
+    go f32 x y = absurd (x refl)
+    go f16 x y = absurd (y refl)
+    go abstractInt x y = refl
+    go abstractFloat x y = refl
+    go i64 x y = refl
+    go u64 x y = refl
+    go f64 x y = refl
 
 times-there : (n : ℕ) (x : Option ℕ) → isPresent x ≡ true → isPresent (both _*_ (some n) x) ≡ true
 unfolding both isPresent
@@ -66,21 +64,12 @@ module _ (t : Ty) (l : Value) (is : l ≡ valueOf (l .reference) t) (e : TypeEnt
   unfolding matrixMade
   matrix-used h = made-used _ _ h
 
-  other-scalar : ((s : Scalar) → scalarKind s ≡ l .kind → l .kind ≤ 6 → isMatrixScalar s ≡ false) → madeOf (e .reference) (matrixMade (some t) e) ≡ Rule
-  unfolding matrixMade andThen isAllowed
-  other-scalar h =
-      made-rule _ _ (scalarIn t) (matrix (e .columns) (e .rows))
-      (λ s f. let (k, b) = scalar-kind t l s is f in rw (h s k b) (and-false (between 2 4 (e .columns) && between 2 4 (e .rows))))
-
   -- "reference to f32, f16 or abstract float"
-  pub matrix-low : l .kind < 3 → madeOf (e .reference) (matrixMade (some t) e) ≡ Rule
-  matrix-low h = other-scalar (λ s k b. scalar-low s (omega arith))
-
-  pub matrix-over : 6 < l .kind → madeOf (e .reference) (matrixMade (some t) e) ≡ Rule
-  matrix-over h = other-scalar (λ s k b. absurd (omega arith))
-
-  pub matrix-int : l .kind ≡ 5 → madeOf (e .reference) (matrixMade (some t) e) ≡ Rule
-  matrix-int h = other-scalar (λ s k b. scalar-five s (omega arith))
+  pub matrix-over : ((s : Scalar) → scalarKind s ≡ l .kind → isMatrixScalar s ≡ false) → madeOf (e .reference) (matrixMade (some t) e) ≡ Rule
+  unfolding matrixMade andThen isAllowed
+  matrix-over h =
+      made-rule _ _ (scalarIn t) (matrix (e .columns) (e .rows))
+      (λ s f. rw (h s (scalar-kind t l s is f .0)) (and-false (between 2 4 (e .columns) && between 2 4 (e .rows))))
 
   -- "columns 2-4"
   pub columns-low : e .columns < 2 → madeOf (e .reference) (matrixMade (some t) e) ≡ Rule
@@ -113,7 +102,7 @@ module _ (t : Ty) (l : Value) (is : l ≡ valueOf (l .reference) t) (e : TypeEnt
           lt-leb (e .rows) 4 h,
         ))
 
-    module _ (zeros : unused (e .count ∷ []) ≡ true) (low : 3 ≤ l .kind) (scalars : l .kind ≤ 6) (float : l .kind ≡ 5 → ⊥) (top : 2 ≤ e .rows) (bottom : e .rows ≤ 4) (a : ℕ) (align : (s : Scalar) → scalarKind s ≡ l .kind → a ≡ present (vectorAlign (e .rows) s)) (narrow : a ≤ 16) where
+    module _ (zeros : unused (e .count ∷ []) ≡ true) (float : (s : Scalar) → scalarKind s ≡ l .kind → isMatrixScalar s ≡ true) (scalars : isScalarKind (l .kind) ≡ true) (top : 2 ≤ e .rows) (bottom : e .rows ≤ 4) (a : ℕ) (align : (s : Scalar) → scalarKind s ≡ l .kind → a ≡ present (vectorAlign (e .rows) s)) (narrow : a ≤ 32) where
       -- "Matrix: columns x the alignment of a column vector"
       size-is : (s : Scalar) → scalarKind s ≡ l .kind → present (both _*_ (some (e .columns)) (vectorAlign (e .rows) s)) ≡ e .columns * a
       size-is s k = rw (align s k) (times-present (e .columns) (vectorAlign (e .rows) s))
@@ -124,12 +113,12 @@ module _ (t : Ty) (l : Value) (is : l ≡ valueOf (l .reference) t) (e : TypeEnt
           let x = scalar-known t l is scalars in
           let s = x .scalar in
           let k = x .kind-is in
-          let size : e .columns * a ≤ 64 = mul-le-mul right narrow in
+          let size : e .columns * a ≤ 128 = mul-le-mul right narrow in
           made-over _ (matrix (e .columns) (e .rows)) zeros (x .found)
           ∙ rw (← q)
           (verdict-laid (matrix (e .columns) (e .rows) s) v
           (rw (le-leb 2 (e .columns) left, le-leb (e .columns) 4 right, le-leb 2 (e .rows) top, le-leb (e .rows) 4 bottom)
-          (scalar-float s (omega arith) (λ f. float (omega arith))))
+          (float s k))
           refl
           (fits-small (matrix (e .columns) (e .rows) s) refl (rw (size-is s k) size) (omega (arith, align s k)) refl)
           (h s k (x .narrow-is)))
@@ -139,15 +128,15 @@ module _ (t : Ty) (l : Value) (is : l ≡ valueOf (l .reference) t) (e : TypeEnt
       unfolding kindOf narrowOf partsOf sizeOf alignOf isOpen
       matrix-laid u unit =
           matrix-verdict _ refl
-          (λ s k b. value-is (matrix (e .columns) (e .rows) s) _ refl b refl (unit ∙ units s a (align s k)) (align s k)
+          (λ s k b. value-is (matrix (e .columns) (e .rows) s) _ refl b refl (unit ∙ units s a k (align s k)) (align s k)
           (sym (size-is s k)) (align s k))
         where
-          units : (s : Scalar) (a : ℕ) → a ≡ present (vectorAlign (e .rows) s) → cond {A = ℕ} (eqb a 0) 0 (e .rows) ≡ cond (hasLayout (matrix (e .columns) (e .rows) s)) (e .rows) 0
-          units s zero q =
-              unit-none (matrix (e .columns) (e .rows) s) 0 (e .rows)
-              (layout-none (matrix (e .columns) (e .rows) s) (align-absent (e .rows) s top (sym q))) refl
-          units s (suc m) q =
+          units : (s : Scalar) (a : ℕ) → scalarKind s ≡ l .kind → a ≡ present (vectorAlign (e .rows) s) → cond {A = ℕ} (eqb a 0) 0 (e .rows) ≡ cond (hasLayout (matrix (e .columns) (e .rows) s)) (e .rows * scalarWords s) 0
+          units s zero k q =
+              rw (layout-none (matrix (e .columns) (e .rows) s) (align-absent (e .rows) s top (sym q)))
+          units s (suc m) k q =
               let there = present-positive (vectorAlign (e .rows) s) (omega arith) in
-              unit-laid (matrix (e .columns) (e .rows) s) (suc m) (e .rows)
+              let one : e .rows * scalarWords s ≡ e .rows = ap (λ (n : ℕ). e .rows * n) (matrix-word s (float s k) (width-there (e .rows) s (omega arith))) ∙ mul-one (e .rows) in
+              rw one (unit-laid (matrix (e .columns) (e .rows) s) (suc m) (e .rows)
               (layout-closed (matrix (e .columns) (e .rows) s) there (times-there (e .columns) _ there) refl)
-              (λ z. omega arith)
+              (λ z. omega arith))

@@ -10,14 +10,16 @@ use mathlib.Core.Path.{_≡_, refl, sym, _∙_}
 use native.Mathlib.Omega.{arith}
 use borrow.Author.Tests.{le-leb, lt-leb}
 use lib.Dec.{eqb}
-use Rattle.wgsl.specs.Types.{Scalar, Ty, vector, isOpen, scalarKind, kindOf}
+use Rattle.wgsl.specs.Types.{Scalar, Ty, vector, isOpen, scalarKind, isScalarKind, kindOf}
 use Rattle.wgsl.specs.Size.{present, widthOf, vectorSize, vectorAlign, sizeOf, alignOf, minSizeOf, innerNumbersOf, hasLayout}
 use Rattle.wgsl.specs.File.{TypeEntry, between}
 use Rattle.wgsl.specs.Rule.{andThen, unused, scalarIn, vectorMade, isAllowed, givenFits}
+use Rattle.wgsl.specs.Place.{wordsFor}
+use Rattle.wgsl.proofs.Absent.{true-not-false}
 use Rattle.layout_values.proofs.VerdictOn.{present-positive, fits-small, layout-closed, layout-none, value-is, unit-laid, unit-none, verdict-laid, made-used, made-rule, made-over}
 use Rattle.layout_values.proofs.ScalarMade.{width-bounded, scalar-known, scalar-kind}
 use Rattle.layout_values.proofs.VectorAlign.{vector-size, times-bounded, size-present, align-absent}
-use Rattle.layout_values.specs.Value.{storedWidth, narrowOf, partsOf, valueOf, madeOf}
+use Rattle.layout_values.specs.Value.{storedWidth, scalarWords, narrowOf, partsOf, valueOf, madeOf}
 use Rattle.layout_values.specs.declared.value.Value.{Value}
 use Rattle.layout_values.specs.declared.value.Made.the-variants.{Laid, Rule}
 
@@ -26,11 +28,11 @@ module _ (t : Ty) (l : Value) (is : l ≡ valueOf (l .reference) t) (e : TypeEnt
   unfolding vectorMade
   vector-used h = made-used _ _ h
 
-  -- "reference to a kind 0-6"
-  pub vector-over : 6 < l .kind → madeOf (e .reference) (vectorMade (some t) e) ≡ Rule
+  -- "reference to a kind 0-6", or 13-15
+  pub vector-over : isScalarKind (l .kind) ≡ false → madeOf (e .reference) (vectorMade (some t) e) ≡ Rule
   unfolding vectorMade andThen
   vector-over h =
-      made-rule _ _ (scalarIn t) (vector (e .rows)) (λ s f. absurd (omega (arith, scalar-kind t l s is f .1)))
+      made-rule _ _ (scalarIn t) (vector (e .rows)) (λ s f. true-not-false (scalar-kind t l s is f .1) h)
 
   -- "rows 2-4"
   pub vector-low : e .rows < 2 → madeOf (e .reference) (vectorMade (some t) e) ≡ Rule
@@ -42,7 +44,7 @@ module _ (t : Ty) (l : Value) (is : l ≡ valueOf (l .reference) t) (e : TypeEnt
   vector-high h =
       made-rule _ _ (scalarIn t) (vector (e .rows)) (λ s f. rw (le-leb 2 (e .rows) (omega arith), lt-leb (e .rows) 4 h))
 
-  module _ (zeros : unused (e .columns ∷ e .count ∷ []) ≡ true) (scalars : l .kind ≤ 6) (low : 2 ≤ e .rows) (high : e .rows ≤ 4) (w a : ℕ) (width : (s : Scalar) → scalarKind s ≡ l .kind → w ≡ present (widthOf s)) (align : (s : Scalar) → scalarKind s ≡ l .kind → a ≡ present (vectorAlign (e .rows) s)) (narrow : a ≤ 16) where
+  module _ (zeros : unused (e .columns ∷ e .count ∷ []) ≡ true) (scalars : isScalarKind (l .kind) ≡ true) (low : 2 ≤ e .rows) (high : e .rows ≤ 4) (w a : ℕ) (width : (s : Scalar) → scalarKind s ≡ l .kind → w ≡ present (widthOf s)) (align : (s : Scalar) → scalarKind s ≡ l .kind → a ≡ present (vectorAlign (e .rows) s)) (narrow : a ≤ 32) where
     size-is : (s : Scalar) → scalarKind s ≡ l .kind → e .rows * w ≡ present (vectorSize (e .rows) s)
     size-is s k = rw (width s k) (sym (vector-size (e .rows) s))
 
@@ -52,7 +54,7 @@ module _ (t : Ty) (l : Value) (is : l ≡ valueOf (l .reference) t) (e : TypeEnt
         let x = scalar-known t l is scalars in
         let s = x .scalar in
         let k = x .kind-is in
-        let size : present (vectorSize (e .rows) s) ≤ 64 =
+        let size : present (vectorSize (e .rows) s) ≤ 128 =
         omega (arith, vector-size (e .rows) s, times-bounded (e .rows) (present (widthOf s)) high (width-bounded s)) in
         made-over _ (vector (e .rows)) zeros (x .found)
         ∙ rw (← q)
@@ -60,18 +62,18 @@ module _ (t : Ty) (l : Value) (is : l ≡ valueOf (l .reference) t) (e : TypeEnt
         (fits-small (vector (e .rows) s) refl size (omega (arith, align s k)) refl) (h s k (x .narrow-is)))
 
     -- The layout of a vector. "none over bool, as in 000", and none over an abstract scalar: then it has no words.
-    pub vector-laid : (u : ℕ) → u ≡ cond (eqb a 0) 0 1 → madeOf (e .reference) (vectorMade (some t) e) ≡ Laid (record { kind = 7; narrow = l .narrow; reference = e .reference; count = e .rows; unit = u; stride = w; size = e .rows * w; align = a })
+    pub vector-laid : (u : ℕ) → u ≡ cond (eqb a 0) 0 (wordsFor w) → madeOf (e .reference) (vectorMade (some t) e) ≡ Laid (record { kind = 7; narrow = l .narrow; reference = e .reference; count = e .rows; unit = u; stride = w; size = e .rows * w; align = a })
     unfolding kindOf narrowOf partsOf sizeOf alignOf isOpen
     vector-laid u unit =
         vector-verdict _ refl
-        (λ s k b. value-is (vector (e .rows) s) _ refl b refl (unit ∙ units s a (align s k)) (width s k) (size-is s k)
+        (λ s k b. value-is (vector (e .rows) s) _ refl b refl (unit ∙ units s a (width s k) (align s k)) (width s k) (size-is s k)
         (align s k))
       where
-        units : (s : Scalar) (a : ℕ) → a ≡ present (vectorAlign (e .rows) s) → cond {A = ℕ} (eqb a 0) 0 1 ≡ cond (hasLayout (vector (e .rows) s)) 1 0
-        units s zero q =
-            unit-none (vector (e .rows) s) 0 1 (layout-none (vector (e .rows) s) (align-absent (e .rows) s low (sym q))) refl
-        units s (suc m) q =
+        units : (s : Scalar) (a : ℕ) → w ≡ present (widthOf s) → a ≡ present (vectorAlign (e .rows) s) → cond (eqb a 0) 0 (wordsFor w) ≡ cond (hasLayout (vector (e .rows) s)) (scalarWords s) 0
+        units s zero p q =
+            rw (← p) (unit-none (vector (e .rows) s) 0 (wordsFor w) (layout-none (vector (e .rows) s) (align-absent (e .rows) s low (sym q))) refl)
+        units s (suc m) p q =
             let there : 0 < present (vectorAlign (e .rows) s) = omega arith in
-            unit-laid (vector (e .rows) s) (suc m) 1
+            rw (← p) (unit-laid (vector (e .rows) s) (suc m) (wordsFor w)
             (layout-closed (vector (e .rows) s) (present-positive _ there) (size-present (e .rows) s there) refl)
-            (λ z. omega arith)
+            (λ z. omega arith))

@@ -1,16 +1,18 @@
 // The kinds that refer to one lower entry: 7 to 11. Each is handed that entry's value.
 use file::fields::TypeEntry;
-use file::kinds::ABSTRACT_INT;
+use file::kinds::ABSTRACT_FLOAT;
 use file::kinds::ARRAY;
 use file::kinds::ATOMIC;
+use file::kinds::F16;
 use file::kinds::F32;
 use file::kinds::I32;
-use file::kinds::LAST_SCALAR;
 use file::kinds::MATRIX;
 use file::kinds::RUNTIME;
 use file::kinds::U32;
 use file::kinds::VECTOR;
+use file::kinds::is_scalar;
 use layout_values::scalars::scalar_size;
+use layout_values::scalars::scalar_words;
 use layout_values::scalars::unless_absent;
 use layout_values::scalars::vector_align;
 use layout_values::scalars::zeros;
@@ -24,12 +26,12 @@ use numbers::limit::product;
 ghost use mathlib.Core.Path.{_≡_};
 ghost use mathlib.Core.Option.{some};
 ghost use mathlib.Core.Bool.{true};
-ghost use Rattle.wgsl.specs.Types.{Ty, everywhere};
-ghost use Rattle.wgsl.specs.Rule.{isWellFormed, vectorMade, matrixMade, arrayMade, runtimeMade, atomicMade, overMade};
+ghost use Rattle.wgsl.specs.Types.{Scalar, Ty, scalarKind, isScalarKind, everywhere};
+ghost use Rattle.wgsl.specs.Rule.{isMatrixScalar, isWellFormed, vectorMade, matrixMade, arrayMade, runtimeMade, atomicMade, overMade};
 ghost use Rattle.file.specs.Fields.{entryIs};
 ghost use Rattle.layout_values.specs.Value.{madeOf, Known, valueOf};
 
-// "7 vector: rows 2-4, reference to a kind 0-6"
+// "7 vector: rows 2-4, reference to a kind 0-6", or 13-15
 pub fn vector(e: TypeEntry, l: Value) -> Made
     requires { ⌜ Known l ⌝ }
     ensures { λ r. ⌜ ((t : Ty) → l ≡ valueOf (l .reference) t → r ≡ madeOf (e .reference) (vectorMade (some t) (entryIs e))) ⌝ }
@@ -39,7 +41,7 @@ pub fn vector(e: TypeEntry, l: Value) -> Made
     if !zeros(e.columns, e.count, 0, 0) {
         return Made::Rule;
     }
-    if LAST_SCALAR < kind {
+    if !is_scalar(kind) {
         return Made::Rule;
     }
     if rows < 2 {
@@ -50,7 +52,7 @@ pub fn vector(e: TypeEntry, l: Value) -> Made
     }
     let w = scalar_size(kind);
     let align = vector_align(rows, kind);
-    let unit = unless_absent(align, 1);
+    let unit = unless_absent(align, scalar_words(w));
     Made::Laid(Value {
         kind: VECTOR,
         narrow: l.narrow,
@@ -61,6 +63,19 @@ pub fn vector(e: TypeEntry, l: Value) -> Made
         size: rows * w,
         align,
     })
+}
+
+// Whether a kind is that of "f32, f16 or abstract float".
+fn suits_matrix(kind: u32) -> bool
+    ensures { λ r. ⌜ ((s : Scalar) → scalarKind s ≡ kind → r ≡ isMatrixScalar s) × (r ≡ true → isScalarKind kind ≡ true) ⌝ }
+{
+    if kind == F32 {
+        return true;
+    }
+    if kind == F16 {
+        return true;
+    }
+    kind == ABSTRACT_FLOAT
 }
 
 // "8 matrix: columns 2-4, rows 2-4, reference to f32, f16 or abstract float"
@@ -74,13 +89,7 @@ pub fn matrix(e: TypeEntry, l: Value) -> Made
     if !zeros(e.count, 0, 0, 0) {
         return Made::Rule;
     }
-    if kind < F32 {
-        return Made::Rule;
-    }
-    if LAST_SCALAR < kind {
-        return Made::Rule;
-    }
-    if kind == ABSTRACT_INT {
+    if !suits_matrix(kind) {
         return Made::Rule;
     }
     if columns < 2 {

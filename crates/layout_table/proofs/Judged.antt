@@ -9,13 +9,14 @@ use mathlib.Core.List.{List, [], _∷_, _++_}
 use mathlib.Core.Option.{Option, none, some}
 use mathlib.Core.Path.{_≡_, refl, sym, ap, _∙_}
 use native.Mathlib.Omega.{arith}
-use borrow.Author.Tests.{le-leb, lt-leb, ne-eqb}
+use borrow.Author.Tests.{ne-eqb}
 use lib.Dec.{eqb}
-use Rattle.wgsl.specs.Types.{Ty, structKind}
+use Rattle.wgsl.specs.Types.{Ty, structKind, isScalarKind}
 use Rattle.wgsl.specs.Size.{fitsLimit}
 use Rattle.wgsl.specs.Said.{Said, good, refused, _>>=_, _>>_, refuse, orRefuse}
 use Rattle.wgsl.specs.File.{Trailer, trailerOf, TypeEntry, typeEntryAt, typeEntryFrom, checkTrailer, typeEntryLength}
 use Rattle.wgsl.specs.Rule.{when, unused, lower, scalarMade, overMade, vectorMade, matrixMade, arrayMade, runtimeMade, atomicMade, andThen, structMade, typeMade, typeOfEntry, isAllowed, givenFits, judged, typesBelow, typesOf}
+use Rattle.wgsl.proofs.ScalarKind.{no-scalar}
 use Rattle.wgsl.proofs.Said.{good-not-refused, then-is, then-refused}
 use Rattle.wgsl.proofs.Trailed.{Trailed}
 use Rattle.file.specs.Members.{membersStart}
@@ -71,23 +72,23 @@ module _ (f : List ℕ) (ts : List Ty) (k r : ℕ) {e : TypeEntry} (is : e ≡ t
   entry-used h = rw (← is, h)
 
   module _ (zeros : unused (e .zero3 ∷ e .zero6 ∷ []) ≡ true) where
-    pub entry-scalar : e .kind ≤ 6 → madeOf r (scalarMade e) ≡ madeOf r (typeOfEntry f ts k)
+    pub entry-scalar : isScalarKind (e .kind) ≡ true → madeOf r (scalarMade e) ≡ madeOf r (typeOfEntry f ts k)
     unfolding typeOfEntry when typeMade
-    entry-scalar h = rw (← is, zeros, le-leb (e .kind) 6 h)
+    entry-scalar h = rw (← is, zeros, h)
 
     pub entry-struct : e .kind ≡ structKind → madeOf r (structMade f ts k e) ≡ madeOf r (typeOfEntry f ts k)
     unfolding typeOfEntry when typeMade
-    entry-struct h = rw (← is, zeros, h)
+    entry-struct h = rw (← is, zeros, no-scalar (e .kind) (omega arith) (omega arith), h)
 
-    module _ (high : 6 < e .kind) (other : e .kind ≡ structKind → ⊥) where
+    module _ (high : isScalarKind (e .kind) ≡ false) (other : e .kind ≡ structKind → ⊥) where
       pub entry-over : {i : ℕ} (t : Ty) → i ≡ e .reference → lower ts i ≡ some t → madeOf r (overMade (some t) e) ≡ madeOf r (typeOfEntry f ts k)
       unfolding typeOfEntry when typeMade
-      entry-over t q h = rw (← is, zeros, lt-leb (e .kind) 6 high, ne-eqb (e .kind) structKind other, ← q, h)
+      entry-over t q h = rw (← is, zeros, high, ne-eqb (e .kind) structKind other, ← q, h)
 
       pub entry-missing : lower ts (e .reference) ≡ none → Rule ≡ madeOf r (typeOfEntry f ts k)
       unfolding typeOfEntry when typeMade madeOf
       entry-missing h =
-          rw (← is, zeros, lt-leb (e .kind) 6 high, ne-eqb (e .kind) structKind other, h, over-missing e)
+          rw (← is, zeros, high, ne-eqb (e .kind) structKind other, h, over-missing e)
 
 -- ---- the verdict
 

@@ -4,8 +4,8 @@ use file::fields::TYPE_ENTRY_LENGTH;
 use file::fields::TypeEntry;
 use file::fields::entry_at;
 use file::fields::member_at;
-use file::kinds::LAST_SCALAR;
 use file::kinds::STRUCT;
+use file::kinds::is_scalar;
 use file::trailer::Trailer;
 use file::trailer::Trailered;
 use file::trailer::check_trailer;
@@ -85,7 +85,7 @@ fn entry_made(f: &[u8], e: TypeEntry, k: usize, base: usize, members: usize, tab
     if !zeros(e.zero3, e.zero6, 0, 0) {
         return Made::Rule;
     }
-    if e.kind <= LAST_SCALAR {
+    if is_scalar(e.kind) {
         return scalar_entry(e);
     }
     if e.kind == STRUCT {

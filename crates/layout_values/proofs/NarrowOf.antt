@@ -6,7 +6,7 @@ use mathlib.Core.Path.{_≡_, refl}
 use native.Mathlib.Omega.{arith}
 use borrow.Author.Tests.{ne-eqb}
 use lib.Dec.{eqb}
-use Rattle.wgsl.specs.Types.{Scalar, bool, i32, u32, f32, f16, abstractInt, abstractFloat, Ty, scalar, vector, matrix, array, runtime, atomic, struct, Members, no-more, member, everywhere, everyMember}
+use Rattle.wgsl.specs.Types.{Scalar, bool, i32, u32, f32, f16, abstractInt, abstractFloat, i64, u64, f64, Ty, scalar, vector, matrix, array, runtime, atomic, struct, Members, no-more, member, everywhere, everyMember}
 use Rattle.wgsl.specs.Size.{widthOf, present, isStored, isPlain}
 use Rattle.layout_values.specs.Value.{storedWidth, narrowOf, narrowest}
 
@@ -20,6 +20,9 @@ stored-is f32 = refl
 stored-is f16 = refl
 stored-is abstractInt = refl
 stored-is abstractFloat = refl
+stored-is i64 = refl
+stored-is u64 = refl
+stored-is f64 = refl
 
 -- The lesser of two numbers is 0 where one of them is.
 min-above : (a b : ℕ) → (not (eqb a 0) && not (eqb b 0)) ≡ not (eqb (min a b) 0)

@@ -3,20 +3,23 @@
 -- In order: widths; which are stored; the type that a layout is of; the entry.
 -- Not here: vectors of them (`Align`).
 -- Assumes nothing.
-use Prim.Native.Nat.{ℕ, zero, suc, _<_, _≤_}
+use Prim.Native.Nat.{ℕ, zero, suc, _+_, _-_, _<_, _≤_, min}
 use mathlib.Core.Bool.{true, false, cond}
+use mathlib.Core.Logic.{⊎-elim}
 use mathlib.Core.List.{[], _∷_}
 use mathlib.Core.Option.{some}
 use mathlib.Core.Path.{_≡_, refl, sym, _∙_}
 use native.Mathlib.Omega.{arith}
-use lib.Dec.{eqb}
-use Rattle.wgsl.specs.Types.{Scalar, bool, i32, u32, f32, f16, abstractInt, abstractFloat, Ty, scalar, vector, matrix, array, runtime, atomic, struct, isOpen, scalarKind, kindOf}
+use Rattle.wgsl.specs.Round.{up}
+use Rattle.wgsl.specs.Types.{Scalar, bool, i32, u32, f32, f16, abstractInt, abstractFloat, i64, u64, f64, Ty, scalar, vector, matrix, array, runtime, atomic, struct, isOpen, scalarKind, isScalarKind, kindOf}
 use Rattle.wgsl.specs.Size.{isPresent, present, widthOf, sizeOf, alignOf, minSizeOf, innerNumbersOf, hasLayout, isStored}
 use Rattle.wgsl.specs.File.{TypeEntry}
 use Rattle.wgsl.specs.Rule.{unused, scalarOfKind, scalarIn, scalarMade, isAllowed, givenFits}
+use Rattle.wgsl.specs.Place.{wordsFor}
 use Rattle.wgsl.proofs.Absent.{some-not-none}
-use Rattle.layout_values.proofs.VerdictOn.{present-positive, fits-small, layout-closed, layout-none, value-is, unit-laid, unit-none, verdict-laid, made-used, made-over}
-use Rattle.layout_values.specs.Value.{storedWidth, narrowOf, partsOf, valueOf, madeOf}
+use Rattle.wgsl.proofs.ScalarKind.{scalar-kind-is, scalar-range, kind-clash}
+use Rattle.layout_values.proofs.VerdictOn.{present-positive, fits-small, layout-closed, layout-none, value-is, verdict-laid, made-used, made-over}
+use Rattle.layout_values.specs.Value.{storedWidth, scalarWords, narrowOf, partsOf, valueOf, madeOf}
 use Rattle.layout_values.specs.declared.value.Value.{Value}
 use Rattle.layout_values.specs.declared.value.Made.the-variants.{Laid, Rule}
 
@@ -32,6 +35,9 @@ width-four f32 h = refl
 width-four f16 h = omega arith
 width-four abstractInt h = omega arith
 width-four abstractFloat h = omega arith
+width-four i64 h = omega arith
+width-four u64 h = omega arith
+width-four f64 h = omega arith
 
 -- "f16: 2/2"
 pub width-two : (s : Scalar) → scalarKind s ≡ 4 → present (widthOf s) ≡ 2
@@ -43,19 +49,39 @@ width-two f32 h = omega arith
 width-two f16 h = refl
 width-two abstractInt h = omega arith
 width-two abstractFloat h = omega arith
+width-two i64 h = omega arith
+width-two u64 h = omega arith
+width-two f64 h = omega arith
+
+-- E6: "8/8"
+pub width-eight : (s : Scalar) → 13 ≤ scalarKind s → present (widthOf s) ≡ 8
+unfolding scalarKind widthOf present
+width-eight bool h = omega arith
+width-eight i32 h = omega arith
+width-eight u32 h = omega arith
+width-eight f32 h = omega arith
+width-eight f16 h = omega arith
+width-eight abstractInt h = omega arith
+width-eight abstractFloat h = omega arith
+width-eight i64 h = refl
+width-eight u64 h = refl
+width-eight f64 h = refl
 
 -- "Abstract: neither."
-pub width-none : (s : Scalar) → 4 < scalarKind s → present (widthOf s) ≡ 0
+pub width-none : (s : Scalar) → 4 < scalarKind s → scalarKind s < 13 → present (widthOf s) ≡ 0
 unfolding scalarKind widthOf present
-width-none bool h = omega arith
-width-none i32 h = omega arith
-width-none u32 h = omega arith
-width-none f32 h = omega arith
-width-none f16 h = omega arith
-width-none abstractInt h = refl
-width-none abstractFloat h = refl
+width-none bool h n = omega arith
+width-none i32 h n = omega arith
+width-none u32 h n = omega arith
+width-none f32 h n = omega arith
+width-none f16 h n = omega arith
+width-none abstractInt h n = refl
+width-none abstractFloat h n = refl
+width-none i64 h n = omega arith
+width-none u64 h n = omega arith
+width-none f64 h n = omega arith
 
-pub width-bounded : (s : Scalar) → present (widthOf s) ≤ 4
+pub width-bounded : (s : Scalar) → present (widthOf s) ≤ 8
 unfolding widthOf present
 width-bounded bool = omega arith
 width-bounded i32 = omega arith
@@ -64,6 +90,9 @@ width-bounded f32 = omega arith
 width-bounded f16 = omega arith
 width-bounded abstractInt = omega arith
 width-bounded abstractFloat = omega arith
+width-bounded i64 = omega arith
+width-bounded u64 = omega arith
+width-bounded f64 = omega arith
 
 -- No width is 0.
 pub width-absent : (s : Scalar) → present (widthOf s) ≡ 0 → isPresent (widthOf s) ≡ false
@@ -75,6 +104,9 @@ width-absent f32 h = absurd (omega arith)
 width-absent f16 h = absurd (omega arith)
 width-absent abstractInt h = refl
 width-absent abstractFloat h = refl
+width-absent i64 h = absurd (omega arith)
+width-absent u64 h = absurd (omega arith)
+width-absent f64 h = absurd (omega arith)
 
 -- ---- which are stored
 
@@ -87,8 +119,11 @@ stored-bool f32 h = absurd (omega arith)
 stored-bool f16 h = absurd (omega arith)
 stored-bool abstractInt h = refl
 stored-bool abstractFloat h = refl
+stored-bool i64 h = absurd (omega arith)
+stored-bool u64 h = absurd (omega arith)
+stored-bool f64 h = absurd (omega arith)
 
-pub stored-number : (s : Scalar) → 1 ≤ scalarKind s → storedWidth s ≡ present (widthOf s)
+pub stored-number : (s : Scalar) → 1 ≤ scalarKind s → storedWidth s ≡ min 4 (present (widthOf s))
 unfolding scalarKind storedWidth isStored widthOf present
 stored-number bool h = absurd (omega arith)
 stored-number i32 h = refl
@@ -97,18 +132,11 @@ stored-number f32 h = refl
 stored-number f16 h = refl
 stored-number abstractInt h = refl
 stored-number abstractFloat h = refl
+stored-number i64 h = refl
+stored-number u64 h = refl
+stored-number f64 h = refl
 
 -- ---- the type that a layout is of
-
-pub kind-bounded : (s : Scalar) → scalarKind s ≤ 6
-unfolding scalarKind
-kind-bounded bool = omega arith
-kind-bounded i32 = omega arith
-kind-bounded u32 = omega arith
-kind-bounded f32 = omega arith
-kind-bounded f16 = omega arith
-kind-bounded abstractInt = omega arith
-kind-bounded abstractFloat = omega arith
 
 -- a scalar's type and its layout
 pub record ScalarOf (t : Ty) (l : Value) : Type 0 where
@@ -117,25 +145,25 @@ pub record ScalarOf (t : Ty) (l : Value) : Type 0 where
   pub kind-is : scalarKind scalar ≡ l .kind
   pub narrow-is : l .narrow ≡ storedWidth scalar
 
--- A layout of a kind 0 to 6 is a scalar's,
-pub scalar-known : (t : Ty) (l : Value) → l ≡ valueOf (l .reference) t → l .kind ≤ 6 → ScalarOf t l
+-- A layout of a scalar's kind is a scalar's,
+pub scalar-known : (t : Ty) (l : Value) → l ≡ valueOf (l .reference) t → isScalarKind (l .kind) ≡ true → ScalarOf t l
 unfolding valueOf kindOf narrowOf scalarIn
 scalar-known (scalar s) l e h =
     record { scalar = s; found = refl; kind-is = rw e; narrow-is = rw e }
-scalar-known (vector n s) l e h = let k : 7 ≡ l .kind = rw e in absurd (omega arith)
-scalar-known (matrix c r s) l e h = let k : 8 ≡ l .kind = rw e in absurd (omega arith)
-scalar-known (array n t) l e h = let k : 9 ≡ l .kind = rw e in absurd (omega arith)
-scalar-known (runtime t) l e h = let k : 10 ≡ l .kind = rw e in absurd (omega arith)
-scalar-known (atomic s) l e h = let k : 11 ≡ l .kind = rw e in absurd (omega arith)
-scalar-known (struct n ms) l e h = let k : 12 ≡ l .kind = rw e in absurd (omega arith)
+scalar-known (vector n s) l e h = absurd (kind-clash (l .kind) 7 h (rw e) (omega arith) (omega arith))
+scalar-known (matrix c r s) l e h = absurd (kind-clash (l .kind) 8 h (rw e) (omega arith) (omega arith))
+scalar-known (array n t) l e h = absurd (kind-clash (l .kind) 9 h (rw e) (omega arith) (omega arith))
+scalar-known (runtime t) l e h = absurd (kind-clash (l .kind) 10 h (rw e) (omega arith) (omega arith))
+scalar-known (atomic s) l e h = absurd (kind-clash (l .kind) 11 h (rw e) (omega arith) (omega arith))
+scalar-known (struct n ms) l e h = absurd (kind-clash (l .kind) 12 h (rw e) (omega arith) (omega arith))
 
--- and a scalar's is of a kind 0 to 6, the scalar's own.
-pub scalar-kind : (t : Ty) (l : Value) (s : Scalar) → l ≡ valueOf (l .reference) t → scalarIn t ≡ some s → (scalarKind s ≡ l .kind) × (l .kind ≤ 6)
+-- and a scalar's is of the scalar's own kind.
+pub scalar-kind : (t : Ty) (l : Value) (s : Scalar) → l ≡ valueOf (l .reference) t → scalarIn t ≡ some s → (scalarKind s ≡ l .kind) × (isScalarKind (l .kind) ≡ true)
 unfolding valueOf kindOf scalarIn
 scalar-kind (scalar x) l s e h =
     let same : x ≡ s = cc in
     let k : scalarKind s ≡ l .kind = rw (e, same) in
-    (k, omega (arith, kind-bounded s))
+    (k, rw (← k) (scalar-kind-is s))
 scalar-kind (vector n x) l s e h = some-not-none h refl
 scalar-kind (matrix c r x) l s e h = some-not-none h refl
 scalar-kind (array n t) l s e h = some-not-none h refl
@@ -145,23 +173,42 @@ scalar-kind (struct n ms) l s e h = some-not-none h refl
 
 -- ---- a scalar's entry
 
-scalar-of-kind : (k : ℕ) → k ≤ 6 → (s : Scalar) × (scalarKind s ≡ k) × (scalarOfKind k ≡ some s)
+low-kind : (k : ℕ) → k ≤ 6 → (s : Scalar) × (scalarKind s ≡ k) × (scalarOfKind k ≡ some s)
 unfolding scalarOfKind scalarKind
-scalar-of-kind zero h = (bool, refl, refl)
-scalar-of-kind (suc zero) h = (i32, refl, refl)
-scalar-of-kind (suc (suc zero)) h = (u32, refl, refl)
-scalar-of-kind (suc (suc (suc zero))) h = (f32, refl, refl)
-scalar-of-kind (suc (suc (suc (suc zero)))) h = (f16, refl, refl)
-scalar-of-kind (suc (suc (suc (suc (suc zero))))) h = (abstractInt, refl, refl)
-scalar-of-kind (suc (suc (suc (suc (suc (suc zero)))))) h = (abstractFloat, refl, refl)
-scalar-of-kind (suc (suc (suc (suc (suc (suc (suc k))))))) h = absurd (omega arith)
+low-kind zero h = (bool, refl, refl)
+low-kind (suc zero) h = (i32, refl, refl)
+low-kind (suc (suc zero)) h = (u32, refl, refl)
+low-kind (suc (suc (suc zero))) h = (f32, refl, refl)
+low-kind (suc (suc (suc (suc zero)))) h = (f16, refl, refl)
+low-kind (suc (suc (suc (suc (suc zero))))) h = (abstractInt, refl, refl)
+low-kind (suc (suc (suc (suc (suc (suc zero)))))) h = (abstractFloat, refl, refl)
+low-kind (suc (suc (suc (suc (suc (suc (suc k))))))) h = absurd (omega arith)
+
+high-kind : (n : ℕ) → n ≤ 2 → (s : Scalar) × (scalarKind s ≡ 13 + n) × (scalarOfKind (13 + n) ≡ some s)
+unfolding scalarOfKind scalarKind
+high-kind zero h = (i64, refl, refl)
+high-kind (suc zero) h = (u64, refl, refl)
+high-kind (suc (suc zero)) h = (f64, refl, refl)
+high-kind (suc (suc (suc n))) h = absurd (omega arith)
+
+scalar-of-kind : (k : ℕ) → isScalarKind k ≡ true → (s : Scalar) × (scalarKind s ≡ k) × (scalarOfKind k ≡ some s)
+scalar-of-kind k h =
+    ⊎-elim (λ (low : k ≤ 6). low-kind k low)
+    (λ (high : (13 ≤ k) × (k ≤ 15)).
+    let e : k ≡ 13 + (k - 13) = omega (arith, high .0) in
+    rw e (high-kind (k - 13) (omega (arith, high .1)))) (scalar-range k h)
+
+-- no bytes take no words
+no-bytes : wordsFor 0 ≡ 0
+unfolding wordsFor up
+no-bytes = refl
 
 module _ (e : TypeEntry) where
   pub scalar-used : unused (e .columns ∷ e .rows ∷ e .reference ∷ e .count ∷ []) ≡ false → madeOf (e .reference) (scalarMade e) ≡ Rule
   unfolding scalarMade
   scalar-used h = made-used _ _ h
 
-  module _ (zeros : unused (e .columns ∷ e .rows ∷ e .reference ∷ e .count ∷ []) ≡ true) (scalars : e .kind ≤ 6) where
+  module _ (zeros : unused (e .columns ∷ e .rows ∷ e .reference ∷ e .count ∷ []) ≡ true) (scalars : isScalarKind (e .kind) ≡ true) where
     scalar-verdict : (l : Value) → l .reference ≡ e .reference → ((s : Scalar) → scalarKind s ≡ e .kind → l ≡ valueOf (l .reference) (scalar s)) → madeOf (e .reference) (scalarMade e) ≡ Laid l
     unfolding scalarMade isAllowed givenFits sizeOf alignOf minSizeOf innerNumbersOf
     scalar-verdict l q h =
@@ -171,16 +218,15 @@ module _ (e : TypeEntry) where
         ∙ rw (← q) (verdict-laid (scalar s) l refl refl (fits-small (scalar s) refl (omega arith) (omega arith) refl) (h s k))
 
     -- The layout of a scalar.
-    pub scalar-laid : (w n : ℕ) → ((s : Scalar) → scalarKind s ≡ e .kind → w ≡ present (widthOf s)) → ((s : Scalar) → scalarKind s ≡ e .kind → n ≡ storedWidth s) → (u : ℕ) → u ≡ cond (eqb w 0) 0 1 → madeOf (e .reference) (scalarMade e) ≡ Laid (record { kind = e .kind; narrow = n; reference = e .reference; count = 1; unit = u; stride = w; size = w; align = w })
+    pub scalar-laid : (w n : ℕ) → ((s : Scalar) → scalarKind s ≡ e .kind → w ≡ present (widthOf s)) → ((s : Scalar) → scalarKind s ≡ e .kind → n ≡ storedWidth s) → (u : ℕ) → u ≡ wordsFor w → madeOf (e .reference) (scalarMade e) ≡ Laid (record { kind = e .kind; narrow = n; reference = e .reference; count = 1; unit = u; stride = w; size = w; align = w })
     unfolding kindOf narrowOf partsOf sizeOf alignOf isOpen
     scalar-laid w n width narrow u unit =
         scalar-verdict _ refl
         (λ s k. let size = width s k in
         value-is (scalar s) _ (sym k) (narrow s k) refl (unit ∙ units s w size) size size size)
       where
-        units : (s : Scalar) (w : ℕ) → w ≡ present (widthOf s) → cond {A = ℕ} (eqb w 0) 0 1 ≡ cond (hasLayout (scalar s)) 1 0
-        units s zero size =
-            unit-none (scalar s) 0 1 (layout-none (scalar s) (width-absent s (sym size))) refl
+        units : (s : Scalar) (w : ℕ) → w ≡ present (widthOf s) → wordsFor w ≡ cond (hasLayout (scalar s)) (scalarWords s) 0
+        units s zero size = rw (layout-none (scalar s) (width-absent s (sym size))) no-bytes
         units s (suc m) size =
             let has = present-positive (widthOf s) (omega arith) in
-            unit-laid (scalar s) (suc m) 1 (layout-closed (scalar s) has has refl) (λ z. omega arith)
+            rw (layout-closed (scalar s) has has refl, size)

@@ -13,16 +13,16 @@ use Rattle.wgsl.specs.Types.{Ty, scalar, vector, matrix, array, runtime, atomic
 use Rattle.wgsl.specs.Size.{present, sizeOf, alignOf, ownStrideOf}
 use Rattle.wgsl.specs.Rule.{isWellFormed}
 use Rattle.wgsl.proofs.Absent.{present-is}
+use Rattle.wgsl.proofs.ScalarKind.{no-scalar-kind}
 use Rattle.wgsl.proofs.Tail.{closed-not-runtime}
 use Rattle.wgsl.proofs.Stride.{stride-is, runtime-stride, up-larger, stride-limit}
 use Rattle.layout_values.specs.Value.{partsOf, valueOf}
 use Rattle.layout_values.specs.declared.value.Value.{Value}
-use Rattle.layout_values.proofs.ScalarMade.{kind-bounded}
 use Rattle.layout_values.proofs.ValueOf.{unaligned, unsized, aligned, sized, Element}
 
 of-runtime : (t : Ty) → everywhere isWellFormed t ≡ true → kindOf t ≡ 10 → present (partsOf t .stride) ≡ present (ownStrideOf t)
 unfolding kindOf partsOf ownStrideOf
-of-runtime (scalar s) w h = absurd (omega (arith, kind-bounded s))
+of-runtime (scalar s) w h = absurd (no-scalar-kind s 10 (omega arith) (omega arith) h)
 of-runtime (vector n s) w h = absurd (omega arith)
 of-runtime (matrix c r s) w h = absurd (omega arith)
 of-runtime (array n t) w h = absurd (omega arith)

@@ -5,7 +5,7 @@
 use Prim.Native.Nat.{ℕ, _*_, _<_, _≤_}
 use mathlib.Core.Bool.{Bool, true, false, cond}
 use mathlib.Core.Option.{Option, none, some}
-use mathlib.Core.Path.{_≡_, refl, sym}
+use mathlib.Core.Path.{_≡_, refl, sym, _∙_}
 use native.Mathlib.Nat.{mul-zero, mul-le-mul}
 use native.Mathlib.Omega.{arith}
 use borrow.Author.Tests.{eq-eqb, ne-eqb}
@@ -13,7 +13,8 @@ use lib.Dec.{eqb}
 use mir.Syntax.{w32}
 use mir.Val.{Fits}
 use mir.Facts.{fits-le, fits-lit}
-use Rattle.wgsl.specs.Types.{Scalar, bool, i32, u32, f32, f16, abstractInt, abstractFloat, scalarKind}
+use Rattle.wgsl.specs.Types.{Scalar, bool, i32, u32, f32, f16, abstractInt, abstractFloat, i64, u64, f64, scalarKind}
+use Rattle.wgsl.proofs.Absent.{true-not-false}
 use Rattle.wgsl.specs.Size.{both, isPresent, present, widthOf, vec3Align, vectorSize, vectorAlign}
 
 -- ---- products
@@ -23,10 +24,10 @@ unfolding both present
 times-present n (some w) = refl
 times-present n none = sym (mul-zero n)
 
-pub times-bounded : (n w : ℕ) → n ≤ 4 → w ≤ 4 → n * w ≤ 16
+pub times-bounded : (n w : ℕ) → n ≤ 4 → w ≤ 8 → n * w ≤ 32
 times-bounded n w h k = mul-le-mul h k
 
-pub times-fits : (n w : ℕ) → n ≤ 4 → w ≤ 16 → Fits w32 (n * w)
+pub times-fits : (n w : ℕ) → n ≤ 4 → w ≤ 32 → Fits w32 (n * w)
 times-fits n w h k = fits-le (mul-le-mul h k) (fits-lit tt)
 
 -- ---- sizes and alignments
@@ -46,18 +47,38 @@ unfolding vectorAlign
 align-three n s h = rw (eq-eqb n 3 h)
 
 -- "For n = 3: 16 over i32, u32, f32; 8 over f16", and over bool as over i32
-pub align-four : (n w : ℕ) (s : Scalar) → w ≡ present (widthOf s) → n ≡ 3 → present (vectorAlign n s) ≡ 4 * w
+pub align-four : (n w : ℕ) (s : Scalar) → w ≡ present (widthOf s) → n ≡ 3 → (w ≡ 8 → ⊥) → present (vectorAlign n s) ≡ 4 * w
 unfolding vec3Align widthOf present
-align-four n w s e h = rw (align-three n s h, e) (go s)
+align-four n w s e h narrow = rw (align-three n s h, e) (go s (λ q. narrow (e ∙ q)))
   where
-    go : (s : Scalar) → present (vec3Align s) ≡ 4 * present (widthOf s)
-    go bool = refl
-    go i32 = refl
-    go u32 = refl
-    go f32 = refl
-    go f16 = refl
-    go abstractInt = refl
-    go abstractFloat = refl
+    go : (s : Scalar) → (present (widthOf s) ≡ 8 → ⊥) → present (vec3Align s) ≡ 4 * present (widthOf s)
+    go bool n = refl
+    go i32 n = refl
+    go u32 n = refl
+    go f32 n = refl
+    go f16 n = refl
+    go abstractInt n = refl
+    go abstractFloat n = refl
+    go i64 n = absurd (n refl)
+    go u64 n = absurd (n refl)
+    go f64 n = absurd (n refl)
+
+-- E6: "of 3 .. no alignment"
+pub align-eight : (n w : ℕ) (s : Scalar) → w ≡ present (widthOf s) → n ≡ 3 → w ≡ 8 → present (vectorAlign n s) ≡ 0
+unfolding vec3Align widthOf present
+align-eight n w s e h eight = rw (align-three n s h) (go s (sym e ∙ eight))
+  where
+    go : (s : Scalar) → present (widthOf s) ≡ 8 → present (vec3Align s) ≡ 0
+    go bool q = absurd (omega arith)
+    go i32 q = absurd (omega arith)
+    go u32 q = absurd (omega arith)
+    go f32 q = absurd (omega arith)
+    go f16 q = absurd (omega arith)
+    go abstractInt q = refl
+    go abstractFloat q = refl
+    go i64 q = refl
+    go u64 q = refl
+    go f64 q = refl
 
 -- ---- which are absent
 
@@ -76,6 +97,26 @@ size-present n s h = go s (eqb n 3) h
     go abstractInt false h = absurd (omega arith)
     go abstractFloat true h = absurd (omega arith)
     go abstractFloat false h = absurd (omega arith)
+    go i64 b h = refl
+    go u64 b h = refl
+    go f64 b h = refl
+
+-- and its scalar has one.
+pub width-there : (n : ℕ) (s : Scalar) → 0 < present (vectorAlign n s) → 0 < present (widthOf s)
+unfolding present widthOf vectorSize both isPresent
+width-there n s h = go s (size-present n s h)
+  where
+    go : (s : Scalar) → isPresent (vectorSize n s) ≡ true → 0 < present (widthOf s)
+    go bool h = omega arith
+    go i32 h = omega arith
+    go u32 h = omega arith
+    go f32 h = omega arith
+    go f16 h = omega arith
+    go abstractInt h = true-not-false h refl
+    go abstractFloat h = true-not-false h refl
+    go i64 h = omega arith
+    go u64 h = omega arith
+    go f64 h = omega arith
 
 -- No alignment is 0.
 pub align-absent : (n : ℕ) (s : Scalar) → 2 ≤ n → present (vectorAlign n s) ≡ 0 → isPresent (vectorAlign n s) ≡ false
@@ -97,3 +138,9 @@ align-absent n s l h = go s (eqb n 3) h
     go abstractInt false h = refl
     go abstractFloat true h = refl
     go abstractFloat false h = refl
+    go i64 true h = refl
+    go i64 false h = absurd (omega arith)
+    go u64 true h = refl
+    go u64 false h = absurd (omega arith)
+    go f64 true h = refl
+    go f64 false h = absurd (omega arith)

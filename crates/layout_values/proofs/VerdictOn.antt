@@ -38,7 +38,7 @@ unfolding withinLimits
 limits-none = refl
 
 -- A type with small numbers, and none within it, fits.
-pub fits-small : (t : Ty) → innerNumbersOf t ≡ [] → present (sizeOf t) ≤ 64 → present (alignOf t) ≤ 64 → minSizeOf t ≡ sizeOf t → fitsLimit t ≡ true
+pub fits-small : (t : Ty) → innerNumbersOf t ≡ [] → present (sizeOf t) ≤ 128 → present (alignOf t) ≤ 128 → minSizeOf t ≡ sizeOf t → fitsLimit t ≡ true
 unfolding fitsLimit numbersOf
 fits-small t e h k m =
     rw (e, m)

@@ -7,16 +7,16 @@ use mathlib.Core.Bool.{Bool, true, false, cond, or-true}
 use mathlib.Core.Option.{some}
 use mathlib.Core.Path.{_≡_, refl, sym, _∙_}
 use native.Mathlib.Omega.{arith}
-use native.Mathlib.Nat.{mul-zero, mul-one}
+use native.Mathlib.Nat.{mul-zero, one-mul}
 use borrow.Author.Tests.{ne-eqb}
 use Rattle.wgsl.specs.Round.{up}
 use Rattle.wgsl.specs.Types.{Ty, scalar, vector, matrix, array, runtime, atomic, struct, isOpen, scalarKind, kindOf}
 use Rattle.wgsl.specs.Size.{both, isPresent, sizeOf, alignOf, hasLayout}
 use Rattle.wgsl.specs.Place.{wordCount}
 use Rattle.wgsl.proofs.Absent.{both-hold, both-some, present-some}
+use Rattle.wgsl.proofs.ScalarKind.{no-scalar-kind}
 use Rattle.wgsl.proofs.Count.{wordCount-scalar, wordCount-vector, wordCount-matrix, wordCount-array, wordCount-runtime, wordCount-atomic}
-use Rattle.layout_values.specs.Value.{partsOf, fixedWords, valueOf, wordsIn}
-use Rattle.layout_values.proofs.ScalarMade.{kind-bounded}
+use Rattle.layout_values.specs.Value.{scalarWords, partsOf, fixedWords, valueOf, wordsIn}
 
 -- What an array over a type that has a layout has: an element with one.
 array-layout : (n : ℕ) (t : Ty) → hasLayout (array n t) ≡ true → hasLayout t ≡ true
@@ -41,19 +41,19 @@ times-cond false n u w h = mul-zero n
 pub value-words : (r : ℕ) (t : Ty) → wordsIn (valueOf r t) ≡ fixedWords t
 unfolding wordsIn valueOf kindOf partsOf fixedWords
 value-words r (scalar s) =
-    rw (ne-eqb (scalarKind s) 12 (λ z. omega (arith, kind-bounded s)))
-    (times-cond (hasLayout (scalar s)) 1 1 (wordCount 0 (scalar s)) (λ h. sym (wordCount-scalar 0 s)))
+    rw (ne-eqb (scalarKind s) 12 (no-scalar-kind s 12 (omega arith) (omega arith)))
+    (times-cond (hasLayout (scalar s)) 1 (scalarWords s) (wordCount 0 (scalar s)) (λ h. one-mul _ ∙ sym (wordCount-scalar 0 s)))
 value-words r (vector n s) =
-    times-cond (hasLayout (vector n s)) n 1 (wordCount 0 (vector n s)) (λ h. mul-one n ∙ sym (wordCount-vector 0 n s))
+    times-cond (hasLayout (vector n s)) n (scalarWords s) (wordCount 0 (vector n s)) (λ h. sym (wordCount-vector 0 n s))
 value-words r (matrix c m s) =
-    times-cond (hasLayout (matrix c m s)) c m (wordCount 0 (matrix c m s)) (λ h. sym (wordCount-matrix 0 c m s))
+    times-cond (hasLayout (matrix c m s)) c (m * scalarWords s) (wordCount 0 (matrix c m s)) (λ h. sym (wordCount-matrix 0 c m s))
 value-words r (array n t) =
     times-cond (hasLayout (array n t)) n (fixedWords t) (wordCount 0 (array n t))
     (λ h. rw (words-fixed t (array-layout n t h)) (sym (wordCount-array 0 n t)))
 value-words r (runtime t) =
     times-cond (hasLayout (runtime t)) 0 (fixedWords t) (wordCount 0 (runtime t)) (λ h. omega (arith, wordCount-runtime 0 t))
 value-words r (atomic s) =
-    times-cond (hasLayout (atomic s)) 1 1 (wordCount 0 (atomic s)) (λ h. sym (wordCount-atomic 0 s))
+    times-cond (hasLayout (atomic s)) 1 (scalarWords s) (wordCount 0 (atomic s)) (λ h. one-mul _ ∙ sym (wordCount-atomic 0 s))
 value-words r (struct k ms) = refl
 
 -- and one with an alignment and a size has a layout.

@@ -14,16 +14,20 @@ use Rattle.wgsl.specs.Types.{Scalar, Ty, scalar, vector, matrix, array, runtime
 use Rattle.wgsl.specs.Size.{present, widthOf, vectorAlign, sizeOf, alignOf, strideOf, fitsLimit, hasLayout, isStored}
 use Rattle.wgsl.specs.File.{memberEntryLength, typeEntryAt, mostTypes}
 use Rattle.wgsl.specs.Rule.{countOf, isAllowed, givenFits, isWellFormed}
-use Rattle.wgsl.specs.Place.{wordCount}
+use Rattle.wgsl.specs.Place.{wordsFor, wordCount}
 use Rattle.layout_values.specs.declared.value.Value.{Value}
 use Rattle.layout_values.specs.declared.value.Made.{Made}
 use Rattle.layout_values.specs.declared.value.Made.the-variants.{Laid, Rule, Given, Large}
 
 -- ---- a type's numbers
 
--- the bytes of a scalar, if it may be stored
+-- the bytes that each word of a scalar takes, if it may be stored
 unfoldable pub storedWidth : Scalar → ℕ
-storedWidth s = cond (isStored s) (present (widthOf s)) 0
+storedWidth s = cond (isStored s) (min 4 (present (widthOf s))) 0
+
+-- the words of a scalar
+abbrev pub scalarWords : Scalar → ℕ
+scalarWords s = wordsFor (present (widthOf s))
 
 -- the fewest bytes that one of its words takes; 0 where one of its scalars may not be stored
 unfoldable mutual
@@ -54,12 +58,12 @@ pub record Part : Type 0 where
   pub stride : Option ℕ
 
 unfoldable pub partsOf : Ty → Part
-partsOf (scalar s) = record { count = 1; words = 1; stride = widthOf s }
-partsOf (vector n s) = record { count = n; words = 1; stride = widthOf s }
-partsOf (matrix c r s) = record { count = c; words = r; stride = vectorAlign r s }
+partsOf (scalar s) = record { count = 1; words = scalarWords s; stride = widthOf s }
+partsOf (vector n s) = record { count = n; words = scalarWords s; stride = widthOf s }
+partsOf (matrix c r s) = record { count = c; words = r * scalarWords s; stride = vectorAlign r s }
 partsOf (array n t) = record { count = n; words = fixedWords t; stride = strideOf t }
 partsOf (runtime t) = record { count = 0; words = fixedWords t; stride = strideOf t }
-partsOf (atomic s) = record { count = 1; words = 1; stride = widthOf s }
+partsOf (atomic s) = record { count = 1; words = scalarWords s; stride = widthOf s }
 partsOf (struct k ms) = record { count = countOf ms; words = wordCount 0 (struct k ms); stride = some (memberEntryLength 1) }
 
 -- ---- its value

@@ -5,14 +5,17 @@ use file::fields::TypeEntry;
 use file::kinds::F16;
 use file::kinds::F32;
 use file::kinds::I32;
+use file::kinds::I64;
+use numbers::order::smaller;
 ghost use mathlib.Core.Path.{_≡_};
-ghost use mathlib.Core.Bool.{cond};
+ghost use mathlib.Core.Bool.{true, cond};
 ghost use mathlib.Core.List.{[], _∷_};
 ghost use Prim.Native.Nat.{_≤_};
 ghost use lib.Dec.{eqb};
-ghost use Rattle.wgsl.specs.Types.{Scalar, scalarKind, lastScalarKind};
+ghost use Rattle.wgsl.specs.Types.{Scalar, scalarKind, isScalarKind};
 ghost use Rattle.wgsl.specs.Size.{present, widthOf, vectorAlign};
 ghost use Rattle.wgsl.specs.Rule.{unused, scalarMade};
+ghost use Rattle.wgsl.specs.Place.{wordsFor};
 ghost use Rattle.file.specs.Fields.{entryIs};
 ghost use Rattle.layout_values.specs.Value.{storedWidth, madeOf};
 
@@ -34,8 +37,7 @@ pub fn zeros(a: u32, b: u32, c: u32, d: u32) -> bool
 
 // The size of a scalar, and its alignment: 0 where it has none.
 pub fn scalar_size(kind: u32) -> u32
-    requires { ⌜ kind ≤ lastScalarKind ⌝ }
-    ensures { λ r. ⌜ ((s : Scalar) → scalarKind s ≡ kind → r ≡ present (widthOf s)) × (r ≤ 4) ⌝ }
+    ensures { λ r. ⌜ ((s : Scalar) → scalarKind s ≡ kind → r ≡ present (widthOf s)) × (r ≤ 8) ⌝ }
 {
     if kind <= F32 {
         return 4;
@@ -43,28 +45,41 @@ pub fn scalar_size(kind: u32) -> u32
     if kind == F16 {
         return 2;
     }
-    0
+    if kind < I64 {
+        return 0;
+    }
+    8
 }
 
-// The bytes of a scalar that may be stored; 0 of any other.
+// The words of a scalar of so many bytes.
+pub fn scalar_words(width: u32) -> u32
+    requires { ⌜ width ≤ 8 ⌝ }
+    ensures { λ r. ⌜ (r ≡ wordsFor width) × (r ≤ 2) ⌝ }
+{
+    (width + 3) / 4
+}
+
+// The bytes that each word of a scalar takes that may be stored; 0 of any other.
 fn stored_width(kind: u32) -> u32
-    requires { ⌜ kind ≤ lastScalarKind ⌝ }
     ensures { λ r. ⌜ ((s : Scalar) → scalarKind s ≡ kind → r ≡ storedWidth s) ⌝ }
 {
     if kind < I32 {
         return 0;
     }
-    scalar_size(kind)
+    smaller(4, scalar_size(kind))
 }
 
 // The alignment of a vector, and of a matrix column: 0 where it has none.
 pub fn vector_align(rows: u32, kind: u32) -> u32
-    requires { ⌜ (rows ≤ 4) × (kind ≤ lastScalarKind) ⌝ }
-    ensures { λ r. ⌜ ((s : Scalar) → scalarKind s ≡ kind → r ≡ present (vectorAlign rows s)) × (r ≤ 16) ⌝ }
+    requires { ⌜ rows ≤ 4 ⌝ }
+    ensures { λ r. ⌜ ((s : Scalar) → scalarKind s ≡ kind → r ≡ present (vectorAlign rows s)) × (r ≤ 32) ⌝ }
 {
     let w = scalar_size(kind);
     if rows != 3 {
         return rows * w;
+    }
+    if w == 8 {
+        return 0;
     }
     4 * w
 }
@@ -76,9 +91,9 @@ pub fn unless_absent(align: u32, unit: u32) -> u32
     if align == 0 { 0 } else { unit }
 }
 
-// A scalar's entry: kinds 0 to 6.
+// A scalar's entry: kinds 0 to 6, and 13 to 15.
 pub fn scalar_entry(e: TypeEntry) -> Made
-    requires { ⌜ e .kind ≤ lastScalarKind ⌝ }
+    requires { ⌜ isScalarKind (e .kind) ≡ true ⌝ }
     ensures { λ r. ⌜ r ≡ madeOf (e .reference) (scalarMade (entryIs e)) ⌝ }
 {
     let kind = e.kind;
@@ -87,7 +102,7 @@ pub fn scalar_entry(e: TypeEntry) -> Made
     }
     let w = scalar_size(kind);
     let narrow = stored_width(kind);
-    let unit = unless_absent(w, 1);
+    let unit = scalar_words(w);
     Made::Laid(Value {
         kind,
         narrow,

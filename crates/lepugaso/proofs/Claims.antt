@@ -24,5 +24,5 @@ read-learnt κs file buf words e r ws′ h = record { answer = h .0; words = h .
 pub view-learnt : (κs : Lfts 3) (file path buf : RefT (List ℕ)) (e : ℕ) (r : Walked) → viewing.Learnt κs (file, (e, (path, (buf, tt)))) r (file, (e, (path, (buf, tt)))) → Views (now file) e (now path) (now buf) r
 view-learnt κs file path buf e r h = record { answer = h }
 
-pub set-learnt : (κs : Lfts 3) (file path buf : RefT (List ℕ)) (e w : ℕ) (r : Number) (b′ : List ℕ) → setting.Learnt κs (file, (e, (path, (w, (buf, tt))))) r (file, (e, (path, (w, (at-last buf b′, tt))))) → Sets (now file) e (now path) w (now buf) r b′
-set-learnt κs file path buf e w r b′ h = record { answer = h .0; buffer = h .1 }
+pub set-learnt : (κs : Lfts 4) (file path words buf : RefT (List ℕ)) (e : ℕ) (r : Number) (b′ : List ℕ) → setting.Learnt κs (file, (e, (path, (words, (buf, tt))))) r (file, (e, (path, (words, (at-last buf b′, tt))))) → Sets (now file) e (now path) (now words) (now buf) r b′
+set-learnt κs file path words buf e r b′ h = record { answer = h .0; buffer = h .1 }

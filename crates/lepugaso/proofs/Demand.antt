@@ -3,20 +3,20 @@
 --
 -- In order: a call's answer; demand 2; a path to one scalar, by `view_at`; demand 3.
 -- Assumes nothing.
-use Prim.Native.Nat.{ℕ, _+_, _%_, _^_, _<_, _≤_}
+use Prim.Native.Nat.{ℕ, _+_, _%_, _≤_}
 use mathlib.Core.List.{List}
 use mathlib.Core.Logic.{_⊎_}
-use mathlib.Core.Option.{some}
 use mathlib.Core.Path.{_≡_, refl, ap, ap₂, sym, _∙_}
 use native.Mathlib.Omega.{arith}
-use lib.ListN.{length, getD, replicate, set, length-replicate}
+use lib.ListN.{length, getD, replicate, length-replicate}
+use lib.Seq.{sets}
 use Rattle.wgsl.specs.Types.{Scalar}
 use Rattle.wgsl.specs.Size.{present, widthOf}
 use Rattle.wgsl.specs.Said.{Said, good, refused}
-use Rattle.wgsl.specs.Place.{Shape, spanOf, wordCount}
+use Rattle.wgsl.specs.Place.{Shape, spanOf, wordsOver, wordsFor, wordPlaces, wordCount}
 use Rattle.wgsl.specs.Path as ways
 use Rattle.wgsl.specs.Call.{Done, answerOf, contentsOf, readCall, writeCall, viewCall}
-use Rattle.wgsl.specs.Claim.{Apart}
+use Rattle.wgsl.specs.Claim.{Apart, Holds}
 use Rattle.wgsl.specs.Demand.{Given, Leading, Words, SetThenRead}
 use Rattle.wgsl.proofs.Said.{good-not-refused}
 use Rattle.wgsl.proofs.Claims.{writing-good-if, writing, reading-what-was-written}
@@ -109,7 +109,7 @@ scalar-at {f} {e} {b} {path} {t} x = go (viewCall f e path b) refl (x .views .an
     go (good u) is q =
         let same : t ≡ targetIs u = cc in
         let at : u .offset ≡ t .offset = sym (ap (λ (v : Target). v .offset) same) in
-        let (s, shape) = scalar-shape (u .shape) (omega (arith, x .scalar, ap (λ (v : Target). v .scalar) same)) in
+        let (s, shape) = scalar-shape (u .shape) (rw (← ap (λ (v : Target). v .scalar) same) (x .scalar)) in
         record {
           kind = s;
           leading = record { leads = is ∙ ap₂ (λ (o : ℕ) (y : Shape). good (record { offset = o; shape = y })) at shape };
@@ -133,12 +133,12 @@ module _ {f : List ℕ} {e : ℕ} {b : List ℕ} (g : Given f e b) where
       (demand-three g .apart p q (t .offset) (u .offset) (s .kind) (z .kind) (s .leading) (z .leading) v w)
 
   -- the definitions' demand, at the scalar that a path leads to
-  module _ (path : List ℕ) (t : Target) (x : ToScalar f e b path t) (w : ℕ) (holds : w < 256 ^ t .size) (r : Number) (b′ : List ℕ) (s : Sets f e path w b r b′) (ws : List ℕ) (enough : wordCount 0 (g .type) ≤ length ws) where
+  module _ (path : List ℕ) (t : Target) (x : ToScalar f e b path t) (new : List ℕ) (holds : Holds (t .size) (t .offset) new) (r : Number) (b′ : List ℕ) (s : Sets f e path new b r b′) (ws : List ℕ) (enough : wordCount 0 (g .type) ≤ length ws) where
     abbrev here : Scalar-at f e b path t
     here = scalar-at x
 
-    told : SetThenRead g path (t .offset) (here .kind) w ws
-    told = demand-three g .set-read path (t .offset) (here .kind) (here .leading) w (rw (here .size-is) at holds) ws enough
+    told : SetThenRead g path (t .offset) (here .kind) new ws
+    told = demand-three g .set-read path (t .offset) (here .kind) (here .leading) new (rw (here .size-is) at holds) ws enough
 
     buffer-is : b′ ≡ told .b′
     buffer-is = good-contents b (told .set-is) (s .buffer)
@@ -152,9 +152,10 @@ module _ {f : List ℕ} {e : ℕ} {b : List ℕ} (g : Given f e b) where
               ap (λ (c : List ℕ). getD c i 0) buffer-is ∙ told .others-stay i (rw (here .size-is) at o);
         }
 
-    one-replaced : (p q : Number) (old new : List ℕ) → Reads f e b ws p old → Reads f e b′ ws q new → OneReplaced g t w p old q new
-    one-replaced p q old new before after =
-        let after-is : readCall f e b′ ws ≡ good (record { value = told .count; contents = set (told .old) (told .position) w }) =
+    one-replaced : (p q : Number) (old now : List ℕ) → Reads f e b ws p old → Reads f e b′ ws q now → OneReplaced g t new p old q now
+    unfolding wordPlaces
+    one-replaced p q old now before after =
+        let after-is : readCall f e b′ ws ≡ good (record { value = told .count; contents = sets (told .old) (told .position) new }) =
         ap (λ (c : List ℕ). readCall f e c ws) buffer-is ∙ told .read-after in
         let was : old ≡ told .old = good-contents ws (told .read-before) (before .words) in
         record {
@@ -164,9 +165,9 @@ module _ {f : List ℕ} {e : ℕ} {b : List ℕ} (g : Given f e b) where
           position = told .position;
           position-inside = told .position-inside;
           position-is =
-              told .position-is ∙ ap (λ (z : ℕ). some (record { at = t .offset; width = z })) (sym (here .size-is));
+              told .position-is ∙ ap (λ (z : ℕ). wordsOver (wordsFor z) z (t .offset)) (sym (here .size-is));
           replaced =
-              good-contents ws after-is (after .words) ∙ ap (λ (l : List ℕ). set l (told .position) w) (sym was);
+              good-contents ws after-is (after .words) ∙ ap (λ (l : List ℕ). sets l (told .position) new) (sym was);
         }
 
   -- Demand 3 is met by the calls.
@@ -175,8 +176,8 @@ module _ {f : List ℕ} {e : ℕ} {b : List ℕ} (g : Given f e b) where
       record {
         inside = scalar-inside;
         apart = scalars-apart;
-        set-alone = λ path t x w holds r b′ s.
+        set-alone = λ path t x new holds r b′ s.
             let some-words : List ℕ = replicate (wordCount 0 (g .type)) 0 in
-            is-set path t x w holds r b′ s some-words (rw length-replicate (omega arith));
-        read-back = λ path t x w holds r b′ s ws enough. one-replaced path t x w holds r b′ s ws enough;
+            is-set path t x new holds r b′ s some-words (rw length-replicate (omega arith));
+        read-back = λ path t x new holds r b′ s ws enough. one-replaced path t x new holds r b′ s ws enough;
       }

@@ -25,7 +25,7 @@ pub record Reads (f : List ℕ) (e : ℕ) (b ws : List ℕ) (r : Number) (ws′ 
 pub record Views (f : List ℕ) (e : ℕ) (path b : List ℕ) (r : Walked) : Type 0 where
   pub answer : saidWalked r ≡ reached (viewCall f e path b)
 
--- `set` with the word w answers r and leaves b′ in the buffer
-pub record Sets (f : List ℕ) (e : ℕ) (path : List ℕ) (w : ℕ) (b : List ℕ) (r : Number) (b′ : List ℕ) : Type 0 where
-  pub answer : saidNumber r ≡ answerOf (setCall f e path w b)
-  pub buffer : b′ ≡ contentsOf b (setCall f e path w b)
+-- `set` with the words ws answers r and leaves b′ in the buffer
+pub record Sets (f : List ℕ) (e : ℕ) (path ws b : List ℕ) (r : Number) (b′ : List ℕ) : Type 0 where
+  pub answer : saidNumber r ≡ answerOf (setCall f e path ws b)
+  pub buffer : b′ ≡ contentsOf b (setCall f e path ws b)

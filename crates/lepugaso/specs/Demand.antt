@@ -2,16 +2,16 @@
 --
 -- In order: demand 2, on writing and reading; a path to one scalar; what a set did; what a read finds changed; demand 3.
 -- Definitions only. Assumes nothing.
-use Prim.Native.Nat.{ℕ, _+_, _%_, _^_, _<_, _≤_}
+use Prim.Native.Nat.{ℕ, _+_, _%_, _<_, _≤_}
 use mathlib.Core.Bool.{true}
 use mathlib.Core.List.{List, _++_}
 use mathlib.Core.Logic.{_⊎_}
-use mathlib.Core.Option.{some}
 use mathlib.Core.Path.{_≡_}
-use lib.ListN.{length, getD, getElem?, take, drop, set}
-use Rattle.wgsl.specs.Types.{Ty, isOpen, lastScalarKind}
-use Rattle.wgsl.specs.Place.{extentOf, places, wordCount, wordsRead}
-use Rattle.wgsl.specs.Claim.{Outside, Apart, Uncovered, Stored, CanWrite}
+use lib.ListN.{length, getD, take, drop}
+use lib.Seq.{sets}
+use Rattle.wgsl.specs.Types.{Ty, isOpen, isScalarKind}
+use Rattle.wgsl.specs.Place.{extentOf, wordsOver, wordsFor, places, wordCount, wordsRead}
+use Rattle.wgsl.specs.Claim.{Outside, Apart, Uncovered, Holds, Stored, CanWrite}
 use Rattle.wgsl.specs.Demand.{Given, Words}
 use Rattle.said.specs.declared.refusal.Refusal.{Refusal}
 use Rattle.said.specs.declared.answer.Number.{Number}
@@ -57,25 +57,25 @@ pub record TwoOnTheCode (f : List ℕ) (e : ℕ) (ws b : List ℕ) : Type 0 wher
 -- `view_at` answers the target t for the path, and t is one scalar
 pub record ToScalar (f : List ℕ) (e : ℕ) (b path : List ℕ) (t : Target) : Type 0 where
   pub views : Views f e path b (To t)
-  pub scalar : t .scalar ≤ lastScalarKind
+  pub scalar : isScalarKind (t .scalar) ≡ true
 
 -- ---- set, and read again
 
--- a word w set by `set` at the path to t in the buffer b: what the call did
+-- words set by `set` at the path to t in the buffer b: what the call did
 pub record IsSet (t : Target) (b : List ℕ) (r : Number) (b′ : List ℕ) : Type 0 where
   pub not-refused : r ≡ Is (t .offset)
   pub length-same : length b′ ≡ length b
   pub others-stay : (i : ℕ) → Outside (t .offset) (t .size) i → getD b′ i 0 ≡ getD b i 0
 
--- `read` answered r and gave `old` before a set of w at t, and answered q and gave `new` after it: what changed
-pub record OneReplaced {f : List ℕ} {e : ℕ} {b : List ℕ} (g : Given f e b) (t : Target) (w : ℕ) (r : Number) (old : List ℕ) (q : Number) (new : List ℕ) : Type 0 where
+-- `read` answered r and gave `old` before a set of the words `new` at t, and answered q and gave `now` after it: what changed
+pub record OneReplaced {f : List ℕ} {e : ℕ} {b : List ℕ} (g : Given f e b) (t : Target) (new : List ℕ) (r : Number) (old : List ℕ) (q : Number) (now : List ℕ) : Type 0 where
   pub count : ℕ
   pub answer-before : r ≡ Is count
   pub answer-after : q ≡ Is count
   pub position : ℕ
-  pub position-inside : position < count
-  pub position-is : getElem? (places 0 (g .type)) position ≡ some (record { at = t .offset; width = t .size })
-  pub replaced : new ≡ set old position w
+  pub position-inside : position + length new ≤ count
+  pub position-is : take (length new) (drop position (places 0 (g .type))) ≡ wordsOver (wordsFor (t .size)) (t .size) (t .offset)
+  pub replaced : now ≡ sets old position new
 
 -- ---- demand 3
 
@@ -86,6 +86,6 @@ pub record ThreeOnTheCode {f : List ℕ} {e : ℕ} {b : List ℕ} (g : Given f e
   -- "different paths share no byte" (`Words`: steps are numbers of 32 bits, as those of every slice of u32 are)
   pub apart : (p q : List ℕ) (t u : Target) → ToScalar f e b p t → ToScalar f e b q u → Words p → Words q → (p ≡ q) ⊎ Apart (t .offset) (t .size) (u .offset) (u .size)
   -- "setting a scalar with a word its type can hold is never refused and changes only its bytes"
-  pub set-alone : (path : List ℕ) (t : Target) → ToScalar f e b path t → (w : ℕ) → w < 256 ^ t .size → (r : Number) (b′ : List ℕ) → Sets f e path w b r b′ → IsSet t b r b′
-  -- "reading the whole entry into enough words then gives the old words with that one replaced"
-  pub read-back : (path : List ℕ) (t : Target) → ToScalar f e b path t → (w : ℕ) → w < 256 ^ t .size → (r : Number) (b′ : List ℕ) → Sets f e path w b r b′ → (ws : List ℕ) → wordCount 0 (g .type) ≤ length ws → (p q : Number) (old new : List ℕ) → Reads f e b ws p old → Reads f e b′ ws q new → OneReplaced g t w p old q new
+  pub set-alone : (path : List ℕ) (t : Target) → ToScalar f e b path t → (new : List ℕ) → Holds (t .size) (t .offset) new → (r : Number) (b′ : List ℕ) → Sets f e path new b r b′ → IsSet t b r b′
+  -- "reading the whole entry into enough words then gives the old words with that one replaced" (E6: "that scalar's one or two words")
+  pub read-back : (path : List ℕ) (t : Target) → ToScalar f e b path t → (new : List ℕ) → Holds (t .size) (t .offset) new → (r : Number) (b′ : List ℕ) → Sets f e path new b r b′ → (ws : List ℕ) → wordCount 0 (g .type) ≤ length ws → (p q : Number) (old now : List ℕ) → Reads f e b ws p old → Reads f e b′ ws q now → OneReplaced g t new p old q now

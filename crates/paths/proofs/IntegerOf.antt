@@ -10,7 +10,7 @@ use mathlib.Core.Logic.{_⊎_, inl, inr, ⊎-elim}
 use native.Mathlib.Omega.{arith}
 use lib.ListN.{length}
 use Rattle.wgsl.specs.Number.{load, store}
-use Rattle.wgsl.specs.Types.{Scalar, bool, i32, u32, f32, f16, abstractInt, abstractFloat, scalarKind}
+use Rattle.wgsl.specs.Types.{Scalar, bool, i32, u32, f32, f16, abstractInt, abstractFloat, i64, u64, f64, scalarKind}
 use Rattle.wgsl.specs.Said.{Said, good, refused, _>>=_, _>>_, refuse, orRefuse}
 use Rattle.wgsl.specs.Place.{Shape, one, parts, field, whole, spanOf, wordPlaces, storeWords}
 use Rattle.wgsl.specs.Path as path
@@ -18,11 +18,12 @@ use Rattle.wgsl.specs.Call.{scalarAt, targetCall}
 use Rattle.wgsl.specs.BitField.{extractedU32, extractedI32, inserted}
 use Rattle.wgsl.specs.BitFieldCall.{isInteger, isSigned, FoundInteger, integerAt, wordOf, extractedAs, extractCall, insertCall, integerOf}
 use Rattle.wgsl.proofs.Absent.{true-not-false}
+use Rattle.wgsl.proofs.ScalarRank.{kind-same}
 use Rattle.wgsl.proofs.Said.{good-not-refused, then-is, then-refused}
 use Rattle.said.specs.declared.target.Target.{Target}
 use Rattle.said.specs.Target.{kindIn, targetIs}
 use Rattle.paths.specs.Field.{foundIs, foundIn, Integer}
-use Rattle.wgsl.proofs.BitFieldCall.{integer-width, integer-room}
+use Rattle.wgsl.proofs.BitFieldCall.{integer-width, integer-places, integer-room}
 
 -- ---- once the target is found
 
@@ -40,29 +41,13 @@ module _ (f : List ℕ) (e : ℕ) (steps b : List ℕ) where
 -- The kind of i32 is no other scalar's.
 pub kind-one : (s : Scalar) → scalarKind s ≡ 1 → s ≡ i32
 unfolding scalarKind
-kind-one bool e = absurd (omega arith)
-kind-one i32 e = refl
-kind-one u32 e = absurd (omega arith)
-kind-one f32 e = absurd (omega arith)
-kind-one f16 e = absurd (omega arith)
-kind-one abstractInt e = absurd (omega arith)
-kind-one abstractFloat e = absurd (omega arith)
+kind-one s e = kind-same {a = s} {b = i32} e
 
 -- The kinds of i32 and u32 are those of integers.
 kinds-integer : (s : Scalar) → (scalarKind s ≡ 1) ⊎ (scalarKind s ≡ 2) → isInteger s ≡ true
 unfolding scalarKind isInteger
-kinds-integer bool (inl e) = absurd (omega arith)
-kinds-integer bool (inr e) = absurd (omega arith)
-kinds-integer i32 k = refl
-kinds-integer u32 k = refl
-kinds-integer f32 (inl e) = absurd (omega arith)
-kinds-integer f32 (inr e) = absurd (omega arith)
-kinds-integer f16 (inl e) = absurd (omega arith)
-kinds-integer f16 (inr e) = absurd (omega arith)
-kinds-integer abstractInt (inl e) = absurd (omega arith)
-kinds-integer abstractInt (inr e) = absurd (omega arith)
-kinds-integer abstractFloat (inl e) = absurd (omega arith)
-kinds-integer abstractFloat (inr e) = absurd (omega arith)
+kinds-integer s (inl e) = rw (kind-same {a = s} {b = i32} e)
+kinds-integer s (inr e) = rw (kind-same {a = s} {b = u32} e)
 
 no-integer : (s : Scalar) → (scalarKind s ≡ 1 → ⊥) → (scalarKind s ≡ 2 → ⊥) → isInteger s ≡ false
 unfolding scalarKind isInteger
@@ -73,6 +58,9 @@ no-integer f32 h k = refl
 no-integer f16 h k = refl
 no-integer abstractInt h k = refl
 no-integer abstractFloat h k = refl
+no-integer i64 h k = refl
+no-integer u64 h k = refl
+no-integer f64 h k = refl
 
 -- An i32 or u32 has one of the two kinds.
 pub integer-kinds : (s : Scalar) → isInteger s ≡ true → (scalarKind s ≡ 1 → ⊥) → s ≡ u32
@@ -84,6 +72,9 @@ integer-kinds f32 e h = true-not-false e refl
 integer-kinds f16 e h = true-not-false e refl
 integer-kinds abstractInt e h = true-not-false e refl
 integer-kinds abstractFloat e h = true-not-false e refl
+integer-kinds i64 e h = true-not-false e refl
+integer-kinds u64 e h = true-not-false e refl
+integer-kinds f64 e h = true-not-false e refl
 
 -- A target whose kind is 1 or 2 is an i32 or a u32, and any other is refused.
 module _ (u : path.Target) where
@@ -152,8 +143,8 @@ module _ {t : Target} {x : FoundInteger} {bytes : ℕ} (i : Integer t x bytes) w
 
   -- a word stored in it is stored in its four bytes
   pub stored-four : (w : ℕ) (b : List ℕ) → storeWords (wordPlaces (x .scalar) (x .offset)) (w ∷ []) b ≡ store 4 b (t .offset) w
-  unfolding storeWords wordPlaces
-  stored-four w b = rw (integer-width (x .scalar) (i .integer), at-offset)
+  unfolding storeWords
+  stored-four w b = rw (integer-places (x .scalar) (x .offset) (i .integer), at-offset)
 
 -- ---- the calls, once it is found
 

@@ -1,60 +1,63 @@
--- A set (specs/Set) by what the code finds: a scalar or none, its width, the word.
+-- A set (crates/wgsl, specs/Call) by what the code finds: a scalar or none, its width, the words.
 --
--- In order: once the target is found; 14, or one scalar; its width; 16, and the word stored.
+-- In order: once the target is found; 14, or one scalar; its width; 14 for a wrong number of words, 16, and the words stored.
 -- Assumes nothing.
-use Prim.Native.Nat.{ℕ, _^_, _<_, _≤_}
-use mathlib.Core.Bool.{true}
-use mathlib.Core.List.{List}
+use Prim.Native.Nat.{ℕ, _+_, _^_, _<_, _≤_}
+use mathlib.Core.Bool.{true, false}
+use mathlib.Core.List.{List, [], _∷_}
 use mathlib.Core.Option.{Option, none, some}
 use mathlib.Core.Path.{_≡_, refl, ap, sym, _∙_}
 use native.Mathlib.Omega.{arith}
-use borrow.Author.Tests.{lt-ltb, le-ltb}
+use borrow.Author.Tests.{lt-ltb, le-ltb, ne-eqb}
+use lib.ListN.{length, getD}
+use Rattle.wgsl.specs.Round.{up}
 use Rattle.wgsl.specs.Number.{store}
-use Rattle.wgsl.specs.Types.{Scalar, bool, i32, u32, f32, f16, abstractInt, abstractFloat}
+use Rattle.wgsl.specs.Types.{Scalar, bool, i32, u32, f32, f16, abstractInt, abstractFloat, i64, u64, f64, isScalarKind}
 use Rattle.wgsl.specs.Size.{present, widthOf}
 use Rattle.wgsl.specs.Said.{good, refused, _>>=_, _>>_, refuse, orRefuse}
-use Rattle.wgsl.specs.Place.{Shape, one, parts, field, whole, spanOf, wordPlaces, storeWords, canHold, checkWords}
+use Rattle.wgsl.specs.Place.{Shape, one, parts, field, whole, spanOf, wordsFor, wordsOver, wordPlaces, storeWords, canHold, checkWords}
 use Rattle.wgsl.specs.Path as path
 use Rattle.wgsl.specs.Call.{scalarAt, setCall, setScalar, setTarget, targetCall}
 use Rattle.wgsl.specs.Shapes.{Sound}
+use Rattle.wgsl.proofs.Absent.{true-not-false}
+use Rattle.wgsl.proofs.ScalarKind.{scalar-kind-is, no-scalar}
 use Rattle.wgsl.proofs.Said.{then-is, then-refused}
-use Rattle.layout_values.proofs.ScalarMade.{kind-bounded}
 use Rattle.said.specs.Target.{kindIn}
 use Rattle.said.specs.declared.target.Target.{Target}
-use Rattle.paths.specs.Set.{Narrow, InBuffer}
+use Rattle.paths.specs.Set.{InBuffer}
 
 -- ---- once the target is found
 
-module _ (f : List ℕ) (e : ℕ) (steps : List ℕ) (w : ℕ) (b : List ℕ) where
-  pub set-refused : {number place : ℕ} → targetCall true f e steps b ≡ refused number place → setCall f e steps w b ≡ refused number place
+module _ (f : List ℕ) (e : ℕ) (steps ws b : List ℕ) where
+  pub set-refused : {number place : ℕ} → targetCall true f e steps b ≡ refused number place → setCall f e steps ws b ≡ refused number place
   unfolding setCall
   set-refused h = then-refused _ h
 
-  pub set-found : {u : path.Target} → targetCall true f e steps b ≡ good u → setCall f e steps w b ≡ setTarget u w b
+  pub set-found : {u : path.Target} → targetCall true f e steps b ≡ good u → setCall f e steps ws b ≡ setTarget u ws b
   unfolding setCall
   set-found h = then-is _ h
 
 -- ---- 14, or one scalar
 
--- A kind above 6 is no scalar's, and any other is.
-no-scalar : (x : Shape) → 6 < kindIn x → scalarAt x ≡ none
+-- A kind that is no scalar's is that of no one scalar, and any other is.
+none-there : (x : Shape) → isScalarKind (kindIn x) ≡ false → scalarAt x ≡ none
 unfolding kindIn scalarAt
-no-scalar (one s) h = absurd (omega (arith, kind-bounded s))
-no-scalar (parts n stride x) h = refl
-no-scalar (field offset x rest) h = refl
-no-scalar (whole z) h = refl
+none-there (one s) h = true-not-false (scalar-kind-is s) h
+none-there (parts n stride x) h = refl
+none-there (field offset x rest) h = refl
+none-there (whole z) h = refl
 
 -- What is said to be one scalar is one.
-pub scalar-shape : (x : Shape) → kindIn x ≤ 6 → (s : Scalar) × (x ≡ one s)
+pub scalar-shape : (x : Shape) → isScalarKind (kindIn x) ≡ true → (s : Scalar) × (x ≡ one s)
 unfolding kindIn
 scalar-shape (one s) h = (s, refl)
-scalar-shape (parts n stride x) h = absurd (omega arith)
-scalar-shape (field offset x rest) h = absurd (omega arith)
-scalar-shape (whole z) h = absurd (omega arith)
+scalar-shape (parts n stride x) h = true-not-false h (no-scalar 7 (omega arith) (omega arith))
+scalar-shape (field offset x rest) h = true-not-false h (no-scalar 7 (omega arith) (omega arith))
+scalar-shape (whole z) h = true-not-false h (no-scalar 7 (omega arith) (omega arith))
 
-pub set-none : {t : Target} {u : path.Target} {bytes : ℕ} → InBuffer t u bytes → (w : ℕ) (b : List ℕ) → 6 < t .scalar → setTarget u w b ≡ refused 14 0
+pub set-none : {t : Target} {u : path.Target} {bytes : ℕ} → InBuffer t u bytes → (ws b : List ℕ) → isScalarKind (t .scalar) ≡ false → setTarget u ws b ≡ refused 14 0
 unfolding setTarget orRefuse _>>=_
-set-none {u = u} x w b h = rw (no-scalar (u .shape) (rw (x .is) at h)) refl
+set-none {u = u} x ws b h = rw (none-there (u .shape) (rw (x .is) at h)) refl
 
 -- the one scalar that a target is
 pub record OneScalar (t : Target) (u : path.Target) : Type 0 where
@@ -64,7 +67,7 @@ pub record OneScalar (t : Target) (u : path.Target) : Type 0 where
   pub size-is : present (widthOf scalar) ≡ t .size
   pub above : 0 < present (widthOf scalar)
 
-pub one-scalar : {t : Target} {u : path.Target} {bytes : ℕ} → InBuffer t u bytes → t .scalar ≤ 6 → OneScalar t u
+pub one-scalar : {t : Target} {u : path.Target} {bytes : ℕ} → InBuffer t u bytes → isScalarKind (t .scalar) ≡ true → OneScalar t u
 unfolding Sound spanOf
 one-scalar {u = u} x h =
     let y = scalar-shape (u .shape) (rw (x .is) at h) in
@@ -76,51 +79,81 @@ one-scalar {u = u} x h =
       above = rw (y .1) at (x .sound);
     }
 
-pub set-one : {t : Target} {u : path.Target} (x : OneScalar t u) (w : ℕ) (b : List ℕ) → setTarget u w b ≡ setScalar (x .scalar) (t .offset) w b
+pub set-one : {t : Target} {u : path.Target} (x : OneScalar t u) (ws b : List ℕ) → setTarget u ws b ≡ setScalar (x .scalar) (t .offset) ws b
 unfolding setTarget scalarAt orRefuse _>>=_
-set-one x w b = rw (x .shape-is, x .offset-is) refl
+set-one x ws b = rw (x .shape-is, x .offset-is) refl
 
 -- ---- a scalar's width
 
--- It takes two bytes, or four.
-pub narrow : {t : Target} {u : path.Target} (x : OneScalar t u) → t .size ≡ 2 → Narrow (x .scalar)
-unfolding present
-narrow x e = record { width-is = go (widthOf (x .scalar)) (x .size-is ∙ e) }
-  where
-    go : (o : Option ℕ) → present o ≡ 2 → o ≡ some 2
-    go (some n) q = ap some q
-    go none q = absurd (omega arith)
-
-four : (s : Scalar) → 0 < present (widthOf s) → (present (widthOf s) ≡ 2 → ⊥) → widthOf s ≡ some 4
+four : (s : Scalar) → 0 < present (widthOf s) → (present (widthOf s) ≡ 2 → ⊥) → (present (widthOf s) ≡ 8 → ⊥) → present (widthOf s) ≡ 4
 unfolding widthOf present
-four bool h k = refl
-four i32 h k = refl
-four u32 h k = refl
-four f32 h k = refl
-four f16 h k = absurd (k refl)
-four abstractInt h k = absurd (omega arith)
-four abstractFloat h k = absurd (omega arith)
+four bool h k m = refl
+four i32 h k m = refl
+four u32 h k m = refl
+four f32 h k m = refl
+four f16 h k m = absurd (k refl)
+four abstractInt h k m = absurd (omega arith)
+four abstractFloat h k m = absurd (omega arith)
+four i64 h k m = absurd (m refl)
+four u64 h k m = absurd (m refl)
+four f64 h k m = absurd (m refl)
 
-pub wide : {t : Target} {u : path.Target} (x : OneScalar t u) → (t .size ≡ 2 → ⊥) → (widthOf (x .scalar) ≡ some 4) × (t .size ≡ 4)
-unfolding present
-wide x h =
-    let e = four (x .scalar) (x .above) (λ q. h (sym (x .size-is) ∙ q)) in
-    (e, sym (x .size-is) ∙ ap present e)
+module _ {t : Target} {u : path.Target} (x : OneScalar t u) where
+  -- The size of a target that is one scalar is the scalar's,
+  pub of-width : (k : ℕ) → t .size ≡ k → widthOf (x .scalar) ≡ some k
+  unfolding present
+  of-width k e = go (widthOf (x .scalar)) (x .size-is ∙ e) (x .above)
+    where
+      go : (o : Option ℕ) → present o ≡ k → 0 < present o → o ≡ some k
+      go (some n) q above = ap some q
+      go none q above = absurd (omega arith)
 
--- ---- 16, and the word stored
+  -- and is four where it is neither two nor eight.
+  pub of-four : (t .size ≡ 2 → ⊥) → (t .size ≡ 8 → ⊥) → t .size ≡ 4
+  of-four h k = sym (x .size-is) ∙ four (x .scalar) (x .above) (λ q. h (sym (x .size-is) ∙ q)) (λ q. k (sym (x .size-is) ∙ q))
 
-module _ (s : Scalar) (at w : ℕ) (b : List ℕ) where
-  pub stored-large : Narrow s → 65535 < w → setScalar s at w b ≡ refused 16 0
-  unfolding setScalar wordPlaces checkWords canHold present _>>_ refuse
-  stored-large x h = rw (x .width-is, le-ltb w 65536 (omega arith)) refl
+-- ---- the words
 
-  stored-fits : {k : ℕ} → widthOf s ≡ some k → w < 256 ^ k → setScalar s at w b ≡ good (record { value = at; contents = store k b at w })
-  unfolding setScalar wordPlaces checkWords storeWords canHold present _>>_ refuse
-  stored-fits {k} e h = rw (e, lt-ltb w (256 ^ k) h) refl
+single : (ws : List ℕ) → length ws ≡ 1 → ws ≡ getD ws 0 0 ∷ []
+single [] e = absurd (omega arith)
+single (w ∷ []) e = refl
+single (w ∷ v ∷ ws) e = absurd (omega arith)
 
-  pub stored-narrow : Narrow s → w ≤ 65535 → setScalar s at w b ≡ good (record { value = at; contents = store 2 b at w })
-  stored-narrow x h = stored-fits (x .width-is) (omega arith)
+double : (ws : List ℕ) → length ws ≡ 2 → ws ≡ getD ws 0 0 ∷ getD ws 1 0 ∷ []
+double [] e = absurd (omega arith)
+double (w ∷ []) e = absurd (omega arith)
+double (w ∷ v ∷ []) e = refl
+double (w ∷ v ∷ x ∷ ws) e = absurd (omega arith)
 
--- A scalar of four bytes takes any word.
-pub set-four : {t : Target} {u : path.Target} (x : OneScalar t u) (w : ℕ) (b : List ℕ) → (t .size ≡ 2 → ⊥) → w < 4294967296 → setTarget u w b ≡ good (record { value = t .offset; contents = store 4 b (t .offset) w })
-set-four {t} x w b h fits = set-one x w b ∙ stored-fits (x .scalar) (t .offset) w b (wide x h .0) (omega arith)
+module _ (s : Scalar) (at : ℕ) (ws b : List ℕ) where
+  -- 14: "for another length"
+  pub wrong-count : {k : ℕ} → widthOf s ≡ some k → (length ws ≡ wordsFor k → ⊥) → setScalar s at ws b ≡ refused 14 0
+  unfolding setScalar present _>>_ refuse
+  wrong-count {k} e h = rw (e, ne-eqb (length ws) (wordsFor k) h) refl
+
+  pub one-or-none : {k : ℕ} → widthOf s ≡ some k → k ≤ 4 → 0 < k → (length ws ≡ 1 → ⊥) → setScalar s at ws b ≡ refused 14 0
+  unfolding wordsFor up
+  one-or-none e l h n = wrong-count e (λ q. n (omega arith))
+
+  pub two-or-none : widthOf s ≡ some 8 → (length ws ≡ 2 → ⊥) → setScalar s at ws b ≡ refused 14 0
+  unfolding wordsFor up
+  two-or-none e n = wrong-count e n
+
+  -- 16: a word that an f16 cannot hold
+  pub stored-large : widthOf s ≡ some 2 → length ws ≡ 1 → 65535 < getD ws 0 0 → setScalar s at ws b ≡ refused 16 0
+  unfolding setScalar wordPlaces wordsFor wordsOver up checkWords canHold present _>>_ refuse
+  stored-large e many h = rw (e, single ws many, le-ltb (getD ws 0 0) 65536 (omega arith)) refl
+
+  -- and the words stored
+  pub stored-two : widthOf s ≡ some 2 → length ws ≡ 1 → getD ws 0 0 < 65536 → setScalar s at ws b ≡ good (record { value = at; contents = store 2 b at (getD ws 0 0) })
+  unfolding setScalar wordPlaces wordsFor wordsOver up checkWords storeWords canHold present _>>_ refuse
+  stored-two e many h = rw (e, single ws many, lt-ltb (getD ws 0 0) 65536 h) refl
+
+  pub stored-four : widthOf s ≡ some 4 → length ws ≡ 1 → getD ws 0 0 < 4294967296 → setScalar s at ws b ≡ good (record { value = at; contents = store 4 b at (getD ws 0 0) })
+  unfolding setScalar wordPlaces wordsFor wordsOver up checkWords storeWords canHold present _>>_ refuse
+  stored-four e many h = rw (e, single ws many, lt-ltb (getD ws 0 0) 4294967296 h) refl
+
+  pub stored-eight : widthOf s ≡ some 8 → length ws ≡ 2 → getD ws 0 0 < 4294967296 → getD ws 1 0 < 4294967296 → setScalar s at ws b ≡ good (record { value = at; contents = store 4 (store 4 b at (getD ws 0 0)) (at + 4) (getD ws 1 0) })
+  unfolding setScalar wordPlaces wordsFor wordsOver up checkWords storeWords canHold present _>>_ refuse
+  stored-eight e two h k =
+      rw (e, double ws two, lt-ltb (getD ws 0 0) 4294967296 h, lt-ltb (getD ws 1 0) 4294967296 k) refl

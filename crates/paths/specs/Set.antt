@@ -2,19 +2,12 @@
 -- Definitions only. Assumes nothing.
 use Prim.Native.Nat.{ℕ, _+_, _≤_}
 use mathlib.Core.Path.{_≡_}
-use mathlib.Core.Option.{some}
 use Rattle.wgsl.specs.Round.{limit}
-use Rattle.wgsl.specs.Types.{Scalar}
-use Rattle.wgsl.specs.Size.{widthOf}
 use Rattle.wgsl.specs.Place.{spanOf}
 use Rattle.wgsl.specs.Path as path
 use Rattle.wgsl.specs.Shapes.{Sound}
 use Rattle.said.specs.declared.target.Target.{Target}
 use Rattle.said.specs.Target.{targetIs}
-
--- a scalar of two bytes
-pub record Narrow (s : Scalar) : Type 0 where
-  pub width-is : widthOf s ≡ some 2
 
 -- the target u as the code has it, inside a buffer of so many bytes
 pub record InBuffer (t : Target) (u : path.Target) (bytes : ℕ) : Type 0 where

@@ -172,13 +172,13 @@ pub extern "C" fn lepugaso_surface_set(
     file: &[u8],
     entry: u32,
     path: &[u32],
-    word: u32,
+    words: &[u32],
     buf: &mut [u8],
 ) -> Crossing
-    ensures answer { λ r. ⌜ r ≡ crossed (answerOf (setCall (now (file .entry)) entry (now (path .entry)) word (now (buf .entry)))) ⌝ }
-    ensures buffer { λ r. ⌜ now (buf .exit) ≡ contentsOf (now (buf .entry)) (setCall (now (file .entry)) entry (now (path .entry)) word (now (buf .entry))) ⌝ }
+    ensures answer { λ r. ⌜ r ≡ crossed (answerOf (setCall (now (file .entry)) entry (now (path .entry)) (now (words .entry)) (now (buf .entry)))) ⌝ }
+    ensures buffer { λ r. ⌜ now (buf .exit) ≡ contentsOf (now (buf .entry)) (setCall (now (file .entry)) entry (now (path .entry)) (now (words .entry)) (now (buf .entry))) ⌝ }
 {
-    cross(lepugaso::set(file, entry, path, word, buf))
+    cross(lepugaso::set(file, entry, path, words, buf))
 }
 
 #[no_mangle]

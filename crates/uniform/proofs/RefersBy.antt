@@ -3,23 +3,24 @@
 -- In order: the types of a struct's members; every entry; that something is told of all of them.
 -- Assumes nothing.
 use Prim.Native.Nat.{ℕ, zero, suc, _+_, _*_, _<_, _≤_}
+use mathlib.Core.Bool.{false}
 use mathlib.Core.List.{List, [], _∷_}
 use mathlib.Core.Option.{some}
 use mathlib.Core.Path.{_≡_, refl, sym, ap, _∙_}
 use native.Mathlib.Omega.{arith}
-use borrow.Author.Tests.{le-leb}
 use lib.ListN.{take, getElem?}
-use Rattle.wgsl.specs.Types.{Ty, scalar, vector, matrix, array, runtime, atomic, struct, Members, scalarKind, kindOf, structKind}
+use Rattle.wgsl.specs.Types.{Ty, scalar, vector, matrix, array, runtime, atomic, struct, Members, scalarKind, isScalarKind, kindOf, structKind}
 use Rattle.wgsl.specs.File.{trailerOf, MemberEntry, memberEntryAt, typeEntryAt, memberEntryLength}
 use Rattle.wgsl.specs.Rule.{membersFrom}
 use Rattle.wgsl.specs.Uniform.{memberTypes, refersTo}
+use Rattle.wgsl.proofs.Absent.{true-not-false}
 use Rattle.wgsl.proofs.Said.{when-some, andThen-some}
 use Rattle.wgsl.proofs.AtEntry.{Refers, to-none, to-vector, to-matrix, to-array, to-runtime, to-atomic, to-members}
 use Rattle.wgsl.proofs.Reach.{linksOf, links}
 use Rattle.file.specs.Members.{memberBytes}
 use Rattle.layout_values.specs.declared.value.Value.{Value}
 use Rattle.layout_values.specs.Value.{valueOf, valueAt}
-use Rattle.layout_values.proofs.ScalarMade.{kind-bounded}
+use Rattle.wgsl.proofs.ScalarKind.{scalar-kind-is, no-scalar, no-scalar-kind}
 use Rattle.walk_shapes.specs.Basis.{Basis}
 use Rattle.walk_shapes.proofs.Basis.{basis-layout, basis-refers}
 use Rattle.walk_shapes.proofs.MemberBytes.{memberBytes-at}
@@ -59,16 +60,16 @@ module _ {f : List ℕ} {ts : List Ty} {ms : List ℕ} {table : List (List ℕ)}
 
   refers-linked : {t : Ty} → Refers f ts e (typeEntryAt f e) t → getElem? ts e ≡ some t → refersBy ms (valueAt table e) ≡ linksOf f (typeEntryAt f e) t
   unfolding refersBy linksOf valueOf kindOf
-  refers-linked (to-none s) there = rw (basis-layout basis e _ there, le-leb (scalarKind s) 6 (kind-bounded s))
-  refers-linked (to-vector s low below) there = rw (basis-layout basis e _ there)
-  refers-linked (to-matrix s low below) there = rw (basis-layout basis e _ there)
-  refers-linked (to-array u low below) there = rw (basis-layout basis e _ there)
-  refers-linked (to-runtime u none low below) there = rw (basis-layout basis e _ there)
-  refers-linked (to-atomic s low below) there = rw (basis-layout basis e _ there)
+  refers-linked (to-none s) there = rw (basis-layout basis e _ there, scalar-kind-is s)
+  refers-linked (to-vector s low below) there = rw (basis-layout basis e _ there, no-scalar 7 (omega arith) (omega arith))
+  refers-linked (to-matrix s low below) there = rw (basis-layout basis e _ there, no-scalar 8 (omega arith) (omega arith))
+  refers-linked (to-array u low below) there = rw (basis-layout basis e _ there, no-scalar 9 (omega arith) (omega arith))
+  refers-linked (to-runtime u none low below) there = rw (basis-layout basis e _ there, no-scalar 10 (omega arith) (omega arith))
+  refers-linked (to-atomic s low below) there = rw (basis-layout basis e _ there, no-scalar 11 (omega arith) (omega arith))
   refers-linked (to-members members are within) there =
       let k : valueAt table e .kind ≡ 12 = ap (λ (v : Value). v .kind) (basis-layout basis e _ there) in
       let x = struct-fields there are in
-      rw (k, x .0, x .1, x .2, basis .members-are) (types-at f _ _ within)
+      rw (k, no-scalar 12 (omega arith) (omega arith), x .0, x .1, x .2, basis .members-are) (types-at f _ _ within)
 
   pub refers-is : {t : Ty} → getElem? ts e ≡ some t → refersBy ms (valueAt table e) ≡ refersTo f e
   refers-is {t} there = refers-linked (basis-refers basis e t there) there ∙ sym (links f ts (basis .good-file) e there)
@@ -77,7 +78,7 @@ module _ {f : List ℕ} {ts : List Ty} {ms : List ℕ} {table : List (List ℕ)}
 
   members-inside : {t : Ty} (told : ℕ) → e ≤ told → Refers f ts e (typeEntryAt f e) t → getElem? ts e ≡ some t → valueAt table e .kind ≡ structKind → TypesInside ms told (valueAt table e .stride) (valueAt table e .count) (valueAt table e .reference * valueAt table e .stride)
   unfolding kindOf
-  members-inside told few (to-none s) there is = absurd (omega (arith, kind-is basis e _ there, kind-bounded s))
+  members-inside told few (to-none s) there is = absurd (no-scalar-kind s 12 (omega arith) (omega arith) (sym (kind-is basis e _ there) ∙ is))
   members-inside told few (to-vector s low below) there is = absurd (omega (arith, kind-is basis e _ there))
   members-inside told few (to-matrix s low below) there is = absurd (omega (arith, kind-is basis e _ there))
   members-inside told few (to-array u low below) there is = absurd (omega (arith, kind-is basis e _ there))
@@ -87,9 +88,9 @@ module _ {f : List ℕ} {ts : List Ty} {ms : List ℕ} {table : List (List ℕ)}
       let x = struct-fields there are in
       rw (x .0, x .1, x .2, basis .members-are) (types-inside told _ _ members few are within)
 
-  reference-inside : {t : Ty} (told : ℕ) → e ≤ told → Refers f ts e (typeEntryAt f e) t → getElem? ts e ≡ some t → 6 < valueAt table e .kind → (valueAt table e .kind ≡ structKind → ⊥) → valueAt table e .reference < told
+  reference-inside : {t : Ty} (told : ℕ) → e ≤ told → Refers f ts e (typeEntryAt f e) t → getElem? ts e ≡ some t → isScalarKind (valueAt table e .kind) ≡ false → (valueAt table e .kind ≡ structKind → ⊥) → valueAt table e .reference < told
   unfolding kindOf
-  reference-inside told few (to-none s) there h plain = absurd (omega (arith, kind-is basis e _ there, kind-bounded s))
+  reference-inside told few (to-none s) there h plain = true-not-false (scalar-kind-is s) (rw (kind-is basis e _ there) at h)
   reference-inside told few (to-vector s low below) there h plain = omega (arith, reference-is basis e _ there, low)
   reference-inside told few (to-matrix s low below) there h plain = omega (arith, reference-is basis e _ there, low)
   reference-inside told few (to-array u low below) there h plain = omega (arith, reference-is basis e _ there, low)

@@ -6,11 +6,11 @@
 -- Definitions only. Assumes nothing.
 use Prim.Native.Nat.{ℕ, zero, suc, _+_, _*_, _<_, _≤_, min}
 use mathlib.Core.Path.{_≡_}
-use mathlib.Core.Bool.{Bool, true, cond}
+use mathlib.Core.Bool.{Bool, true, false, cond}
 use mathlib.Core.List.{List, [], _∷_}
-use lib.Dec.{eqb, ltb, leb}
+use lib.Dec.{eqb, ltb}
 use lib.ListN.{length, getD}
-use Rattle.wgsl.specs.Types.{Ty, lastScalarKind, structKind}
+use Rattle.wgsl.specs.Types.{Ty, isScalarKind, structKind}
 use Rattle.wgsl.specs.File.{mostTypes, memberFieldsLength}
 use Rattle.wgsl.specs.Said.{Said, good, refused}
 use Rattle.wgsl.specs.Uniform.{isBroken}
@@ -36,12 +36,12 @@ TypesInside ms told long (suc count) m =
 -- what an entry of the value l refers to
 unfoldable pub refersBy : List ℕ → Value → List ℕ
 refersBy ms l =
-    cond (leb (l .kind) lastScalarKind) []
+    cond (isScalarKind (l .kind)) []
     (cond (eqb (l .kind) structKind) (typesAt ms (l .stride) (l .count) (l .reference * l .stride)) (l .reference ∷ []))
 
 pub record RefersInside (ms : List ℕ) (told : ℕ) (l : Value) : Type 0 where
   pub members : l .kind ≡ structKind → TypesInside ms told (l .stride) (l .count) (l .reference * l .stride)
-  pub reference : lastScalarKind < l .kind → (l .kind ≡ structKind → ⊥) → l .reference < told
+  pub reference : isScalarKind (l .kind) ≡ false → (l .kind ≡ structKind → ⊥) → l .reference < told
 
 -- ---- the lowest number told of some entries
 

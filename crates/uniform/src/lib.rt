@@ -1,8 +1,8 @@
 // The uniform profile: whether an entry may live in a uniform buffer. Upward from entry 0, each entry is told the lowest broken one among
 // it and those that it reaches.
 use file::fields::member_at;
-use file::kinds::LAST_SCALAR;
 use file::kinds::STRUCT;
+use file::kinds::is_scalar;
 use file::trailer::Trailered;
 use file::trailer::check_trailer;
 use layout_table::Ground;
@@ -60,7 +60,7 @@ fn lowest_below(members: &[u8], told: &[u32], l: Value) -> u32
     requires { ⌜ RefersInside (now members) (length (now told)) l ⌝ }
     ensures { λ r. ⌜ r ≡ lowestAmong (now (told .entry)) (refersBy (now (members .entry)) l) ⌝ }
 {
-    if l.kind <= LAST_SCALAR {
+    if is_scalar(l.kind) {
         return NO_ENTRY;
     }
     if l.kind == STRUCT {

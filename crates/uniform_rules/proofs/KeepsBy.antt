@@ -9,7 +9,7 @@ use mathlib.Core.Logic.{⊎-elim}
 use mathlib.Core.Option.{Option, some, Option·some-injective}
 use mathlib.Core.Path.{_≡_, refl, sym, ap, _∙_}
 use native.Mathlib.Omega.{arith}
-use borrow.Author.Tests.{ne-eqb, lt-ltb}
+use borrow.Author.Tests.{ne-eqb}
 use lib.Dec.{leb}
 use lib.ListN.{take, getElem?}
 use Rattle.wgsl.specs.Round.{up}
@@ -28,14 +28,14 @@ use Rattle.wgsl.proofs.AtEntry.{Refers, to-none, to-vector, to-matrix, to-array
 use Rattle.file.specs.Members.{memberBytes}
 use Rattle.layout_values.specs.declared.value.Value.{Value}
 use Rattle.layout_values.specs.Value.{partsOf, valueOf, valueAt}
-use Rattle.layout_values.proofs.ScalarMade.{kind-bounded}
+use Rattle.wgsl.proofs.ScalarKind.{no-scalar-kind}
 use Rattle.walk_trees.specs.Slot.{memberValue, slotAt}
 use Rattle.walk_shapes.specs.Basis.{Basis}
 use Rattle.walk_shapes.proofs.Basis.{basis-layout, basis-well-formed, basis-refers}
 use Rattle.walk_shapes.proofs.Says.{kind-is, struct-says}
 use Rattle.walk_shapes.proofs.MemberRead.{Ruled, struct-ruled, first-ruled, rest-ruled, last-none, count-from, Read, read, first-placeable, first-start, first-end}
-use Rattle.uniform_rules.specs.Keeps.{startKeeps, earliestBy, slotsKeep, SlotsAll, keepsBy, KeepsAsk}
-use Rattle.uniform_rules.proofs.StartKeeps.{start-is, earliest-is}
+use Rattle.uniform_rules.specs.Keeps.{isRaised, startKeeps, earliestBy, slotsKeep, SlotsAll, keepsBy, KeepsAsk}
+use Rattle.uniform_rules.proofs.StartKeeps.{scalar-not-raised, start-is, earliest-is}
 
 -- ---- the members of a struct
 
@@ -113,10 +113,14 @@ module _ {f : List ℕ} {ts : List Ty} {ms : List ℕ} {table : List (List ℕ)}
       (kept basis e _ _ 0 members are within (struct-ruled e members (basis-well-formed basis e (struct e members) there)))
 
   is-kept : {t : Ty} → Refers f ts e (typeEntryAt f e) t → getElem? ts e ≡ some t → keepsBy ms table (valueAt table e) ≡ keepsUniform t
-  unfolding keepsBy keepsUniform valueOf kindOf partsOf isMultiple
+  unfolding keepsBy isRaised keepsUniform valueOf kindOf partsOf isMultiple
   is-kept (to-none s) there =
-      let low : scalarKind s < 9 = omega (arith, kind-bounded s) in
-      rw (basis-layout basis e _ there, ne-eqb (scalarKind s) 12 (λ q. omega arith), ne-eqb (scalarKind s) 11 (λ q. omega arith), lt-ltb _ 9 low)
+      rw (
+        basis-layout basis e _ there,
+        ne-eqb (scalarKind s) 12 (no-scalar-kind s 12 (omega arith) (omega arith)),
+        scalar-not-raised s,
+        ne-eqb (scalarKind s) 11 (no-scalar-kind s 11 (omega arith) (omega arith)),
+      )
   is-kept (to-vector s low below) there = rw (basis-layout basis e _ there)
   is-kept (to-matrix s low below) there = rw (basis-layout basis e _ there)
   is-kept (to-array u low below) there = rw (basis-layout basis e _ there)
@@ -128,7 +132,7 @@ module _ {f : List ℕ} {ts : List Ty} {ms : List ℕ} {table : List (List ℕ)}
 
   all-placed : {t : Ty} → Refers f ts e (typeEntryAt f e) t → getElem? ts e ≡ some t → valueAt table e .kind ≡ structKind → SlotsAll ms table (valueAt table e .stride) (valueAt table e .count) (valueAt table e .reference * valueAt table e .stride) 0
   unfolding valueOf kindOf
-  all-placed (to-none s) there is = absurd (omega (arith, kind-is basis e _ there, kind-bounded s))
+  all-placed (to-none s) there is = absurd (no-scalar-kind s 12 (omega arith) (omega arith) (sym (kind-is basis e _ there) ∙ is))
   all-placed (to-vector s low below) there is = absurd (omega (arith, kind-is basis e _ there))
   all-placed (to-matrix s low below) there is = absurd (omega (arith, kind-is basis e _ there))
   all-placed (to-array u low below) there is = absurd (omega (arith, kind-is basis e _ there))

@@ -8,10 +8,10 @@ use mathlib.Core.Logic.{⊎-elim}
 use mathlib.Core.Option.{some}
 use mathlib.Core.Path.{_≡_, refl, sym, ap, _∙_}
 use native.Mathlib.Omega.{arith}
-use borrow.Author.Tests.{eq-eqb, ne-eqb, lt-ltb}
+use borrow.Author.Tests.{eq-eqb, ne-eqb, le-leb, lt-leb}
 use lib.Dec.{eqb, leb}
 use Rattle.wgsl.specs.Round.{IsPower, up}
-use Rattle.wgsl.specs.Types.{Ty, scalar, vector, matrix, array, runtime, atomic, struct, everywhere, scalarKind, kindOf}
+use Rattle.wgsl.specs.Types.{Scalar, Ty, scalar, vector, matrix, array, runtime, atomic, struct, everywhere, scalarKind, kindOf}
 use Rattle.wgsl.specs.Size.{both, present, sizeOf, alignOf}
 use Rattle.wgsl.specs.Rule.{isMultiple, isWellFormed}
 use Rattle.wgsl.specs.Uniform.{uniformAlign, earliestAfter}
@@ -21,7 +21,7 @@ use Rattle.wgsl.proofs.Shape.{multiple-trans}
 use Rattle.wgsl.proofs.Align.{align-power}
 use Rattle.layout_values.specs.declared.value.Value.{Value}
 use Rattle.layout_values.specs.Value.{valueOf}
-use Rattle.layout_values.proofs.ScalarMade.{kind-bounded}
+use Rattle.wgsl.proofs.ScalarKind.{scalar-kind-is, scalar-range, no-scalar-kind}
 use Rattle.uniform_rules.specs.Keeps.{isRaised, startKeeps, earliestBy}
 
 -- ---- rounding an alignment up to the unit
@@ -67,11 +67,23 @@ module _ (t : Ty) (a start : ℕ) (well : everywhere isWellFormed t ≡ true) (a
   unfolding both
   raised-kept = rw align-is (raised-multiple a start (align-power t a well align-is) multiple)
 
+-- A scalar is no struct and no array.
+pub scalar-not-raised : (s : Scalar) → isRaised (scalarKind s) ≡ false
+unfolding isRaised
+scalar-not-raised s =
+    ⊎-elim (λ (low : scalarKind s ≤ 6). rw (lt-leb 9 (scalarKind s) (omega arith)))
+    (λ (high : (13 ≤ scalarKind s) × (scalarKind s ≤ 15)).
+    rw (le-leb 9 (scalarKind s) (omega (arith, high .0)), lt-leb (scalarKind s) 12 (omega (arith, high .0))))
+    (scalar-range (scalarKind s) (scalar-kind-is s))
+
+not-raised : (l : Value) (earliest start : ℕ) → isRaised (l .kind) ≡ false → startKeeps l earliest start ≡ leb earliest start
+unfolding startKeeps
+not-raised l earliest start h = rw h (and-swap (leb earliest start) true)
+
 pub start-is : (r : ℕ) (t : Ty) (a start earliest : ℕ) → everywhere isWellFormed t ≡ true → alignOf t ≡ some a → start % a ≡ 0 → startKeeps (valueOf r t) earliest start ≡ (isMultiple (uniformAlign t) start && leb earliest start)
 unfolding startKeeps isRaised valueOf kindOf uniformAlign
 start-is r (scalar s) a start earliest w is m =
-    let low : scalarKind s < 9 = omega (arith, kind-bounded s) in
-    rw (lt-ltb _ 9 low, own-kept (scalar s) a start w is m) (and-swap (leb earliest start) true)
+    not-raised (valueOf r (scalar s)) earliest start (scalar-not-raised s) ∙ rw (own-kept (scalar s) a start w is m)
 start-is r (vector n s) a start earliest w is m = rw (own-kept (vector n s) a start w is m) (and-swap (leb earliest start) true)
 start-is r (matrix c n s) a start earliest w is m = rw (own-kept (matrix c n s) a start w is m) (and-swap (leb earliest start) true)
 start-is r (array n t) a start earliest w is m = rw (raised-kept (array n t) a start w is m) (and-swap (leb earliest start) (eqb (start % 16) 0))
@@ -87,7 +99,7 @@ no-more-than n = omega arith
 pub earliest-is : (r : ℕ) (t : Ty) (start earliest : ℕ) → earliestBy (valueOf r t) earliest start ≡ max earliest (earliestAfter start t)
 unfolding earliestBy valueOf kindOf earliestAfter
 earliest-is r (scalar s) start earliest =
-    rw (ne-eqb (scalarKind s) 12 (λ q. omega (arith, kind-bounded s))) (no-more-than earliest)
+    rw (ne-eqb (scalarKind s) 12 (no-scalar-kind s 12 (omega arith) (omega arith))) (no-more-than earliest)
 earliest-is r (vector n s) start earliest = no-more-than earliest
 earliest-is r (matrix c n s) start earliest = no-more-than earliest
 earliest-is r (array n t) start earliest = no-more-than earliest

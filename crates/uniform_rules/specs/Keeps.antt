@@ -4,9 +4,9 @@
 -- Definitions only. Assumes nothing.
 use Prim.Native.Nat.{ℕ, zero, suc, _+_, _*_, _%_, max}
 use mathlib.Core.Path.{_≡_}
-use mathlib.Core.Bool.{Bool, true, false, cond, not, _&&_, _||_}
+use mathlib.Core.Bool.{Bool, true, cond, not, _&&_, _||_}
 use mathlib.Core.List.{List}
-use lib.Dec.{eqb, ltb, leb}
+use lib.Dec.{eqb, leb}
 use Rattle.wgsl.specs.Round.{up}
 use Rattle.wgsl.specs.Types.{arrayKind, atomicKind, structKind}
 use Rattle.wgsl.specs.Uniform.{uniformUnit}
@@ -18,7 +18,7 @@ use Rattle.walk_trees.specs.Slot.{memberValue, slotAt, SlotAsks}
 
 -- a type of this kind is a struct or an array
 unfoldable pub isRaised : ℕ → Bool
-isRaised kind = cond (ltb kind arrayKind) false (not (eqb kind atomicKind))
+isRaised kind = leb arrayKind kind && leb kind structKind && not (eqb kind atomicKind)
 
 -- a member of the value l may start there
 unfoldable pub startKeeps : Value → ℕ → ℕ → Bool
@@ -50,7 +50,7 @@ SlotsAll ms table length (suc count) m end =
 unfoldable pub keepsBy : List ℕ → List (List ℕ) → Value → Bool
 keepsBy ms table l =
     cond (eqb (l .kind) structKind) (slotsKeep ms table (l .stride) (l .count) (l .reference * l .stride) 0 0)
-    (cond (ltb (l .kind) arrayKind) true (cond (eqb (l .kind) atomicKind) false (eqb (l .stride % uniformUnit) 0)))
+    (cond (isRaised (l .kind)) (eqb (l .stride % uniformUnit) 0) (not (eqb (l .kind) atomicKind)))
 
 -- what asking it takes: the members of a struct can be placed
 pub record KeepsAsk (ms : List ℕ) (table : List (List ℕ)) (l : Value) : Type 0 where

@@ -23,6 +23,9 @@ fn raised(kind: u32) -> bool
     if kind < ARRAY {
         return false;
     }
+    if STRUCT < kind {
+        return false;
+    }
     kind != ATOMIC
 }
 
@@ -83,11 +86,8 @@ pub fn keeps(members: &[u8], table: &[Row], l: Value) -> bool
     if l.kind == STRUCT {
         return members_keep(members, table, l);
     }
-    if l.kind < ARRAY {
-        return true;
-    }
-    if l.kind != ATOMIC {
+    if raised(l.kind) {
         return wide(l.stride) % UNIT == 0;
     }
-    false
+    l.kind != ATOMIC
 }

@@ -105,7 +105,7 @@ module _ {f : List ℕ} {ts : List Ty} {ms : List ℕ} {table : List (List ℕ)}
         fixed-is = x .fixed-is (both-hold (hasLayout t) (everywhere isPlain t) h .0);
         many = λ n. rw (x .layout-is) (runtime-many basis i u (x .there) (x .storable h) n);
         unit-is = unit-words;
-        unit-above = omega (arith, unit-words 1, words-positive 1 u (runtime-passed u well .below) (λ o. omega arith));
+        unit-above = omega (arith, unit-words 1, words-positive 1 u (runtime-passed u well .aligned) (runtime-passed u well .below) (runtime-passed u well .aligned-is) (λ o. omega arith));
       }
 
   kind-is : (t : Ty) → getElem? ts e ≡ some t → valueAt table e .kind ≡ kindOf t

@@ -9,20 +9,22 @@ use mathlib.Core.Logic.{inl}
 use mathlib.Core.Option.{Option, some}
 use mathlib.Core.Path.{_≡_, sym, ap, _∙_}
 use native.Mathlib.Omega.{arith}
+use native.Mathlib.Nat.{mul-one}
 use borrow.Author.Tests.{eq-eqb, ne-eqb}
 use lib.ListN.{length, getElem?}
 use Rattle.wgsl.specs.Round.{up}
-use Rattle.wgsl.specs.Types.{Scalar, Ty, scalar, vector, matrix, array, runtime, Members, isOpen, scalarKind, kindOf, structKind}
+use Rattle.wgsl.specs.Types.{Scalar, Ty, scalar, vector, matrix, array, runtime, Members, isOpen, scalarKind, isScalarKind, kindOf, structKind}
 use Rattle.wgsl.specs.Size.{both, isPresent, present, widthOf, vectorSize, vectorAlign, sizeOf, alignOf, hasLayout}
 use Rattle.wgsl.specs.File.{typeEntryAt}
-use Rattle.wgsl.specs.Place.{Shape, one, parts, column, shapeOf, fieldsOf, spanOf}
+use Rattle.wgsl.specs.Place.{Shape, one, parts, wordsFor, column, shapeOf, fieldsOf, spanOf}
 use Rattle.wgsl.proofs.Absent.{both-hold, hold-both, present-some, some-present, both-some}
 use Rattle.wgsl.proofs.Passed.{matrix-passed, runtime-passed}
-use Rattle.wgsl.proofs.Align.{vector-align}
+use Rattle.wgsl.proofs.Align.{width-power, vector-align}
+use Rattle.wgsl.proofs.Count.{matrix-word}
 use Rattle.wgsl.proofs.AtEntry.{Refers, to-none, to-vector, to-matrix, to-array, to-runtime, to-atomic, to-members}
 use Rattle.layout_values.specs.declared.value.Value.{Value}
 use Rattle.layout_values.specs.Value.{partsOf, valueOf, valueAt}
-use Rattle.layout_values.proofs.ScalarMade.{kind-bounded}
+use Rattle.wgsl.proofs.ScalarKind.{scalar-kind-is}
 use Rattle.walk_shapes.specs.Basis.{Basis}
 use Rattle.walk_shapes.proofs.Basis.{basis-inside, basis-layout, basis-well-formed, basis-refers}
 use Rattle.walk_path.specs.declared.enter.Stand.the-variants.{Entry, Column}
@@ -40,8 +42,8 @@ pub record Part (ts : List Ty) (table : List (List ℕ)) (n : ℕ) (l : Value) (
 -- ---- what an entry is
 
 pub data EntryFound (ts : List Ty) (table : List (List ℕ)) (n e : ℕ) : Shape → Type 0 where
-  -- kinds 0 to 6
-  a-scalar : (s : Scalar) → valueAt table e .kind ≡ scalarKind s → valueAt table e .kind ≤ 6 → EntryFound ts table n e (one s)
+  -- kinds 0 to 6, and 13 to 15
+  a-scalar : (s : Scalar) → valueAt table e .kind ≡ scalarKind s → isScalarKind (valueAt table e .kind) ≡ true → EntryFound ts table n e (one s)
   an-atomic : (s : Scalar) → valueAt table e .kind ≡ 11 → valueAt table e .reference < length table → valueAt table (valueAt table e .reference) .kind ≡ scalarKind s → EntryFound ts table n e (one s)
   -- kinds 7 to 10
   of-parts : {count stride : ℕ} {y : Shape} → 7 ≤ valueAt table e .kind → valueAt table e .kind ≤ 10 → partsAt table n e ≡ count → valueAt table e .stride ≡ stride → Part ts table n (valueAt table e) y → EntryFound ts table n e (parts count stride y)
@@ -125,11 +127,15 @@ module _ {f : List ℕ} {ts : List Ty} {ms : List ℕ} {table : List (List ℕ)}
 
   -- a part that is a column
   column-part : {c r : ℕ} {s : Scalar} → getElem? ts e ≡ some (matrix c r s) → hasLayout (matrix c r s) ≡ true → getElem? ts (typeEntryAt f e .reference) ≡ some (scalar s) → Sized (scalar s) → Part ts table n (valueAt table e) (column r s)
-  unfolding kindOf partsOf valueOf column spanOf sizeOf
-  column-part {r = r} {s} there h found x =
+  unfolding kindOf partsOf valueOf column spanOf sizeOf present
+  column-part {c} {r} {s} there h found x =
+      let passed = matrix-passed c r s (basis-well-formed basis e (matrix c r s) there) in
+      let w = present-some (widthOf s) (x .sized) in
+      let above : 0 < present (widthOf s) = rw (w .1) (omega (arith, width-power s (w .0) (w .1) .low)) in
+      let rows : r * wordsFor (present (widthOf s)) ≡ r = ap (λ (i : ℕ). r * i) (matrix-word s (passed .2) above) ∙ mul-one r in
       record {
         inside = rw (reference there) (basis-inside basis _ (scalar s) found);
-        as-column = λ q. rw (reference there, unit there h) (
+        as-column = λ q. rw (reference there, unit there h ∙ rows) (
           at-column found (sized-layout x),
           ap (λ (l : Value). r * l .size) (basis-layout basis _ (scalar s) found),
         );
@@ -156,7 +162,7 @@ module _ {f : List ℕ} {ts : List Ty} {ms : List ℕ} {table : List (List ℕ)}
       go : {t : Ty} → Refers f ts e (typeEntryAt f e) t → getElem? ts e ≡ some t → hasLayout t ≡ true → EntryFound ts table n e (shapeOf n t)
       go (to-none s) there h =
           let is : valueAt table e .kind ≡ scalarKind s = kind there in
-          a-scalar s is (omega (arith, kind-bounded s))
+          a-scalar s is (rw is (scalar-kind-is s))
       go (to-vector s down found) there h =
           let is : valueAt table e .kind ≡ 7 = kind there in
           of-parts (omega arith) (omega arith) (other-parts (λ q. omega arith) ∙ count there) (stride there)

@@ -3,6 +3,7 @@
 -- In order: where a walk stands; entries without parts; the part of an entry; the scalar of a column; the one scalar.
 -- Assumes nothing.
 use Prim.Native.Nat.{ℕ, _+_, _*_, _<_, _≤_}
+use mathlib.Core.Bool.{true, false}
 use mathlib.Core.List.{List}
 use mathlib.Core.Option.{Option}
 use mathlib.Core.Path.{_≡_, refl, sym, ap, _∙_}
@@ -12,13 +13,14 @@ use borrow.Author.Tests.{lt-ltb, le-ltb}
 use lib.ListN.{length}
 use Rattle.wgsl.specs.Round.{limit}
 use Rattle.wgsl.specs.Types as types
-use Rattle.wgsl.specs.Types.{Scalar, Ty, Members, no-more}
+use Rattle.wgsl.specs.Types.{Scalar, Ty, Members, no-more, isScalarKind}
 use Rattle.wgsl.specs.Size.{isPresent, present, widthOf, sizeOf, alignOf, hasLayout}
 use Rattle.wgsl.specs.Said.{good, refused}
 use Rattle.wgsl.specs.Place.{Shape, one, column, shapeOf, fieldsOf, spanOf}
 use Rattle.wgsl.specs.Path.{index, member, enter}
 use Rattle.wgsl.specs.Shapes.{Divides, Sound}
-use Rattle.wgsl.proofs.Absent.{both-hold, present-some, present-is}
+use Rattle.wgsl.proofs.ScalarKind.{kind-clash}
+use Rattle.wgsl.proofs.Absent.{both-hold, present-some, present-is, true-not-false}
 use Rattle.wgsl.proofs.Align.{width-power}
 use Rattle.wgsl.proofs.Path.{target}
 use Rattle.layout_values.specs.declared.value.Value.{Value}
@@ -97,7 +99,7 @@ no-index (of-members z end ms is) none i j = members-no-index _ z end ms i j
 -- "index not below the count"
 pub past-end : {ts : List Ty} {table : List (List ℕ)} {n e : ℕ} {x : Shape} → EntryFound ts table n e x → 7 ≤ valueAt table e .kind → valueAt table e .kind ≤ 10 → (i : ℕ) → partsAt table n e ≤ i → (j : ℕ) → enter j x (index i) ≡ refused 12 j
 unfolding enter
-past-end (a-scalar s is under) low high i h j = absurd (omega arith)
+past-end (a-scalar s is under) low high i h j = absurd (kind-clash _ _ under refl low (omega arith))
 past-end (an-atomic s is lower below) low high i h j = absurd (omega arith)
 past-end (of-parts {count = c} under over count stride part) low high i h j = rw (le-ltb i c (rw count at h))
 past-end (of-members z end ms is) low high i h j = absurd (omega arith)
@@ -110,7 +112,7 @@ record Indexed (ts : List Ty) (table : List (List ℕ)) (n e i : ℕ) (x : Shape
 
 indexed : {ts : List Ty} {table : List (List ℕ)} {n e i : ℕ} {x : Shape} → EntryFound ts table n e x → Parted table n e i → Indexed ts table n e i x
 unfolding enter
-indexed (a-scalar s is under) has = absurd (omega (arith, has .low))
+indexed (a-scalar s is under) has = absurd (kind-clash _ _ under refl (has .low) (omega (arith, has .high)))
 indexed (an-atomic s is lower below) has = absurd (omega (arith, has .high))
 indexed {i = i} (of-parts {count = c} {y = y} low high count stride part) has =
     let h : i < c = omega (arith, has .inside) in
@@ -201,25 +203,25 @@ members-no-scalar n z end no-more = refl
 members-no-scalar n z end (types.member t size align ms) = refl
 
 -- A scalar's layout says its kind.
-pub its-scalar : {ts : List Ty} {table : List (List ℕ)} {n e : ℕ} {x : Shape} → EntryFound ts table n e x → valueAt table e .kind ≤ 6 → valueAt table e .kind ≡ kindIn x
+pub its-scalar : {ts : List Ty} {table : List (List ℕ)} {n e : ℕ} {x : Shape} → EntryFound ts table n e x → isScalarKind (valueAt table e .kind) ≡ true → valueAt table e .kind ≡ kindIn x
 unfolding kindIn
 its-scalar (a-scalar s is under) low = is
-its-scalar (an-atomic s is lower below) low = absurd (omega arith)
-its-scalar (of-parts under over count stride part) low = absurd (omega arith)
-its-scalar (of-members z end ms is) low = absurd (omega arith)
+its-scalar (an-atomic s is lower below) low = absurd (kind-clash _ 11 low (sym is) (omega arith) (omega arith))
+its-scalar (of-parts under over count stride part) low = absurd (kind-clash _ _ low refl under (omega arith))
+its-scalar (of-members z end ms is) low = absurd (kind-clash _ 12 low (sym is) (omega arith) (omega arith))
 
 -- An atomic's layout refers to its scalar's.
 pub atomic-scalar : {ts : List Ty} {table : List (List ℕ)} {n e : ℕ} {x : Shape} → EntryFound ts table n e x → valueAt table e .kind ≡ 11 → (valueAt table e .reference < length table) × (valueAt table (valueAt table e .reference) .kind ≡ kindIn x)
 unfolding kindIn
-atomic-scalar (a-scalar s is under) eleven = absurd (omega arith)
+atomic-scalar (a-scalar s is under) eleven = absurd (kind-clash _ 11 under (sym eleven) (omega arith) (omega arith))
 atomic-scalar (an-atomic s is lower below) eleven = (lower, below)
 atomic-scalar (of-parts under over count stride part) eleven = absurd (omega arith)
 atomic-scalar (of-members z end ms is) eleven = absurd (omega arith)
 
 -- Parts and structs are no one scalar.
-pub no-scalar : {ts : List Ty} {table : List (List ℕ)} {n e : ℕ} {x : Shape} → EntryFound ts table n e x → 6 < valueAt table e .kind → (valueAt table e .kind ≡ 11 → ⊥) → kindIn x ≡ 7
+pub no-scalar : {ts : List Ty} {table : List (List ℕ)} {n e : ℕ} {x : Shape} → EntryFound ts table n e x → isScalarKind (valueAt table e .kind) ≡ false → (valueAt table e .kind ≡ 11 → ⊥) → kindIn x ≡ 7
 unfolding kindIn
-no-scalar (a-scalar s is under) high other = absurd (omega arith)
+no-scalar (a-scalar s is under) high other = true-not-false under high
 no-scalar (an-atomic s is lower below) high other = absurd (other is)
 no-scalar (of-parts under over count stride part) high other = refl
 no-scalar (of-members z end ms is) high other = members-no-scalar _ z end ms

@@ -8,7 +8,7 @@ use mathlib.Core.Bool.{true, _||_}
 use mathlib.Core.List.{List}
 use mathlib.Core.Logic.{_⊎_, inl, inr, ⊎-elim}
 use mathlib.Core.Option.{Option, some, Option·some-injective}
-use mathlib.Core.Path.{_≡_, refl, ap, _∙_}
+use mathlib.Core.Path.{_≡_, refl, ap, _∙_, sym}
 use native.Mathlib.Omega.{arith}
 use lib.ListN.{length, take, getElem?}
 use Rattle.wgsl.specs.Round.{limit}
@@ -27,7 +27,7 @@ use Rattle.wgsl.proofs.AtEntry.{Refers, to-none, to-vector, to-matrix, to-array
 use Rattle.file.specs.Members.{memberBytes}
 use Rattle.layout_values.specs.declared.value.Value.{Value}
 use Rattle.layout_values.specs.Value.{valueAt}
-use Rattle.layout_values.proofs.ScalarMade.{kind-bounded}
+use Rattle.wgsl.proofs.ScalarKind.{no-scalar-kind}
 use Rattle.walk_trees.specs.Slot.{slotAt, SlotAsks, slotIn, SlotsAsk}
 use Rattle.walk_shapes.specs.Basis.{Basis}
 use Rattle.walk_shapes.proofs.Basis.{basis-inside, basis-layout, basis-well-formed, basis-refers}
@@ -134,7 +134,7 @@ module _ {f : List ℕ} {ts : List Ty} {ms : List ℕ} {table : List (List ℕ)}
   -- A struct's layout names its members.
   struct-found : {t : Ty} → Refers f ts e (typeEntryAt f e) t → getElem? ts e ≡ some t → valueAt table e .kind ≡ structKind → (i : ℕ) → i < valueAt table e .count → MemberFound ts ms table n (valueAt table e .stride) (valueAt table e .reference * valueAt table e .stride) 0 i (shapeOf n t)
   unfolding kindOf shapeOf
-  struct-found (to-none s) there is i h = absurd (omega (arith, kind-there basis e (scalar s) there, kind-bounded s))
+  struct-found (to-none s) there is i h = absurd (no-scalar-kind s 12 (omega arith) (omega arith) (sym (kind-there basis e (scalar s) there) ∙ is))
   struct-found (to-vector s down below) there is i h = absurd (omega (arith, kind-there basis e (vector _ s) there))
   struct-found (to-matrix s down below) there is i h = absurd (omega (arith, kind-there basis e (matrix _ _ s) there))
   struct-found (to-array u down below) there is i h = absurd (omega (arith, kind-there basis e (array _ u) there))

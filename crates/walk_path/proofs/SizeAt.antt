@@ -25,7 +25,7 @@ use Rattle.wgsl.proofs.Tail.{runtime-unsized, sized-takes}
 use Rattle.wgsl.proofs.Laid.{laid}
 use Rattle.layout_values.specs.declared.value.Value.{Value}
 use Rattle.layout_values.specs.Value.{partsOf, valueOf, valueAt}
-use Rattle.layout_values.proofs.ScalarMade.{kind-bounded}
+use Rattle.wgsl.proofs.ScalarKind.{no-scalar-kind}
 use Rattle.walk_shapes.specs.Basis.{Basis}
 use Rattle.walk_shapes.proofs.Basis.{basis-layout, basis-well-formed}
 use Rattle.walk_path.specs.Way.{sizeAt}
@@ -44,7 +44,7 @@ step-inside j x s t sound h =
 -- Only a runtime array is of kind 10.
 pub ten-runtime : (t : Ty) → kindOf t ≡ 10 → isRuntime t ≡ true
 unfolding kindOf isRuntime
-ten-runtime (scalar s) e = absurd (omega (arith, kind-bounded s))
+ten-runtime (scalar s) e = absurd (no-scalar-kind s 10 (omega arith) (omega arith) e)
 ten-runtime (vector n s) e = absurd (omega arith)
 ten-runtime (matrix c r s) e = absurd (omega arith)
 ten-runtime (array n t) e = absurd (omega arith)

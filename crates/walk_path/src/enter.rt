@@ -1,11 +1,11 @@
 // Entering a place by a step.
 use crate::step::Step;
 use file::kinds::ATOMIC;
-use file::kinds::LAST_SCALAR;
 use file::kinds::MATRIX;
 use file::kinds::RUNTIME;
 use file::kinds::STRUCT;
 use file::kinds::VECTOR;
+use file::kinds::is_scalar;
 use layout_values::value::Row;
 use layout_values::value::value_at;
 use numbers::wide::wide;
@@ -181,7 +181,7 @@ pub fn kind_in(table: &[Row], p: Stand) -> u32
     match p {
         Stand::Entry(e) => {
             let r = value_at(table, e);
-            if r.kind <= LAST_SCALAR {
+            if is_scalar(r.kind) {
                 return r.kind;
             }
             if r.kind == ATOMIC {

@@ -6,14 +6,14 @@
 use Prim.Native.Nat.{ℕ, _<_, _≤_}
 use mathlib.Core.List.{List}
 use mathlib.Core.Option.{some}
-use mathlib.Core.Path.{_≡_}
+use mathlib.Core.Path.{_≡_, refl}
 use native.Mathlib.Omega.{arith}
 use lib.ListN.{getElem?}
 use Rattle.wgsl.specs.Types.{Ty, scalar, vector, matrix, array, runtime, atomic, struct, kindOf}
 use Rattle.wgsl.specs.File.{TypeEntry, typeEntryAt}
 use Rattle.wgsl.proofs.AtEntry.{Refers, to-none, to-vector, to-matrix, to-array, to-runtime, to-atomic, to-members}
 use Rattle.layout_values.specs.Value.{valueOf, wordsIn, valueAt}
-use Rattle.layout_values.proofs.ScalarMade.{kind-bounded}
+use Rattle.wgsl.proofs.ScalarKind.{no-scalar-kind}
 use Rattle.layout_values.proofs.WordsIn.{value-words}
 use Rattle.walk_trees.specs.Slot.{Referring}
 use Rattle.walk_shapes.specs.Basis.{Basis}
@@ -54,7 +54,7 @@ module _ {f : List ℕ} {ts : List Ty} {ms : List ℕ} {table : List (List ℕ)}
   pub value-referring : (e r : ℕ) (t : Ty) → Over ts e r t → Referring table (valueOf r t)
   unfolding Over valueOf kindOf
   value-referring e r (scalar s) o =
-      record { inside = λ h g. absurd (omega (arith, kind-bounded s)); counted = λ h g. absurd (omega (arith, kind-bounded s)) }
+      record { inside = λ h g. absurd (no-scalar-kind s _ (omega arith) (omega arith) refl); counted = λ h g. absurd (no-scalar-kind s _ (omega arith) (omega arith) refl) }
   value-referring e r (vector n s) o = record { inside = λ h g. absurd (omega arith); counted = λ h g. absurd (omega arith) }
   value-referring e r (matrix c m s) o = record { inside = λ h g. absurd (omega arith); counted = λ h g. absurd (omega arith) }
   value-referring e r (array n u) o =

@@ -5,16 +5,17 @@
 -- Assumes nothing.
 use Prim.Native.Nat.{ℕ, _+_, _*_, _<_, _≤_}
 use mathlib.Core.Bool.{Bool, true, false, cond}
+use mathlib.Core.List.{append-nil}
 use mathlib.Core.Option.{Option, none, some}
 use mathlib.Core.Path.{_≡_, refl, sym, ap, _∙_}
 use native.Mathlib.Omega.{arith}
-use native.Mathlib.Nat.{one-mul, mul-one, mul-assoc}
+use native.Mathlib.Nat.{one-mul, mul-assoc}
 use borrow.Author.Tests.{eqb-true}
 use lib.Dec.{eqb}
 use lib.ListN.{length}
 use Rattle.wgsl.specs.Types.{Scalar, Ty, scalar, vector, matrix, array, runtime, atomic, struct, everywhere}
-use Rattle.wgsl.specs.Size.{present, widthOf, sizeOf, alignOf, strideOf, isPlain}
-use Rattle.wgsl.specs.Place.{extentOf, column, shapeOf, spanOf, wordPlaces, repeated, placesOf}
+use Rattle.wgsl.specs.Size.{present, widthOf, sizeOf, alignOf, strideOf, isStored, isPlain}
+use Rattle.wgsl.specs.Place.{extentOf, column, shapeOf, spanOf, repeated, placesOf}
 use Rattle.wgsl.specs.Shapes.{shapeWords}
 use Rattle.wgsl.proofs.Absent.{present-is}
 use Rattle.wgsl.proofs.Passed.{matrix-passed}
@@ -25,11 +26,11 @@ use Rattle.wgsl.proofs.Closed.{closed-shape}
 use Rattle.wgsl.proofs.Count.{places-words}
 use Rattle.runs.specs.Run.{runPlaces, partPlaces}
 use Rattle.runs.proofs.OverPlaces.{parts-touch}
-use Rattle.layout_values.specs.Value.{storedWidth, narrowOf, fixedWords, partsOf, valueOf}
+use Rattle.layout_values.specs.Value.{storedWidth, scalarWords, narrowOf, fixedWords, partsOf, valueOf}
 use Rattle.layout_values.proofs.WordsIn.{value-words}
 use Rattle.walk_trees.proofs.TreeOne.{repeated-alike}
 use Rattle.walk_trees.specs.Slot.{touching, packedAs}
-use Rattle.walk_shapes.proofs.Widths.{stored-width, shape-from, places-from, ordered-run}
+use Rattle.walk_shapes.proofs.Widths.{scalar-fills, scalar-run, shape-from, places-from, ordered-run}
 use Rattle.walk_shapes.proofs.Kept.{Kept, kept-words, kept-laid, array-element, runtime-element, element-shape, element-fits}
 
 -- ---- a type whose words fill its size
@@ -123,16 +124,16 @@ part-narrow (struct k ms) h = absurd (omega arith)
 
 pub parts-words : (n : ℕ) (t : Ty) → Kept t → 0 < partRun t → shapeWords (shapeOf n t) ≡ partsIn n t * partsOf t .words
 unfolding shapeOf column shapeWords partsIn partsOf partRun
-parts-words n (scalar s) k h = refl
+parts-words n (scalar s) k h = sym (one-mul (scalarWords s))
 parts-words n (vector c s) k h = refl
-parts-words n (matrix c r s) k h = ap (λ (i : ℕ). c * i) (mul-one r)
+parts-words n (matrix c r s) k h = refl
 parts-words n (array c t) k h =
     let x = array-element k in
     rw (element-shape x n, kept-words (x .element))
 parts-words n (runtime t) k h =
     let x = runtime-element k in
     rw (element-shape x n, kept-words (x .element))
-parts-words n (atomic s) k h = refl
+parts-words n (atomic s) k h = sym (one-mul (scalarWords s))
 parts-words n (struct c ms) k h = absurd (omega arith)
 
 pub parts-span : (n : ℕ) (t : Ty) → 0 < partRun t → spanOf (shapeOf n t) ≡ partsIn n t * present (partsOf t .stride)
@@ -145,38 +146,43 @@ parts-span n (runtime t) h = refl
 parts-span n (atomic s) h = sym (one-mul (present (widthOf s)))
 parts-span n (struct c ms) h = absurd (omega arith)
 
-one-fits : (s : Scalar) (w : ℕ) → w ≡ present (widthOf s) → 1 * w ≤ present (widthOf s)
-one-fits s w e = omega (arith, one-mul w)
-
 -- The words of a part fit its stride.
 pub parts-fit : (t : Ty) → Kept t → 0 < partRun t → partsOf t .words * narrowOf t ≤ present (partsOf t .stride)
 unfolding partsOf narrowOf partRun alignOf everywhere isPlain
-parts-fit (scalar s) k h = one-fits s _ (stored-width s (k .plain))
-parts-fit (vector c s) k h = one-fits s _ (stored-width s (k .plain))
+parts-fit (scalar s) k h = omega (arith, scalar-fills s (k .plain))
+parts-fit (vector c s) k h = omega (arith, scalar-fills s (k .plain))
 parts-fit (matrix c r s) k h =
     let a = vector-align r s (k .aligned) (matrix-passed c r s (k .well) .1) (k .aligned-is) in
-    rw (stored-width s (k .plain), k .aligned-is, a .width-is, present-is (k .aligned), present-is (a .width)) (a .not-below)
+    rw (mul-assoc r (scalarWords s) (storedWidth s), scalar-fills s (k .plain), k .aligned-is, a .width-is, present-is (k .aligned), present-is (a .width)) (a .not-below)
 parts-fit (array c t) k h =
     let x = array-element k in
     omega (arith, run-span t (x .element) h, element-fits x)
 parts-fit (runtime t) k h =
     let x = runtime-element k in
     omega (arith, run-span t (x .element) h, element-fits x)
-parts-fit (atomic s) k h = one-fits s _ (stored-width s (k .plain))
+parts-fit (atomic s) k h = omega (arith, scalar-fills s (k .plain))
 parts-fit (struct c ms) k h = absurd (omega arith)
 
+-- "a column has rows x scalar size": its words lie one after the other
+column-run : (r : ℕ) (s : Scalar) (at : ℕ) → isStored s ≡ true → placesOf (column r s) at ≡ runPlaces (r * scalarWords s) (storedWidth s) at
+unfolding column placesOf partPlaces
+column-run r s at e =
+    repeated-alike r _ _ _ at (λ p. scalar-run s p e)
+    ∙ ap (λ (stride : ℕ). partPlaces r (scalarWords s) (storedWidth s) stride at) (sym (scalar-fills s e))
+    ∙ parts-touch r (scalarWords s) (storedWidth s) at
+
 pub parts-places : (n : ℕ) (t : Ty) → Kept t → 0 < partRun t → (at : ℕ) → placesOf (shapeOf n t) at ≡ partPlaces (partsIn n t) (partsOf t .words) (narrowOf t) (present (partsOf t .stride)) at
-unfolding shapeOf column placesOf wordPlaces repeated partPlaces runPlaces partsIn partsOf narrowOf partRun everywhere isPlain
-parts-places n (scalar s) k h at = rw (stored-width s (k .plain))
-parts-places n (vector c s) k h at = rw (stored-width s (k .plain))
-parts-places n (matrix c r s) k h at = rw (stored-width s (k .plain))
+unfolding shapeOf column placesOf repeated partPlaces partsIn partsOf narrowOf partRun everywhere isPlain
+parts-places n (scalar s) k h at = scalar-run s at (k .plain) ∙ sym (append-nil _)
+parts-places n (vector c s) k h at = repeated-alike c _ _ _ at (λ p. scalar-run s p (k .plain))
+parts-places n (matrix c r s) k h at = repeated-alike c _ _ _ at (λ p. column-run r s p (k .plain))
 parts-places n (array c t) k h at =
     let x = array-element k in
     repeated-alike c (present (strideOf t)) _ _ at (λ p. rw (element-shape x n) (run-places t (x .element) h p))
 parts-places n (runtime t) k h at =
     let x = runtime-element k in
     repeated-alike n (present (strideOf t)) _ _ at (λ p. rw (element-shape x n) (run-places t (x .element) h p))
-parts-places n (atomic s) k h at = rw (stored-width s (k .plain))
+parts-places n (atomic s) k h at = scalar-run s at (k .plain) ∙ sym (append-nil _)
 parts-places n (struct c ms) k h at = absurd (omega arith)
 
 -- ---- a runtime array that is one run

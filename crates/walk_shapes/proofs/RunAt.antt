@@ -17,7 +17,7 @@ use Rattle.wgsl.specs.File.{typeEntryAt}
 use Rattle.wgsl.specs.Place.{extentOf, shapeOf, placesOf}
 use Rattle.runs.specs.Run.{runPlaces}
 use Rattle.layout_values.specs.Value.{narrowOf, fixedWords, partsOf, valueOf, valueAt}
-use Rattle.layout_values.proofs.ScalarMade.{kind-bounded}
+use Rattle.wgsl.proofs.ScalarKind.{no-scalar-kind}
 use Rattle.walk_trees.specs.Slot.{partWidth, touching, runAt, RunAsks}
 use Rattle.walk_shapes.specs.Basis.{Basis}
 use Rattle.walk_shapes.proofs.Basis.{basis-inside, basis-layout}
@@ -58,7 +58,7 @@ module _ {f : List ℕ} {ts : List Ty} {ms : List ℕ} {table : List (List ℕ)}
           (fixedWords t, narrowOf t, a .0, a .1)
 
       go : (t : Ty) → getElem? ts e ≡ some t → Kept t → (count : ℕ) × (width : ℕ) × ((at : ℕ) → placesOf (shapeOf n t) at ≡ runPlaces count width at) × (extentOf n t ≡ count * width)
-      go (scalar s) there k = closed (scalar s) there k (λ q. omega (arith, kind-bounded s))
+      go (scalar s) there k = closed (scalar s) there k (no-scalar-kind s 10 (omega arith) (omega arith))
       go (vector c s) there k = closed (vector c s) there k (λ q. omega arith)
       go (matrix c r s) there k = closed (matrix c r s) there k (λ q. omega arith)
       go (array c u) there k = closed (array c u) there k (λ q. omega arith)

@@ -3,14 +3,14 @@
 -- In order: the value of each entry says its parts; parts that are runs; parts that are elements (crates/walk_trees, specs/Tree, `Runs`
 -- and `Many`); what is stored.
 -- Assumes nothing.
-use Prim.Native.Nat.{ℕ, zero, suc, _<_}
+use Prim.Native.Nat.{ℕ, zero, suc, _<_, _≤_}
 use mathlib.Core.Bool.{true}
 use mathlib.Core.List.{List}
 use mathlib.Core.Logic.{_⊎_, inl, inr, ⊎-elim}
 use mathlib.Core.Option.{some}
 use mathlib.Core.Path.{_≡_, refl, sym, ap, _∙_}
 use native.Mathlib.Omega.{arith}
-use borrow.Author.Tests.{lt-ltb}
+use borrow.Author.Tests.{lt-ltb, le-ltb}
 use lib.ListN.{getElem?}
 use Rattle.wgsl.specs.Types.{Ty, scalar, vector, matrix, array, runtime, atomic, struct, Members, scalarKind, kindOf, structKind}
 use Rattle.wgsl.specs.Size.{present, strideOf, isStorable}
@@ -20,7 +20,7 @@ use Rattle.wgsl.specs.Place.{parts, shapeOf}
 use Rattle.file.specs.Members.{memberBytes}
 use Rattle.layout_values.specs.declared.value.Value.{Value}
 use Rattle.layout_values.specs.Value.{narrowOf, fixedWords, partsOf, valueOf, valueAt}
-use Rattle.layout_values.proofs.ScalarMade.{kind-bounded}
+use Rattle.wgsl.proofs.ScalarKind.{scalar-range, scalar-kind-is}
 use Rattle.walk_trees.specs.Slot.{packedAs, partWidth, Referring}
 use Rattle.walk_trees.specs.Tree.{Runs, Many, runs, each, Tree}
 use Rattle.walk_shapes.specs.Basis.{Basis}
@@ -46,8 +46,10 @@ module _ {f : List ℕ} {ts : List Ty} {ms : List ℕ} {table : List (List ℕ)}
   value-width : (e r : ℕ) (t : Ty) → Over ts e r t → (kindOf t ≡ structKind → ⊥) → partWidth table (valueOf r t) ≡ partRun t
   unfolding Over partWidth valueOf kindOf partRun narrowOf
   value-width e r (scalar s) o h =
-      let low : scalarKind s < 9 = omega (arith, kind-bounded s) in
-      rw (lt-ltb (scalarKind s) 9 low)
+      ⊎-elim (λ (low : scalarKind s ≤ 6). rw (lt-ltb (scalarKind s) 9 (omega arith)))
+      (λ (high : (13 ≤ scalarKind s) × (scalarKind s ≤ 15)).
+      rw (le-ltb (scalarKind s) 9 (omega (arith, high .0)), lt-ltb 10 (scalarKind s) (omega (arith, high .0))))
+      (scalar-range (scalarKind s) (scalar-kind-is s))
   value-width e r (vector n s) o h = refl
   value-width e r (matrix c m s) o h = refl
   value-width e r (array n u) o h = element-packed r u (o .1)

@@ -21,7 +21,7 @@ use Rattle.runs.specs.Run.{runPlaces}
 use Rattle.file.specs.Members.{memberBytes}
 use Rattle.layout_values.specs.declared.value.Value.{Value}
 use Rattle.layout_values.specs.Value.{narrowOf, fixedWords, partsOf, valueOf, wordsIn, valueAt}
-use Rattle.layout_values.proofs.ScalarMade.{kind-bounded}
+use Rattle.wgsl.proofs.ScalarKind.{no-scalar-kind}
 use Rattle.layout_values.proofs.WordsIn.{value-words}
 use Rattle.walk_trees.specs.Slot.{packedAs, partWidth, withCount}
 use Rattle.walk_trees.specs.Tree.{Valued, Many, runs, Tree, many, members}
@@ -96,7 +96,7 @@ module _ {f : List ℕ} {ts : List Ty} {ms : List ℕ} {table : List (List ℕ)}
 
     step : {t : Ty} → Refers f ts e (typeEntryAt f e) t → getElem? ts e ≡ some t → Kept t → Tree (memberBytes f) table e (shapeOf 0 t)
     unfolding kindOf partRun narrowOf partsOf partsIn shapeOf
-    step (to-none s) there x = runs-tree (scalar s) there x (λ h. omega (arith, kind-bounded s)) (scalar-positive (scalar s) x refl)
+    step (to-none s) there x = runs-tree (scalar s) there x (no-scalar-kind s 12 (omega arith) (omega arith)) (scalar-positive (scalar s) x refl)
     step (to-vector s down found) there x = runs-tree (vector _ s) there x (λ h. omega arith) (scalar-positive (vector _ s) x refl)
     step (to-matrix s down found) there x = runs-tree (matrix _ _ s) there x (λ h. omega arith) (scalar-positive (matrix _ _ s) x refl)
     step (to-array u down found) there x =

@@ -11,14 +11,16 @@ use mathlib.Core.Path.{_≡_, refl, ap, _∙_}
 use native.Mathlib.Omega.{arith}
 use native.Mathlib.Nat.{suc-mul}
 use lib.ListN.{length}
-use Rattle.wgsl.specs.Types.{Scalar, bool, i32, u32, f32, f16, abstractInt, abstractFloat, Ty, scalar, vector, matrix, array, runtime, atomic, struct, Members, no-more, member, everywhere, everyMember}
+use Rattle.wgsl.specs.Round.{up}
+use Rattle.wgsl.specs.Types.{Scalar, bool, i32, u32, f32, f16, abstractInt, abstractFloat, i64, u64, f64, Ty, scalar, vector, matrix, array, runtime, atomic, struct, Members, no-more, member, everywhere, everyMember}
 use Rattle.wgsl.specs.Size.{present, widthOf, sizeOf, alignOf, isStored, isPlain, memberEnd}
-use Rattle.wgsl.specs.Place.{Shape, one, parts, field, whole, column, shapeOf, fieldsOf, Place, wordPlaces, repeated, placesOf}
+use Rattle.wgsl.specs.Place.{Shape, one, parts, field, whole, column, shapeOf, fieldsOf, Place, wordsFor, wordsOver, wordPlaces, repeated, placesOf}
 use Rattle.wgsl.specs.Claim.{Ordered}
 use Rattle.wgsl.proofs.Absent.{true-not-false, both-hold}
+use Rattle.wgsl.proofs.ScalarWords.{scalar-length}
+use Rattle.wgsl.proofs.Shape.{scalar-ordered}
 use Rattle.runs.specs.Run.{runPlaces}
-use Rattle.layout_values.specs.Value.{storedWidth, narrowOf, narrowest}
-use Rattle.layout_values.proofs.ScalarMade.{width-bounded}
+use Rattle.layout_values.specs.Value.{storedWidth, scalarWords, narrowOf, narrowest}
 use Rattle.walk_trees.specs.Tree.{AllWide, Wide}
 
 -- ---- scalars
@@ -26,24 +28,38 @@ use Rattle.walk_trees.specs.Tree.{AllWide, Wide}
 abbrev pub TwoOrFour : ℕ → Type 0
 TwoOrFour w = (w ≡ 2) ⊎ (w ≡ 4)
 
-pub stored-width : (s : Scalar) → isStored s ≡ true → storedWidth s ≡ present (widthOf s)
+pub stored-width : (s : Scalar) → isStored s ≡ true → storedWidth s ≡ min 4 (present (widthOf s))
 unfolding storedWidth
 stored-width s e = rw e
-
-pub scalar-width : (s : Scalar) → isStored s ≡ true → TwoOrFour (present (widthOf s))
-unfolding isStored widthOf present
-scalar-width bool e = true-not-false e refl
-scalar-width i32 e = inr refl
-scalar-width u32 e = inr refl
-scalar-width f32 e = inr refl
-scalar-width f16 e = inl refl
-scalar-width abstractInt e = true-not-false e refl
-scalar-width abstractFloat e = true-not-false e refl
 
 -- ---- words of two or four bytes
 
 stored-two-or-four : (s : Scalar) → isStored s ≡ true → TwoOrFour (storedWidth s)
-stored-two-or-four s e = rw (stored-width s e) (scalar-width s e)
+unfolding isStored storedWidth widthOf present
+stored-two-or-four bool e = true-not-false e refl
+stored-two-or-four i32 e = inr refl
+stored-two-or-four u32 e = inr refl
+stored-two-or-four f32 e = inr refl
+stored-two-or-four f16 e = inl refl
+stored-two-or-four abstractInt e = true-not-false e refl
+stored-two-or-four abstractFloat e = true-not-false e refl
+stored-two-or-four i64 e = inr refl
+stored-two-or-four u64 e = inr refl
+stored-two-or-four f64 e = inr refl
+
+-- The words of a stored scalar fill it.
+pub scalar-fills : (s : Scalar) → isStored s ≡ true → scalarWords s * storedWidth s ≡ present (widthOf s)
+unfolding isStored storedWidth widthOf present wordsFor up
+scalar-fills bool e = true-not-false e refl
+scalar-fills i32 e = refl
+scalar-fills u32 e = refl
+scalar-fills f32 e = refl
+scalar-fills f16 e = refl
+scalar-fills abstractInt e = true-not-false e refl
+scalar-fills abstractFloat e = true-not-false e refl
+scalar-fills i64 e = refl
+scalar-fills u64 e = refl
+scalar-fills f64 e = refl
 
 min-two-or-four : (a b : ℕ) → TwoOrFour a → TwoOrFour b → TwoOrFour (min a b)
 min-two-or-four a b p q =
@@ -71,9 +87,9 @@ mutual
 
 -- ---- no word is narrower
 
--- every scalar of the shape has at least w bytes
+-- every word of the shape has at least w bytes
 unfoldable pub From : ℕ → Shape → Type 0
-From w (one s) = w ≤ present (widthOf s)
+From w (one s) = w ≤ min 4 (present (widthOf s))
 From w (parts n stride x) = From w x
 From w (field offset x rest) = From w x × From w rest
 From w (whole z) = Unit {0}
@@ -85,7 +101,7 @@ from-less (parts n stride x) w v h f = from-less x w v h f
 from-less (field offset x rest) w v h f = (from-less x w v h (f .0), from-less rest w v h (f .1))
 from-less (whole z) w v h f = tt
 
-stored-from : (s : Scalar) → isStored s ≡ true → storedWidth s ≤ present (widthOf s)
+stored-from : (s : Scalar) → isStored s ≡ true → storedWidth s ≤ min 4 (present (widthOf s))
 stored-from s e = omega (arith, stored-width s e)
 
 mutual
@@ -124,15 +140,28 @@ unfolding repeated AllFrom
 all-repeated w zero stride f at h = tt
 all-repeated w (suc n) stride f at h = all-append w (f at) _ (h at) (all-repeated w n stride f (at + stride) h)
 
+scalar-from : (w : ℕ) (s : Scalar) (at : ℕ) → w ≤ min 4 (present (widthOf s)) → AllFrom w (wordPlaces s at)
+unfolding wordPlaces wordsFor wordsOver up widthOf present AllFrom
+scalar-from w bool at h = (h, tt)
+scalar-from w i32 at h = (h, tt)
+scalar-from w u32 at h = (h, tt)
+scalar-from w f32 at h = (h, tt)
+scalar-from w f16 at h = (h, tt)
+scalar-from w abstractInt at h = tt
+scalar-from w abstractFloat at h = tt
+scalar-from w i64 at h = (h, (h, tt))
+scalar-from w u64 at h = (h, (h, tt))
+scalar-from w f64 at h = (h, (h, tt))
+
 pub places-from : (w : ℕ) (x : Shape) (at : ℕ) → From w x → AllFrom w (placesOf x at)
-unfolding placesOf wordPlaces From AllFrom
-places-from w (one s) at h = (h, tt)
+unfolding placesOf From AllFrom
+places-from w (one s) at h = scalar-from w s at h
 places-from w (parts n stride x) at h = all-repeated w n stride (λ p. placesOf x p) at (λ p. places-from w x p h)
 places-from w (field offset x rest) at h =
     all-append w (placesOf x (at + offset)) (placesOf rest at) (places-from w x (at + offset) (h .0)) (places-from w rest at (h .1))
 places-from w (whole z) at h = tt
 
--- No scalar is wider than four bytes.
+-- No word is wider than four bytes.
 wide-append : (ps qs : List Place) → AllWide ps → AllWide qs → AllWide (ps ++ qs)
 unfolding AllWide
 wide-append [] qs a b = b
@@ -143,9 +172,22 @@ unfolding repeated AllWide
 wide-repeated zero stride f at h = tt
 wide-repeated (suc n) stride f at h = wide-append (f at) _ (h at) (wide-repeated n stride f (at + stride) h)
 
+scalar-wide : (s : Scalar) (at : ℕ) → 4 ≤ min 4 (present (widthOf s)) → AllWide (wordPlaces s at)
+unfolding wordPlaces wordsFor wordsOver up widthOf present AllWide
+scalar-wide bool at h = (refl, tt)
+scalar-wide i32 at h = (refl, tt)
+scalar-wide u32 at h = (refl, tt)
+scalar-wide f32 at h = (refl, tt)
+scalar-wide f16 at h = absurd (omega arith)
+scalar-wide abstractInt at h = tt
+scalar-wide abstractFloat at h = tt
+scalar-wide i64 at h = (refl, (refl, tt))
+scalar-wide u64 at h = (refl, (refl, tt))
+scalar-wide f64 at h = (refl, (refl, tt))
+
 places-wide : (x : Shape) → From 4 x → (at : ℕ) → AllWide (placesOf x at)
-unfolding placesOf wordPlaces From AllWide
-places-wide (one s) h at = (omega (arith, width-bounded s), tt)
+unfolding placesOf From AllWide
+places-wide (one s) h at = scalar-wide s at h
 places-wide (parts n stride x) h at = wide-repeated n stride (λ p. placesOf x p) at (places-wide x h)
 places-wide (field offset x rest) h at =
     wide-append (placesOf x (at + offset)) (placesOf rest at) (places-wide x (h .0) (at + offset)) (places-wide rest (h .1) at)
@@ -181,3 +223,11 @@ ordered-run (p ∷ ps) lo hi w o a h =
     let end : p .at + p .width ≡ lo + w = omega arith in
     let rest = ordered-run ps (p .at + p .width) hi w (o .1) (a .1) (omega arith) in
     place-then p ps (runPlaces (length ps) w (lo + w)) lo w here wide (rest ∙ ap (λ (i : ℕ). runPlaces (length ps) w i) end)
+
+-- The words of a stored scalar lie one after the other.
+pub scalar-run : (s : Scalar) (at : ℕ) → isStored s ≡ true → wordPlaces s at ≡ runPlaces (scalarWords s) (storedWidth s) at
+scalar-run s at e =
+    let count = scalar-length s at in
+    ordered-run (wordPlaces s at) at _ (storedWidth s) (scalar-ordered s at) (scalar-from (storedWidth s) s at (stored-from s e))
+    (rw count (omega (arith, scalar-fills s e)))
+    ∙ ap (λ (n : ℕ). runPlaces n (storedWidth s) at) count

@@ -2,17 +2,17 @@
 --
 -- In order: a shape tests alike wherever it lies; words of four bytes always pass; what an answer says; parts; members.
 -- Assumes nothing.
-use Prim.Native.Nat.{ℕ, zero, suc, _+_, _-_, _*_, _^_, _<_, _≤_}
+use Prim.Native.Nat.{ℕ, zero, suc, _+_, _-_, _*_, _^_, _<_, _≤_, min}
 use mathlib.Core.List.{List, [], _∷_, _++_, map-append}
 use mathlib.Core.Logic.{⊎-elim}
-use mathlib.Core.Path.{_≡_, refl, sym, _∙_}
+use mathlib.Core.Path.{_≡_, refl, sym, _∙_, ap}
 use native.Mathlib.Omega.{arith}
 use borrow.Author.Tests.{lt-ltb}
 use lib.ListN.{length, getD}
 use Rattle.wgsl.specs.Number.{load}
 use Rattle.wgsl.specs.Said.{Said, good, _>>_, refuse}
 use Rattle.wgsl.specs.File.{memberEntryFrom, memberFieldsLength}
-use Rattle.wgsl.specs.Place.{Shape, one, parts, field, whole, spanOf, Place, wordPlaces, repeated, placesOf, canHold}
+use Rattle.wgsl.specs.Place.{Shape, one, parts, field, whole, spanOf, Place, wordPlaces, repeated, placesOf, canHold, wordsOver}
 use Rattle.wgsl.specs.Types.{structKind}
 use Rattle.runs.specs.Fold.{overPlaces, testing}
 use Rattle.runs.specs.Run.{runPlaces, partPlaces}
@@ -38,9 +38,14 @@ repeated-moved (suc n) stride g at other h =
     ∙ rw (h at other, repeated-moved n stride g (at + stride) (other + stride) h)
     (sym (map-append (λ p. p .width) (g other) (repeated n stride g (other + stride))))
 
+over-moved : (n bytes at other : ℕ) → widths (wordsOver n bytes at) ≡ widths (wordsOver n bytes other)
+unfolding wordsOver
+over-moved zero bytes at other = refl
+over-moved (suc n) bytes at other = ap (λ (ws : List ℕ). min 4 bytes ∷ ws) (over-moved n (bytes - 4) (at + 4) (other + 4))
+
 pub places-moved : (x : Shape) (at other : ℕ) → widths (placesOf x at) ≡ widths (placesOf x other)
 unfolding placesOf wordPlaces
-places-moved (one s) at other = refl
+places-moved (one s) at other = over-moved _ _ at other
 places-moved (parts n stride x) at other = repeated-moved n stride (λ p. placesOf x p) at other (places-moved x)
 places-moved (field offset x rest) at other =
     map-append (λ p. p .width) (placesOf x (at + offset)) (placesOf rest at)

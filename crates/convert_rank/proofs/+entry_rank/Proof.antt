@@ -2,7 +2,8 @@
 use Prim.Native.Nat.{ℕ, _<_}
 use mathlib.Core.List.{List}
 use mathlib.Core.Option.{some}
-use mathlib.Core.Path.{_≡_}
+use mathlib.Core.Path.{_≡_, sym, _∙_}
+use mathlib.Core.Bool.{Bool}
 use denote.Ref.{now}
 use native.Mathlib.Omega.{arith}
 use borrow.Author.Needs.{needs}
@@ -22,6 +23,7 @@ use Rattle.convert_rank.proofs.+entry_rank.Lts-entry_rank as lts
 use Rattle.convert_rank.proofs.entry_of.Reads as entry-of-reads
 use Rattle.convert_rank.proofs.over_scalar_rank.Reads as over-scalar-rank-reads
 use Rattle.convert_rank.proofs.scalar.scalar_rank.Reads as scalar-rank-reads
+use Rattle.file.proofs.kinds.is_scalar.Reads as is-scalar-reads
 use Rattle.numbers.proofs.wide.wide.Reads as wide-reads
 use Rattle.convert_rank.proofs.+entry_rank.{statement}
 use Rattle.convert_rank.proofs.+entry_rank.Tie.{close}
@@ -39,7 +41,11 @@ entry-rank-below t =
 
 abbrev claims : ℕ → lts.Claims
 claims t =
-    (entry-of-reads.Asked, entry-of-reads.Learnt, scalar-rank-reads.Asked, scalar-rank-reads.Learnt, wide-reads.Asked, wide-reads.Learnt, entry-rank-below t, entry-rank.Post, over-scalar-rank-reads.Asked, over-scalar-rank-reads.Learnt)
+    (entry-of-reads.Asked, entry-of-reads.Learnt, is-scalar-reads.Asked, is-scalar-reads.Learnt, scalar-rank-reads.Asked, scalar-rank-reads.Learnt, wide-reads.Asked, wide-reads.Learnt, entry-rank-below t, entry-rank.Post, over-scalar-rank-reads.Asked, over-scalar-rank-reads.Learnt)
+
+-- what a test tells, by what it ensures
+yes : {a b c : Bool} → a ≡ b → a ≡ c → b ≡ c
+yes e h = sym e ∙ h
 
 -- the two entries that were read
 two : (t : ℕ) (c : lts.After-entry-of2 (claims t) (entry-rank-at t) entry-rank.Post) (ts : List Ty) (s u : Ty) → typesOf (now (c .before .before .before .args .f)) ≡ good ts → getElem? ts (c .before .before .before .args .a) ≡ some s → getElem? ts (c .before .before .before .args .b) ≡ some u → Two (now (c .before .before .before .args .f)) ts (c .before .before .before .args .a) (c .before .before .before .args .b) s u (entryIs (c .before .entry-of .result)) (entryIs (c .entry-of2 .result))
@@ -59,7 +65,7 @@ next t c =
     let start = read .before .before .before in
     let (ts, p) = start .pre .1 in
     let e = two t read ts _ _ (p .accepted) (getElem-getD ts _ (scalar bool) (p .first)) (getElem-getD ts _ (scalar bool) (p .second)) in
-    let (low, q) = lower-pair e (else3 .if3 .left) (c .before .wide .ensures .0) (c .wide2 .ensures .0) p (else1 .if1 .left) (else4 .if4 .left) in
+    let (low, q) = lower-pair e (else3 .if3 .left) (c .before .wide .ensures .0) (c .wide2 .ensures .0) p (yes (else1 .before .is-scalar .ensures) (else1 .if1 .left)) (else4 .if4 .left) in
     (omega (arith, low, start .pre .0), (ts, q))
 
 entry-of-requires : (t : ℕ) → lts.Need-entry-of-requires (claims t) (entry-rank-at t) entry-rank.Post
@@ -73,19 +79,21 @@ returns t c =
     let then2 = c .before in
     let then1 = then2 .before .before in
     let read = then1 .before .before in
-    λ ts s u g p q. scalars-rank (two t read ts s u g p q) (then1 .if1 .taken) (then2 .if2 .taken) (c .scalar-rank .ensures)
+    λ ts s u g p q. scalars-rank (two t read ts s u g p q) (yes (then1 .before .is-scalar .ensures) (then1 .if1 .taken))
+    (yes (then2 .before .is-scalar2 .ensures) (then2 .if2 .taken)) (c .scalar-rank .ensures)
 
 returns-2 : (t : ℕ) → lts.Need-returns-2 (claims t) (entry-rank-at t) entry-rank.Post
 returns-2 t c =
     let then1 = c .before .before in
     let read = then1 .before .before in
-    λ ts s u g p q. scalar-other (two t read ts s u g p q) (then1 .if1 .taken) (c .if2 .left)
+    λ ts s u g p q. scalar-other (two t read ts s u g p q) (yes (then1 .before .is-scalar .ensures) (then1 .if1 .taken))
+    (yes (c .before .is-scalar2 .ensures) (c .if2 .left))
 
 returns-3 : (t : ℕ) → lts.Need-returns-3 (claims t) (entry-rank-at t) entry-rank.Post
 returns-3 t c =
     let else1 = c .before .before .before in
     let read = else1 .before .before in
-    λ ts s u g p q. kinds-other (two t read ts s u g p q) (else1 .if1 .left) (c .if3 .taken)
+    λ ts s u g p q. kinds-other (two t read ts s u g p q) (yes (else1 .before .is-scalar .ensures) (else1 .if1 .left)) (c .if3 .taken)
 
 returns-4 : (t : ℕ) → lts.Need-returns-4 (claims t) (entry-rank-at t) entry-rank.Post
 returns-4 t c =
@@ -156,12 +164,12 @@ returns-9 t c =
     let read = else1 .before .before in
     λ ts s u g p q. over-scalars-rank (two t read ts s u g p q) (else3 .if3 .left)
     (wides .before .wide .ensures .0) (wides .wide2 .ensures .0) (below .before .entry-of3 .ensures) (below .entry-of4 .ensures)
-    (else1 .if1 .left) (else6 .if6 .left) (else8 .if8 .left) (else4 .if4 .left) (c .over-scalar-rank .ensures)
+    (yes (else1 .before .is-scalar .ensures) (else1 .if1 .left)) (else6 .if6 .left) (else8 .if8 .left) (else4 .if4 .left) (c .over-scalar-rank .ensures)
 
 pub +entry-rank-spec : {M : Type 1} → statement M
 +entry-rank-spec =
     close μ-entry-rank λ t. lts.spec (claims t) (entry-rank-at t) entry-rank.Post
-    (entry-of-requires t) (entry-of-requires-2 t) (λ c κs. search needs) (returns t) (returns-2 t) (returns-3 t)
+    (entry-of-requires t) (entry-of-requires-2 t) (λ c κs. search needs) (λ c κs. search needs) (λ c κs. search needs) (returns t) (returns-2 t) (returns-3 t)
     (returns-4 t) (returns-5 t) (λ c κs. search needs) (λ c κs. search needs) (returns-6 t) (entry-rank-requires t)
     (returns-7 t) (entry-rank-requires-2 t) (returns-8 t) (entry-of-requires-3 t) (entry-of-requires-4 t)
     (over-scalar-rank-requires t) (returns-9 t)

@@ -1,7 +1,7 @@
 -- Each kind of entry makes what the function for it says (proofs/Judged); over a reference that is not lower nothing is made.
-use mathlib.Core.Bool.{true}
+use mathlib.Core.Bool.{Bool, true}
 use mathlib.Core.List.{List, [], _∷_}
-use mathlib.Core.Path.{_≡_, _∙_}
+use mathlib.Core.Path.{_≡_, sym, _∙_}
 use native.Mathlib.Omega.{arith}
 use borrow.Author.Needs.{needs}
 use denote.Ref.{now}
@@ -18,6 +18,13 @@ use Rattle.layout_table.proofs.entry_made.Tie as tie
 zero-fields : (c : tie.Else1) → let e = c .before .before .before .args .e in unused (e .zero3 ∷ e .zero6 ∷ []) ≡ true
 zero-fields c = granted (unused-two _ _ (c .before .zeros .ensures)) (c .if1 .left)
 
+-- what a test tells, by what it ensures
+told : {a b c : Bool} → a ≡ b → a ≡ c → b ≡ c
+told e h = sym e ∙ h
+
+scalar-entry-requires : tie.Need-scalar-entry-requires
+scalar-entry-requires c κs = told (c .before .is-scalar .ensures) (c .if2 .taken)
+
 returns : tie.Need-returns
 returns c ts u =
     let a = c .before .before .before .args in
@@ -29,7 +36,8 @@ returns-2 c ts u =
     let z = c .before .before .before in
     let a = z .before .before .before .args in
     c .scalar-entry .ensures
-    ∙ entry-scalar (now (a .f)) ts (a .k) (a .e .reference) (u .entry-is) (zero-fields z) (c .before .if2 .taken)
+    ∙ entry-scalar (now (a .f)) ts (a .k) (a .e .reference) (u .entry-is) (zero-fields z)
+    (told (c .before .before .is-scalar .ensures) (c .before .if2 .taken))
 
 returns-3 : tie.Need-returns-3
 returns-3 c ts u =
@@ -43,7 +51,8 @@ returns-4 c ts u =
     let w = c .before in
     let z = w .before .before .before .before .before in
     let a = z .before .before .before .args in
-    entry-missing (now (a .f)) ts (a .k) (a .e .reference) (u .entry-is) (zero-fields z) (omega (arith, w .before .before .before .if2 .left))
+    entry-missing (now (a .f)) ts (a .k) (a .e .reference) (u .entry-is) (zero-fields z)
+    (told (w .before .before .before .before .is-scalar .ensures) (w .before .before .before .if2 .left))
     (w .before .if3 .left) (lower-past (now (a .f)) (now (a .table)) (a .k) ts (a .e .reference) (u .lower)
     (omega (arith, w .wide .ensures, c .if4 .taken)))
 
@@ -69,11 +78,12 @@ returns-5 c ts u =
     let a = z .before .before .before .args in
     let r = below (l .before) ts (u .lower) in
     c .over-entry .ensures (r .type) (rw (l .value-at .ensures) (r .layout)) (r .well-formed)
-    ∙ entry-over (now (a .f)) ts (a .k) (a .e .reference) (u .entry-is) (zero-fields z) (omega (arith, w .before .before .before .if2 .left))
+    ∙ entry-over (now (a .f)) ts (a .k) (a .e .reference) (u .entry-is) (zero-fields z)
+    (told (w .before .before .before .before .is-scalar .ensures) (w .before .before .before .if2 .left))
     (w .before .if3 .left) (r .type) (w .wide .ensures .0) (r .is)
 
 pub entry-made-spec : {M : Type 1} → statement M
 entry-made-spec =
     tie.close (tie.spec
-    (λ c κs. search needs) returns (λ c κs. search needs) returns-2 (λ c κs. search needs) returns-3
+    (λ c κs. search needs) returns (λ c κs. search needs) scalar-entry-requires returns-2 (λ c κs. search needs) returns-3
     (λ c κs. search needs) returns-4 (λ c κs. search needs) over-entry-requires returns-5)

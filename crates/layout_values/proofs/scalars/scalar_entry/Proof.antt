@@ -1,4 +1,4 @@
--- Each answer is a law of `ScalarMade`, over what `scalar_size`, `stored_width` and `unless_absent` ensure.
+-- Each answer is a law of `ScalarMade`, over what `scalar_size`, `stored_width` and `scalar_words` ensure.
 use mathlib.Core.Path.{sym}
 use native.Mathlib.Omega.{arith}
 use Rattle.layout_values.proofs.Unused.{denied, granted}
@@ -14,8 +14,8 @@ returns-2 : tie.Need-returns-2
 returns-2 c =
     let w = c .before in
     let z = w .before .before in
-    sym (scalar-laid _ (granted (z .before .zeros .ensures) (z .if1 .left)) (omega arith) _ _
-    (w .before .scalar-size .ensures .0) (w .stored-width .ensures) _ (c .unless-absent .ensures))
+    sym (scalar-laid _ (granted (z .before .zeros .ensures) (z .if1 .left)) (z .before .before .pre) _ _
+    (w .before .scalar-size .ensures .0) (w .stored-width .ensures) _ (c .scalar-words .ensures .0))
 
 pub scalar-entry-spec : {M : Type 1} → statement M
 scalar-entry-spec =

@@ -17,19 +17,19 @@ use Rattle.paths.proofs.set.set.Tie as tie
 
 -- the target, found
 found : (c : tie.After-t) →
-    let a = c .before .before .before .before .before .before .args in
+    let a = c .before .before .before .before .before .before .before .args in
     (u : path.Target) × (targetCall true (now (a .file)) (a .entry) (now (a .path)) (now (a .buf)) ≡ good u) × InBuffer (c .t .given .0 .0) u (length (now (a .buf)))
 found c =
-    let a = c .before .before .before .before .before .before .args in
+    let a = c .before .before .before .before .before .before .before .args in
     in-buffer true _ _ _ _ (rw (c .t .given .1) at (c .before .before .locate .ensures (now (a .buf)) refl))
 
 -- or none
 stopped : (c : tie.After-r) →
-    let a = c .before .before .before .before .before .before .args in
+    let a = c .before .before .before .before .before .before .before .args in
     let r = c .r .given .0 .0 in
-    setCall (now (a .file)) (a .entry) (now (a .path)) (a .word) (now (a .buf)) ≡ refused (numberOf r) (placeOf r)
+    setCall (now (a .file)) (a .entry) (now (a .path)) (now (a .words)) (now (a .buf)) ≡ refused (numberOf r) (placeOf r)
 stopped c =
-    let a = c .before .before .before .before .before .before .args in
+    let a = c .before .before .before .before .before .before .before .args in
     set-refused _ _ _ _ _ (reached-refused _ (rw (c .r .given .1) at (c .before .before .locate .ensures (now (a .buf)) refl)))
 
 set-scalar-requires : tie.Need-set-scalar-requires

@@ -1,5 +1,5 @@
 -- A scalar's layout says its kind; an atomic's refers to it; nothing else is one scalar.
-use mathlib.Core.Path.{sym}
+use mathlib.Core.Path.{sym, _∙_}
 use borrow.Author.Needs.{needs}
 use Rattle.walk_path.proofs.IndexStep.{entry-inside, entry-found, column-no-scalar, no-scalar, its-scalar, atomic-scalar}
 use Rattle.walk_path.proofs.enter.kind_in.Statement.{statement}
@@ -15,7 +15,7 @@ returns c =
     let after-value-at = c .before .before in
     let is = after-value-at .before .before .p .given .1 in
     let layout = after-value-at .value-at .ensures in
-    let low = rw layout at (c .if1 .taken) in
+    let low = rw layout at (sym (c .before .is-scalar .ensures) ∙ c .if1 .taken) in
     rw layout (λ f ts ms n x at. its-scalar (entry-found (rw is at at)) low)
 
 value-at-requires-2 : tie.Need-value-at-requires-2
@@ -44,7 +44,7 @@ returns-3 c =
     let after-value-at = else1 .before .before in
     let is = after-value-at .before .before .p .given .1 in
     let layout = after-value-at .value-at .ensures in
-    let high = rw layout at (else1 .if1 .left) in
+    let high = rw layout at (sym (else1 .before .is-scalar .ensures) ∙ else1 .if1 .left) in
     let other = rw layout at (c .if2 .left) in
     λ f ts ms n x at. sym (no-scalar (entry-found (rw is at at)) high other)
 
@@ -53,5 +53,5 @@ returns-4 c = λ f ts ms n x at. sym (column-no-scalar (rw (c .enum-told .given 
 
 pub kind-in-spec : {M : Type 1} → statement M
 kind-in-spec =
-    tie.close (tie.spec (λ c. search needs) value-at-requires returns (λ c κs. search needs) value-at-requires-2 returns-2
+    tie.close (tie.spec (λ c. search needs) value-at-requires (λ c κs. search needs) returns (λ c κs. search needs) value-at-requires-2 returns-2
     (λ c. search needs) returns-3 returns-4)
