@@ -36,7 +36,7 @@ int main(void) {
         out = part;
         break;
     case SET: /* the word, then the path */
-        answer = lepugaso_set(file, lengths[0], entry, words + 1, count - 1, words[0], buf, length);
+        answer = lepugaso_set(file, lengths[0], entry, words + 1, count - 1, words, 1, buf, length);
         break;
     default:
         return 2;

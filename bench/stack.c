@@ -13,6 +13,7 @@ enum { ENTRIES = 256, STACK = 1 << 20, PAINT = 0xa5 };
 static uint8_t file[12 * ENTRIES + 12 * ENTRIES + 10], buf[16];
 static size_t file_len;
 static uint32_t words[3] = {1, 2, 3};
+static const uint32_t seven = 7;
 static uint32_t path[ENTRIES - 1];
 static enum { CHECK, SIZE, ALIGN, MIN_SIZE, LAYOUT_OF, UNIFORM, RANK, COMMON, WRITE, READ, VIEW, SET, INSERT, EXTRACT, CALLS } way;
 static const char *const names[CALLS] = {"check",  "size",  "align", "min_size", "layout_of", "uniform",     "rank",
@@ -66,7 +67,7 @@ static void *call(void *unused) {
     case WRITE: answer = lepugaso_write(file, file_len, last, words, 3, buf, sizeof buf); break;
     case READ: answer = lepugaso_read(file, file_len, last, buf, sizeof buf, words, 3); break;
     case VIEW: answer = lepugaso_view(file, file_len, last, path, ENTRIES - 1, buf, sizeof buf, &part, &part_len); break;
-    case SET: answer = lepugaso_set(file, file_len, last, path, ENTRIES - 1, 7, buf, sizeof buf); break;
+    case SET: answer = lepugaso_set(file, file_len, last, path, ENTRIES - 1, &seven, 1, buf, sizeof buf); break;
     case INSERT: answer = lepugaso_insert_bits(file, file_len, last, path, ENTRIES - 1, 1, 3, 12, buf, sizeof buf); break;
     default: answer = lepugaso_extract_bits(file, file_len, last, path, ENTRIES - 1, buf, sizeof buf, 0, 12);
     }

@@ -27,7 +27,7 @@ int main(void) {
                 switch (way) {
                 case CHECK: lepugaso_check(file, sizeof file); break;
                 case VIEW: lepugaso_view(file, sizeof file, 0, NULL, 0, buf, sizeof buf, &part, &part_len); break;
-                case SET: lepugaso_set(file, sizeof file, 0, NULL, 0, word, buf, sizeof buf); break;
+                case SET: lepugaso_set(file, sizeof file, 0, NULL, 0, &word, 1, buf, sizeof buf); break;
                 case INSERT: lepugaso_insert_bits(file, sizeof file, 0, NULL, 0, word, 4, 12, buf, sizeof buf); break;
                 case EXTRACT: lepugaso_extract_bits(file, sizeof file, 0, NULL, 0, buf, sizeof buf, 4, 12); break;
                 default: lepugaso_write(file, sizeof file, 0, &word, 1, buf, sizeof buf);

@@ -20,6 +20,9 @@
 #define RUNTIME_ARRAY(element) TYPE(10, 0, 0, element, 0)
 #define ATOMIC(scalar) TYPE(11, 0, 0, scalar, 0)
 #define STRUCT(first_member, members) TYPE(12, 0, 0, first_member, members)
+#define I64 TYPE(13, 0, 0, 0, 0)
+#define U64 TYPE(14, 0, 0, 0, 0)
+#define F64 TYPE(15, 0, 0, 0, 0)
 
 /* type; flags; size; align */
 #define MEMBER(type) LE16(type), LE16(0), LE32(0), LE32(0)

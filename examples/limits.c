@@ -179,10 +179,10 @@ static int print_block(uint8_t *block) {
 
 /* The frost limit alone, by its path; 0 if all is answered and every other byte stays. */
 static int print_set(uint8_t *block) {
-    uint32_t path[] = {LEPUGASO_MEMBER(FROST)}, read[WORDS];
+    uint32_t path[] = {LEPUGASO_MEMBER(FROST)}, word[] = {bits(-2.3f)}, read[WORDS];
     uint8_t before[SIZE];
     memcpy(before, block, SIZE);
-    lepugaso_answer set = lepugaso_set(limits, sizeof limits, LIMITS, path, 1, bits(-2.3f), block, SIZE);
+    lepugaso_answer set = lepugaso_set(limits, sizeof limits, LIMITS, path, 1, word, 1, block, SIZE);
     lepugaso_answer found = lepugaso_read(limits, sizeof limits, LIMITS, block, SIZE, read, WORDS);
     if (set.refusal || found.refusal) return 1;
 
@@ -203,11 +203,11 @@ static int print_set(uint8_t *block) {
 }
 
 static void print_refusals(uint8_t *block) {
-    uint32_t words[WORDS], path[] = {LEPUGASO_MEMBER(POSITION), 3};
+    uint32_t words[WORDS], path[] = {LEPUGASO_MEMBER(POSITION), 3}, word[] = {bits(-2.3f)};
     lepugaso_answer cut = lepugaso_read(limits, sizeof limits, LIMITS, block, 44, words, WORDS);
     printf("without the gap at the end: refused %" PRIu32 "%s\n", cut.refusal,
            cut.refusal == LEPUGASO_REFUSED_SHORT_BUFFER ? " (LEPUGASO_REFUSED_SHORT_BUFFER)" : "");
-    lepugaso_answer past = lepugaso_set(limits, sizeof limits, LIMITS, path, 2, bits(-2.3f), block, SIZE);
+    lepugaso_answer past = lepugaso_set(limits, sizeof limits, LIMITS, path, 2, word, 1, block, SIZE);
     printf("position[3] set to -2.3: refused %" PRIu32 " at step %" PRIu32 "%s\n", past.refusal, past.place,
            past.refusal == LEPUGASO_REFUSED_INDEX ? " (LEPUGASO_REFUSED_INDEX)" : "");
     lepugaso_answer given = lepugaso_size(misaligned, sizeof misaligned, 3);

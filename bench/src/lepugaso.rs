@@ -50,7 +50,8 @@ mod calls {
             entry: u32,
             path: *const u32,
             path_len: usize,
-            word: u32,
+            words: *const u32,
+            words_len: usize,
             buf: *mut u8,
             buf_len: usize,
         ) -> Answer;
@@ -92,7 +93,17 @@ mod calls {
     pub fn set(file: &[u8], entry: u32, path: &[u32], word: u32, buf: &mut [u8]) -> Answer {
         // SAFETY: as above, with `buf` lent alone.
         unsafe {
-            lepugaso_set(file.as_ptr(), file.len(), entry, path.as_ptr(), path.len(), word, buf.as_mut_ptr(), buf.len())
+            lepugaso_set(
+                file.as_ptr(),
+                file.len(),
+                entry,
+                path.as_ptr(),
+                path.len(),
+                &word,
+                1,
+                buf.as_mut_ptr(),
+                buf.len(),
+            )
         }
     }
 }

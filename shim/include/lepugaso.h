@@ -14,19 +14,22 @@
  *     at the end            10 bytes: number of types u16 (1 to 256), of members u16 (at most 1,024), start u32, form u16 (1)
  *
  *     kinds 0 to 6          bool, i32, u32, f32, f16, abstract int, abstract float
- *     7 vector              rows 2 to 4, reference to a kind 0 to 6
+ *     7 vector              rows 2 to 4, reference to a kind 0 to 6 or 13 to 15
  *     8 matrix              columns and rows 2 to 4, reference to f32, f16 or abstract float
  *     9 array               reference to the element, count at least 1
  *     10 runtime array      reference to the element
  *     11 atomic             reference to i32 or u32
  *     12 struct             reference to the first member, count of members, 1 to 1,024; a runtime array may be the last
+ *     kinds 13 to 15        i64, u64, f64: 8 bytes, aligned to 8
  *
  * Types and members are numbered from 0. A type refers, itself or by its members, to types of lower numbers. Flag 1 of a member says that
- * a size is given, flag 2 an align. What is not used is 0. examples/layout_file.h writes such a file as an initializer in C.
+ * a size is given, flag 2 an align. What is not used is 0. examples/layout_file.h writes such a file as an initializer in C. A vector of
+ * three i64, u64 or f64 has 24 bytes and no alignment: no struct and no runtime array holds one, and it is not written, read or viewed.
  *
- * What is written to a buffer and read from it are words: a uint32_t for each scalar of a type, in order of offset. An i32 is its two's
- * complement, an f32 its bits, an f16 its bits, 0 to 65,535; an atomic is the scalar that it refers to. Bits stay as they are, those of a
- * NaN too. A struct {u32, vec3<f32>, f32} has 5 words and takes 32 bytes.
+ * What is written to a buffer and read from it are words: a uint32_t for each scalar of a type, in order of offset, and two for an i64, u64
+ * or f64, its low 32 bits first. An i32 or i64 is its two's complement, an f32 or f64 its bits, an f16 its bits, 0 to 65,535; an atomic is
+ * the scalar that it refers to. Bits stay as they are, those of a NaN too. A struct {u32, vec3<f32>, f32} has 5 words and takes 32 bytes, a
+ * struct {i64, f16, u64} has 5 and takes 24.
  *
  * A path leads from a type to a part of it, by steps of a uint32_t each: the number of a struct's member as LEPUGASO_MEMBER has it, or the
  * index of an array's element, of a vector's scalar or of a matrix's column, whose scalars have indices in turn. Both count from 0. A path
@@ -153,12 +156,14 @@ lepugaso_answer lepugaso_read(const uint8_t *file, size_t file_len, uint32_t ent
 lepugaso_answer lepugaso_view(const uint8_t *file, size_t file_len, uint32_t entry, const uint32_t *path, size_t path_len,
                               const uint8_t *buf, size_t buf_len, const uint8_t **part, size_t *part_len);
 
-/* Stores `word` in the one scalar, or atomic, that `path` leads to from entry `entry` at the front of `buf`. The value is its offset.
- * Every other byte of `buf` stays, those of gaps too.
+/* Stores `words` in the one scalar, or atomic, that `path` leads to from entry `entry` at the front of `buf`: one word, or for an i64, u64
+ * or f64 two, the low one first. The value is its offset. Every other byte of `buf` stays, those of gaps too. Before there were kinds 13 to
+ * 15 the call took one word by value, where it takes the list now, so that a program which was written for the older header has to be
+ * changed.
  * Refuses 1 to 7, then 8, 17, 9 as viewing does, 10 (the type holds a bool), 15, 11 to 13 as viewing does, 14 (the path leads to no single
- * scalar), 16 (the word is above 65,535 for an f16; place is 0), and leaves `buf` as it was. */
-lepugaso_answer lepugaso_set(const uint8_t *file, size_t file_len, uint32_t entry, const uint32_t *path, size_t path_len, uint32_t word,
-                             uint8_t *buf, size_t buf_len);
+ * scalar, or that scalar has another number of words), 16 (the word is above 65,535 for an f16; place is 0), and leaves `buf` as it was. */
+lepugaso_answer lepugaso_set(const uint8_t *file, size_t file_len, uint32_t entry, const uint32_t *path, size_t path_len,
+                             const uint32_t *words, size_t words_len, uint8_t *buf, size_t buf_len);
 
 /* Bit fields of a number, which no file and no pointer goes with: WGSL's extractBits and insertBits, their arguments in WGSL's order. Any
  * numbers may be passed and nothing is refused. The field is the `count` bits from bit `offset` on, bit 0 the lowest, as far as there are
@@ -176,7 +181,7 @@ uint32_t lepugaso_insert_bits_u32(uint32_t e, uint32_t newbits, uint32_t offset,
 /* The field of the one i32 or u32, or atomic of one, that `path` leads to from entry `entry` at the front of `buf`. Whether it is signed is
  * said by that type, not by the caller. The value is the field in 32 bits, of an i32 its two's complement: -1 is 4,294,967,295, and
  * `(int32_t)(uint32_t)value` is the number.
- * Refuses 1 to 7, then 8, 17, 9, 10, 15, 11 to 13 as setting does, 14 (the path leads to no single scalar, or to an f32 or f16). */
+ * Refuses 1 to 7, then 8, 17, 9, 10, 15, 11 to 13 as setting does, 14 (the path leads to no single scalar, or to one of another type). */
 lepugaso_answer lepugaso_extract_bits(const uint8_t *file, size_t file_len, uint32_t entry, const uint32_t *path, size_t path_len,
                                       const uint8_t *buf, size_t buf_len, uint32_t offset, uint32_t count);
 

@@ -264,7 +264,7 @@ pub unsafe extern "C" fn lepugaso_view(
     }
 }
 
-/// A word into the one scalar that a path leads to from an entry's type at the front of `buf`.
+/// The words of the one scalar that a path leads to from an entry's type at the front of `buf`.
 ///
 /// # Safety
 /// As `lepugaso_check`.
@@ -275,24 +275,29 @@ pub unsafe extern "C" fn lepugaso_set(
     entry: u32,
     path: *const u32,
     path_len: usize,
-    word: u32,
+    words: *const u32,
+    words_len: usize,
     buf: *mut u8,
     buf_len: usize,
 ) -> Crossing {
     match (
         Lent::new(file, file_len),
         Lent::new(path, path_len),
+        Lent::new(words, words_len),
         Lent::new(buf, buf_len),
     ) {
-        // SAFETY: as for writing, with the path in the place of the words.
-        (Some(file), Some(path), Some(buf)) if buf.is_apart_from(&file) && buf.is_apart_from(&path) => unsafe {
+        // SAFETY: as for writing; the path is only read too.
+        (Some(file), Some(path), Some(words), Some(buf))
+            if buf.is_apart_from(&file) && buf.is_apart_from(&path) && buf.is_apart_from(&words) =>
+        unsafe {
             lepugaso_surface_set(
                 file.start(),
                 file.count(),
                 entry,
                 path.start(),
                 path.count(),
-                word,
+                words.start(),
+                words.count(),
                 buf.start(),
                 buf.count(),
             )
@@ -391,7 +396,7 @@ pub unsafe extern "C" fn lepugaso_insert_bits(
         Lent::new(path, path_len),
         Lent::new(buf, buf_len),
     ) {
-        // SAFETY: as for setting.
+        // SAFETY: as for writing, with the path in the place of the words.
         (Some(file), Some(path), Some(buf)) if buf.is_apart_from(&file) && buf.is_apart_from(&path) => unsafe {
             lepugaso_surface_insert_bits(
                 file.start(),

@@ -56,7 +56,8 @@ extern "C" {
         entry: u32,
         path: *const u32,
         path_len: usize,
-        word: u32,
+        words: *const u32,
+        words_len: usize,
         buf: *mut u8,
         buf_len: usize,
     ) -> Crossing;

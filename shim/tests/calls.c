@@ -33,6 +33,18 @@ static const struct {
     BAD(LEPUGASO_REFUSED_RULE, 1, U32, VECTOR(5, 0), TRAILER(2, 0)),
     BAD(LEPUGASO_REFUSED_GIVEN, 1, U32, STRUCT(0, 1), MEMBER_SIZE(0, 3), TRAILER(2, 1)),
     BAD(LEPUGASO_REFUSED_TOO_LARGE, 2, U32, F32, ARRAY(0, 1073741824u), TRAILER(3, 0)),
+    /* E6: kind 16, a u64 with a count; 64 bits in a matrix, in an atomic; a vec3<f64> as an element, and as a member though its align is
+     * given; then a given size and align below those of an i64, and too many of them. */
+    BAD(LEPUGASO_REFUSED_RULE, 1, U32, TYPE(16, 0, 0, 0, 0), TRAILER(2, 0)),
+    BAD(LEPUGASO_REFUSED_RULE, 0, TYPE(14, 0, 0, 0, 1), TRAILER(1, 0)),
+    BAD(LEPUGASO_REFUSED_RULE, 1, F64, MATRIX(2, 2, 0), TRAILER(2, 0)),
+    BAD(LEPUGASO_REFUSED_RULE, 1, I64, ATOMIC(0), TRAILER(2, 0)),
+    BAD(LEPUGASO_REFUSED_RULE, 1, U64, ATOMIC(0), TRAILER(2, 0)),
+    BAD(LEPUGASO_REFUSED_RULE, 2, F64, VECTOR(3, 0), RUNTIME_ARRAY(1), TRAILER(3, 0)),
+    BAD(LEPUGASO_REFUSED_RULE, 2, F64, VECTOR(3, 0), STRUCT(0, 1), MEMBER_ALIGN(1, 32), TRAILER(3, 1)),
+    BAD(LEPUGASO_REFUSED_GIVEN, 1, I64, STRUCT(0, 1), MEMBER_SIZE(0, 7), TRAILER(2, 1)),
+    BAD(LEPUGASO_REFUSED_GIVEN, 1, I64, STRUCT(0, 1), MEMBER_ALIGN(0, 4), TRAILER(2, 1)),
+    BAD(LEPUGASO_REFUSED_TOO_LARGE, 1, I64, ARRAY(0, 536870912u), TRAILER(2, 0)),
 };
 
 /* A refused file is refused by every call alike. */
@@ -62,7 +74,7 @@ static void refused_files(void) {
         size_t part_len = 5;
         EXPECT(lepugaso_view(file, length, 0, NULL, 0, bytes, sizeof bytes, &part, &part_len), refusal, place, 0);
         HOLDS(part == bytes && part_len == 0);
-        EXPECT(lepugaso_set(file, length, 0, NULL, 0, 1, buf, sizeof buf), refusal, place, 0);
+        EXPECT(lepugaso_set(file, length, 0, NULL, 0, list, 1, buf, sizeof buf), refusal, place, 0);
         EXPECT(lepugaso_extract_bits(file, length, 0, NULL, 0, bytes, sizeof bytes, 0, 12), refusal, place, 0);
         EXPECT(lepugaso_insert_bits(file, length, 0, NULL, 0, 1, 0, 12, buf, sizeof buf), refusal, place, 0);
         EXPECT(lepugaso_uniform(file, length, 0), refusal, place, 0);
@@ -278,6 +290,19 @@ static const uint8_t stored[] = {
     STRUCT(15, 2),     /* 28: vec3<bool>, bool */
     STRUCT(17, 3),     /* 29: bool, 28, 27 */
     STRUCT(20, 2),     /* 30: vec3<bool> of size 20, bool of align 8 */
+    I64,               /* 31 */
+    U64,               /* 32 */
+    F64,               /* 33 */
+    VECTOR(2, 31),     /* 34: vec2<i64> */
+    VECTOR(3, 33),     /* 35: vec3<f64>, no layout */
+    VECTOR(4, 32),     /* 36: vec4<u64> */
+    ARRAY(35, 2),      /* 37: of vec3<f64>, no layout either */
+    STRUCT(22, 3),     /* 38: i64, f16, u64 */
+    ARRAY(38, 2),      /* 39: two of them */
+    RUNTIME_ARRAY(31), /* 40: of i64 */
+    STRUCT(25, 3),     /* 41: f16, f64, runtime array of i64 */
+    STRUCT(28, 2),     /* 42: u32, vec4<u64> */
+    STRUCT(30, 2),     /* 43: u32, i64 */
     MEMBER(8),                              /* 0 */
     MEMBER(2), MEMBER(8), MEMBER(3),        /* 1 to 3 */
     MEMBER(2), MEMBER(17),                  /* 4, 5 */
@@ -288,14 +313,18 @@ static const uint8_t stored[] = {
     MEMBER(6), MEMBER(0),                   /* 15, 16 */
     MEMBER(0), MEMBER(28), MEMBER(27),      /* 17 to 19 */
     MEMBER_SIZE(6, 20), MEMBER_ALIGN(0, 8), /* 20, 21 */
-    TRAILER(31, 22),
+    MEMBER(31), MEMBER(4), MEMBER(32),      /* 22 to 24 */
+    MEMBER(4), MEMBER(33), MEMBER(40),      /* 25 to 27 */
+    MEMBER(2), MEMBER(36),                  /* 28, 29 */
+    MEMBER(2), MEMBER(31),                  /* 30, 31 */
+    TRAILER(44, 32),
 };
-enum { NO_ENTRY = 31 };
+enum { NO_ENTRY = 44 };
 
 /* Vectors of three bools (E4): 12 bytes, aligned to 16, as members and as elements too. They are not storable. */
 static void vectors_of_bools(void) {
     const uint8_t *file = lent(stored, sizeof stored);
-    EXPECT(lepugaso_check(file, sizeof stored), 0, 0, 31);
+    EXPECT(lepugaso_check(file, sizeof stored), 0, 0, NO_ENTRY);
     laid(file, sizeof stored, 6, 12, 16, 12, 16);
     laid(file, sizeof stored, 26, 64, 16, 64, 64);
     laid(file, sizeof stored, 27, NONE, 16, 16, 16);
@@ -308,6 +337,42 @@ static void vectors_of_bools(void) {
     EXPECT(lepugaso_uniform(file, sizeof stored, 26), LEPUGASO_REFUSED_NOT_STORABLE, 0, 0);
     EXPECT(lepugaso_uniform(file, sizeof stored, 28), LEPUGASO_REFUSED_NOT_STORABLE, 0, 0);
     EXPECT(lepugaso_uniform(file, sizeof stored, 27), LEPUGASO_REFUSED_ABSENT, 0, 0); /* open */
+}
+
+/* Scalars of 64 bits (E6), vectors of them, and what holds them. A vector of three has a size, and nothing else. */
+static void wide_layouts(void) {
+    const uint8_t *file = lent(stored, sizeof stored);
+    for (uint32_t scalar = 31; scalar <= 33; scalar++) {
+        laid(file, sizeof stored, scalar, 8, 8, 8, 8);
+        EXPECT(lepugaso_uniform(file, sizeof stored, scalar), 0, 0, 0);
+        /* They convert to themselves alone. */
+        for (uint32_t entry = 0; entry <= 36; entry++) {
+            uint32_t refusal = entry == scalar ? 0 : LEPUGASO_REFUSED_NO_RANK;
+            EXPECT(lepugaso_rank(file, sizeof stored, scalar, entry), refusal, 0, 0);
+            EXPECT(lepugaso_rank(file, sizeof stored, entry, scalar), refusal, 0, 0);
+            EXPECT(common(file, sizeof stored, 2, scalar, entry, 0), refusal, 0, refusal ? 0 : scalar);
+        }
+    }
+    laid(file, sizeof stored, 34, 16, 16, 16, 16);
+    laid(file, sizeof stored, 35, 24, NONE, 24, NONE);
+    laid(file, sizeof stored, 36, 32, 32, 32, 32);
+    laid(file, sizeof stored, 37, NONE, NONE, NONE, NONE);
+    laid(file, sizeof stored, 38, 24, 8, 24, 24);
+    laid(file, sizeof stored, 39, 48, 8, 48, 48);
+    laid(file, sizeof stored, 40, NONE, 8, 8, 8);
+    laid(file, sizeof stored, 41, NONE, 8, NONE, NONE);
+    laid(file, sizeof stored, 42, 64, 32, 64, 64);
+    laid(file, sizeof stored, 43, 16, 8, 16, 16);
+    EXPECT(lepugaso_size(file, sizeof stored, 35), 0, 0, 24);
+    EXPECT(lepugaso_align(file, sizeof stored, 35), LEPUGASO_REFUSED_ABSENT, 0, 0);
+    EXPECT(lepugaso_min_size(file, sizeof stored, 35), 0, 0, 24);
+    EXPECT(lepugaso_rank(file, sizeof stored, 35, 35), 0, 0, 0);
+    EXPECT(lepugaso_rank(file, sizeof stored, 8, 35), LEPUGASO_REFUSED_NO_RANK, 0, 0);
+    EXPECT(lepugaso_uniform(file, sizeof stored, 35), LEPUGASO_REFUSED_ABSENT, 0, 0);
+    EXPECT(lepugaso_uniform(file, sizeof stored, 36), 0, 0, 0);
+    EXPECT(lepugaso_uniform(file, sizeof stored, 38), 0, 0, 0);
+    EXPECT(lepugaso_uniform(file, sizeof stored, 43), 0, 0, 0); /* an i64 may start at 8 */
+    EXPECT(lepugaso_uniform(file, sizeof stored, 39), LEPUGASO_REFUSED_UNIFORM, 39, 0); /* stride 24 */
 }
 
 /* What a buffer, and what the words to read into, hold before a call. */
@@ -389,6 +454,25 @@ static void stored_values(void) {
     BOTH(21, WORDS(1, 2, 3, 4, 5, 6, 7, 8, 9, 10),
          BYTES(LE16(1), LE16(0), LE32(2), LE16(3), LE16(4), LE16(5), LE16(0), LE16(6), LE16(0), LE32(7), LE16(8), LE16(9),
                LE16(10), LE16(0)));
+    /* Two words for 64 bits, the low one first. */
+    BOTH(31, WORDS(0x04030201, 0x08070605), BYTES(1, 2, 3, 4, 5, 6, 7, 8));
+    BOTH(31, WORDS((uint32_t)-2, (uint32_t)-1), BYTES(0xFE, 0xFF, 0xFF, 0xFF, 0xFF, 0xFF, 0xFF, 0xFF));
+    BOTH(32, WORDS(UINT32_MAX, 0), BYTES(0xFF, 0xFF, 0xFF, 0xFF, 0, 0, 0, 0));
+    BOTH(33, WORDS(0, 0x3FF00000), BYTES(0, 0, 0, 0, 0, 0, 0xF0, 0x3F)); /* 1.0 */
+    BOTH(33, WORDS(1, 0x7FF00000), BYTES(1, 0, 0, 0, 0, 0, 0xF0, 0x7F)); /* a NaN that signals */
+    BOTH(34, WORDS(1, 2, 3, 4), BYTES(LE32(1), LE32(2), LE32(3), LE32(4)));
+    BOTH(36, WORDS(1, 2, 3, 4, 5, 6, 7, 8), BYTES(LE32(1), LE32(2), LE32(3), LE32(4), LE32(5), LE32(6), LE32(7), LE32(8)));
+    BOTH(38, WORDS(1, 2, 3, UINT32_MAX, 5), BYTES(LE32(1), LE32(2), LE16(3), LE16(0), LE32(0), LE32(0xFFFFFFFF), LE32(5)));
+    BOTH(39, WORDS(1, 2, 3, 4, 5, 6, 7, 8, 9, 10),
+         BYTES(LE32(1), LE32(2), LE16(3), LE16(0), LE32(0), LE32(4), LE32(5), LE32(6), LE32(7), LE16(8), LE16(0), LE32(0), LE32(9),
+               LE32(10)));
+    BOTH(42, WORDS(1, 2, 3, 4, 5, 6, 7, 8, 9),
+         BYTES(LE32(1), LE32(0), LE32(0), LE32(0), LE32(0), LE32(0), LE32(0), LE32(0), LE32(2), LE32(3), LE32(4), LE32(5), LE32(6),
+               LE32(7), LE32(8), LE32(9)));
+    BOTH(40, WORDS(1, 2), BYTES(LE32(1), LE32(2)));
+    BOTH(40, WORDS(1, 2, 3, 4), BYTES(LE32(1), LE32(2), LE32(3), LE32(4)));
+    READS(40, 4, BYTES(LE32(1), LE32(2), LE32(3), LE32(4), LE32(5), LE16(6), 7), WORDS(1, 2, 3, 4)); /* a byte short of a third */
+    BOTH(41, WORDS(1, 2, 3, 4, 5), BYTES(LE16(1), LE16(0), LE32(0), LE32(2), LE32(3), LE32(4), LE32(5)));
 }
 
 static void write_refusals(void) {
@@ -429,7 +513,30 @@ static void write_refusals(void) {
     WRITE_REFUSED(21, 48, LEPUGASO_REFUSED_F16_WORD, 9, WORDS(1, UINT32_MAX, 3, 4, 5, 6, UINT32_MAX, 8, 9, 65536));
     WRITE_REFUSED(25, 48, LEPUGASO_REFUSED_F16_WORD, 1, WORDS(UINT32_MAX, 65536));
     WRITE_REFUSED(25, 48, LEPUGASO_REFUSED_F16_WORD, 3, WORDS(UINT32_MAX, 1, 2, 65536));
+    /* As many words as the scalars take, not as there are scalars; and the bad one is counted in words (E6). */
+    WRITE_REFUSED(31, 64, LEPUGASO_REFUSED_WORDS, 0, NULL, 0);
+    WRITE_REFUSED(31, 64, LEPUGASO_REFUSED_WORDS, 0, WORDS(1));
+    WRITE_REFUSED(31, 64, LEPUGASO_REFUSED_WORDS, 0, WORDS(1, 2, 3));
+    WRITE_REFUSED(34, 64, LEPUGASO_REFUSED_WORDS, 0, WORDS(1, 2));
+    WRITE_REFUSED(38, 64, LEPUGASO_REFUSED_WORDS, 0, WORDS(1, 2, 3));
+    WRITE_REFUSED(38, 64, LEPUGASO_REFUSED_WORDS, 0, WORDS(1, 2, 3, 4));
+    WRITE_REFUSED(38, 64, LEPUGASO_REFUSED_WORDS, 0, WORDS(1, 2, 3, 4, 5, 6));
+    WRITE_REFUSED(40, 64, LEPUGASO_REFUSED_WORDS, 0, WORDS(1));
+    WRITE_REFUSED(40, 64, LEPUGASO_REFUSED_WORDS, 0, WORDS(1, 2, 3));
+    WRITE_REFUSED(41, 64, LEPUGASO_REFUSED_WORDS, 0, WORDS(1, 2, 3));
+    WRITE_REFUSED(41, 64, LEPUGASO_REFUSED_WORDS, 0, WORDS(1, 2, 3, 4));
+    WRITE_REFUSED(41, 64, LEPUGASO_REFUSED_WORDS, 0, WORDS(1, 2, 3, 4, 5, 6));
+    WRITE_REFUSED(35, 64, LEPUGASO_REFUSED_ABSENT, 0, WORDS(1, 2, 3, 4, 5, 6));
+    WRITE_REFUSED(37, 64, LEPUGASO_REFUSED_ABSENT, 0, WORDS(1, 2, 3, 4, 5, 6, 7, 8, 9, 10, 11, 12));
+    WRITE_REFUSED(31, 7, LEPUGASO_REFUSED_SHORT_BUFFER, 0, WORDS(1, 2));
+    WRITE_REFUSED(38, 23, LEPUGASO_REFUSED_SHORT_BUFFER, 0, WORDS(1, 2, 3, 4, 5));
+    WRITE_REFUSED(40, 15, LEPUGASO_REFUSED_SHORT_BUFFER, 0, WORDS(1, 2, 3, 4));
+    WRITE_REFUSED(38, 24, LEPUGASO_REFUSED_F16_WORD, 2, WORDS(UINT32_MAX, UINT32_MAX, 65536, UINT32_MAX, UINT32_MAX));
+    WRITE_REFUSED(39, 48, LEPUGASO_REFUSED_F16_WORD, 7, WORDS(UINT32_MAX, UINT32_MAX, 3, UINT32_MAX, UINT32_MAX, 6, 7, 65536, 9, 10));
+    WRITE_REFUSED(41, 48, LEPUGASO_REFUSED_F16_WORD, 0, WORDS(65536, UINT32_MAX, UINT32_MAX, 4, 5));
     /* Of two or more the first by document 01's order. */
+    WRITE_REFUSED(35, 0, LEPUGASO_REFUSED_ABSENT, 0, WORDS(1));
+    WRITE_REFUSED(38, 23, LEPUGASO_REFUSED_WORDS, 0, WORDS(1, 2, 65536));
     WRITE_REFUSED(5, 0, LEPUGASO_REFUSED_ABSENT, 0, NULL, 0);
     WRITE_REFUSED(0, 0, LEPUGASO_REFUSED_NOT_STORABLE, 0, NULL, 0);
     WRITE_REFUSED(4, 0, LEPUGASO_REFUSED_WORDS, 0, WORDS(65536, 65536));
@@ -464,6 +571,16 @@ static void read_refusals(void) {
     READ_REFUSED(16, 4, LEPUGASO_REFUSED_WORDS, bytes, 64);
     READ_REFUSED(18, 4, LEPUGASO_REFUSED_WORDS, bytes, 47);
     READ_REFUSED(18, 8, LEPUGASO_REFUSED_WORDS, bytes, 48);
+    READ_REFUSED(35, 6, LEPUGASO_REFUSED_ABSENT, bytes, 64);
+    READ_REFUSED(37, 12, LEPUGASO_REFUSED_ABSENT, bytes, 64);
+    READ_REFUSED(31, 4, LEPUGASO_REFUSED_SHORT_BUFFER, bytes, 7);
+    READ_REFUSED(40, 4, LEPUGASO_REFUSED_SHORT_BUFFER, bytes, 7);
+    READ_REFUSED(41, 9, LEPUGASO_REFUSED_SHORT_BUFFER, bytes, 23);
+    READ_REFUSED(31, 1, LEPUGASO_REFUSED_WORDS, bytes, 64);
+    READ_REFUSED(38, 3, LEPUGASO_REFUSED_WORDS, bytes, 64);
+    READ_REFUSED(38, 4, LEPUGASO_REFUSED_WORDS, bytes, 64);
+    READ_REFUSED(40, 3, LEPUGASO_REFUSED_WORDS, bytes, 16);
+    READ_REFUSED(41, 4, LEPUGASO_REFUSED_WORDS, bytes, 24);
     /* Of two or more the first by document 01's order. */
     READ_REFUSED(5, 0, LEPUGASO_REFUSED_ABSENT, bytes, 0);
     READ_REFUSED(0, 0, LEPUGASO_REFUSED_NOT_STORABLE, bytes, 0);
@@ -474,6 +591,7 @@ static void read_refusals(void) {
 #define M LEPUGASO_MEMBER
 #define PATH WORDS
 #define WHOLE (const uint32_t *)NULL, (size_t)0
+#define NO_WORDS WHOLE
 
 /* Views a buffer of `length` bytes: the part at `offset` of `size` bytes, or when refused the empty one at its start. */
 #define VIEWS(entry, length, offset, size, ...) views(__LINE__, entry, length, 0, 0, offset, size, __VA_ARGS__)
@@ -490,17 +608,18 @@ static void views(int line, uint32_t entry, size_t length, uint32_t refusal, uin
 }
 
 /* Sets a scalar in a buffer of `length` bytes: those from `offset` on become `bytes`, as many as there are of them, and the others stay. */
-#define SETS(entry, length, word, offset, ...) sets(__LINE__, entry, length, word, 0, 0, offset, __VA_ARGS__)
-#define SET_REFUSED(entry, length, word, refusal, place, ...) sets(__LINE__, entry, length, word, refusal, place, 0, NULL, 0, __VA_ARGS__)
-static void sets(int line, uint32_t entry, size_t length, uint32_t word, uint32_t refusal, uint32_t place, size_t offset,
-                 const uint8_t *bytes, size_t width, const uint32_t *path, size_t steps) {
+#define SETS(entry, length, offset, ...) sets(__LINE__, entry, length, 0, 0, offset, __VA_ARGS__)
+#define SET_REFUSED(entry, length, refusal, place, ...) sets(__LINE__, entry, length, refusal, place, 0, __VA_ARGS__, NULL, 0)
+static void sets(int line, uint32_t entry, size_t length, uint32_t refusal, uint32_t place, size_t offset, const uint32_t *path,
+                 size_t steps, const uint32_t *words, size_t count, const uint8_t *bytes, size_t width) {
     const uint8_t *file = lent(stored, sizeof stored);
-    const void *given = lent(path, steps * sizeof *path);
+    const void *given = lent(path, steps * sizeof *path), *new = lent(words, count * sizeof *words);
     uint8_t expected[64], *buf = fresh(length);
     memset(buf, OLD_BYTE, length);
     memset(expected, OLD_BYTE, sizeof expected);
     if (width) memcpy(expected + offset, bytes, width);
-    expect(__FILE__, line, "setting", lepugaso_set(file, sizeof stored, entry, given, steps, word, buf, length), refusal, place, offset);
+    expect(__FILE__, line, "setting", lepugaso_set(file, sizeof stored, entry, given, steps, new, count, buf, length), refusal, place,
+           offset);
     hold(__FILE__, line, "the buffer after setting", memcmp(buf, expected, length) == 0);
 }
 
@@ -552,6 +671,17 @@ static void viewed_parts(void) {
     VIEWS(29, 64, 48, 12, PATH(M(2), 1));
     VIEWS(30, 32, 0, 12, PATH(M(0)));
     VIEWS(30, 32, 24, 4, PATH(M(1)));
+    /* A scalar of 64 bits is one part, of eight bytes. */
+    VIEWS(31, 8, 0, 8, WHOLE);
+    VIEWS(34, 16, 8, 8, PATH(1));
+    VIEWS(36, 32, 24, 8, PATH(3));
+    VIEWS(38, 24, 8, 2, PATH(M(1)));
+    VIEWS(38, 24, 16, 8, PATH(M(2)));
+    VIEWS(39, 48, 40, 8, PATH(1, M(2)));
+    VIEWS(40, 23, 0, 16, WHOLE);
+    VIEWS(40, 23, 8, 8, PATH(1));
+    VIEWS(41, 31, 16, 8, PATH(M(2)));
+    VIEWS(42, 64, 56, 8, PATH(M(1), 3));
 }
 
 static void view_refusals(void) {
@@ -592,6 +722,14 @@ static void view_refusals(void) {
     VIEW_REFUSED(6, 12, LEPUGASO_REFUSED_INDEX, 0, PATH(3));
     VIEW_REFUSED(27, 47, LEPUGASO_REFUSED_INDEX, 0, PATH(2));
     VIEW_REFUSED(28, 16, LEPUGASO_REFUSED_MEMBER_STEP, 0, PATH(M(2)));
+    VIEW_REFUSED(35, 24, LEPUGASO_REFUSED_ABSENT, 0, PATH(0));
+    VIEW_REFUSED(37, 64, LEPUGASO_REFUSED_ABSENT, 0, PATH(0));
+    VIEW_REFUSED(31, 7, LEPUGASO_REFUSED_SHORT_BUFFER, 0, WHOLE);
+    VIEW_REFUSED(31, 8, LEPUGASO_REFUSED_MEMBER_STEP, 0, PATH(M(0)));
+    VIEW_REFUSED(32, 8, LEPUGASO_REFUSED_INDEX_STEP, 0, PATH(0)); /* no path leads to one of its words */
+    VIEW_REFUSED(36, 32, LEPUGASO_REFUSED_INDEX, 0, PATH(4));
+    VIEW_REFUSED(36, 32, LEPUGASO_REFUSED_INDEX_STEP, 1, PATH(3, 1));
+    VIEW_REFUSED(40, 23, LEPUGASO_REFUSED_INDEX, 0, PATH(2));
     /* Of two or more the first by document 01's order. */
     VIEW_REFUSED(5, 0, LEPUGASO_REFUSED_ABSENT, 0, PATH(M(0)));
     VIEW_REFUSED(0, 0, LEPUGASO_REFUSED_SHORT_BUFFER, 0, PATH(M(0)));
@@ -599,53 +737,103 @@ static void view_refusals(void) {
 }
 
 static void set_scalars(void) {
-    SETS(1, 4, (uint32_t)-1, 0, BYTES(0xFF, 0xFF, 0xFF, 0xFF), WHOLE);
-    SETS(2, 9, 0x04030201, 0, BYTES(1, 2, 3, 4), WHOLE);
-    SETS(3, 4, 0x7F800001, 0, BYTES(1, 0, 0x80, 0x7F), WHOLE); /* a NaN that signals */
-    SETS(4, 4, 65535, 0, BYTES(0xFF, 0xFF), WHOLE);
-    SETS(13, 4, 0x80000001, 0, BYTES(1, 0, 0, 0x80), WHOLE);
-    SETS(8, 12, 7, 8, BYTES(LE32(7)), PATH(2));
-    SETS(11, 48, 7, 36, BYTES(LE32(7)), PATH(2, 1));
-    SETS(12, 16, 7, 12, BYTES(LE16(7)), PATH(1, 2));
-    SETS(15, 40, 7, 20, BYTES(LE32(7)), PATH(1, M(0), 1));
-    SETS(16, 32, 7, 28, BYTES(LE32(7)), PATH(M(2)));
-    SETS(18, 47, 7, 0, BYTES(LE32(7)), PATH(M(0)));
-    SETS(18, 48, 7, 44, BYTES(LE32(7)), PATH(M(1), 1, 3));
-    SETS(19, 24, 7, 0, BYTES(LE32(7)), PATH(M(0)));
-    SETS(21, 33, 65535, 28, BYTES(0xFF, 0xFF), PATH(1, M(2), 2));
-    SETS(21, 33, 65536, 20, BYTES(LE32(65536)), PATH(1, M(1)));
+    SETS(1, 4, 0, WHOLE, WORDS((uint32_t)-1), BYTES(0xFF, 0xFF, 0xFF, 0xFF));
+    SETS(2, 9, 0, WHOLE, WORDS(0x04030201), BYTES(1, 2, 3, 4));
+    SETS(3, 4, 0, WHOLE, WORDS(0x7F800001), BYTES(1, 0, 0x80, 0x7F)); /* a NaN that signals */
+    SETS(4, 4, 0, WHOLE, WORDS(65535), BYTES(0xFF, 0xFF));
+    SETS(13, 4, 0, WHOLE, WORDS(0x80000001), BYTES(1, 0, 0, 0x80));
+    SETS(8, 12, 8, PATH(2), WORDS(7), BYTES(LE32(7)));
+    SETS(11, 48, 36, PATH(2, 1), WORDS(7), BYTES(LE32(7)));
+    SETS(12, 16, 12, PATH(1, 2), WORDS(7), BYTES(LE16(7)));
+    SETS(15, 40, 20, PATH(1, M(0), 1), WORDS(7), BYTES(LE32(7)));
+    SETS(16, 32, 28, PATH(M(2)), WORDS(7), BYTES(LE32(7)));
+    SETS(18, 47, 0, PATH(M(0)), WORDS(7), BYTES(LE32(7)));
+    SETS(18, 48, 44, PATH(M(1), 1, 3), WORDS(7), BYTES(LE32(7)));
+    SETS(19, 24, 0, PATH(M(0)), WORDS(7), BYTES(LE32(7)));
+    SETS(21, 33, 28, PATH(1, M(2), 2), WORDS(65535), BYTES(0xFF, 0xFF));
+    SETS(21, 33, 20, PATH(1, M(1)), WORDS(65536), BYTES(LE32(65536)));
+    /* Both words of a scalar of 64 bits, the low one first (E6). */
+    SETS(31, 8, 0, WHOLE, WORDS(0x04030201, 0x08070605), BYTES(1, 2, 3, 4, 5, 6, 7, 8));
+    SETS(31, 9, 0, WHOLE, WORDS((uint32_t)-2, (uint32_t)-1), BYTES(0xFE, 0xFF, 0xFF, 0xFF, 0xFF, 0xFF, 0xFF, 0xFF));
+    SETS(32, 8, 0, WHOLE, WORDS(UINT32_MAX, 0), BYTES(LE32(0xFFFFFFFF), LE32(0)));
+    SETS(33, 8, 0, WHOLE, WORDS(1, 0x7FF00000), BYTES(1, 0, 0, 0, 0, 0, 0xF0, 0x7F)); /* a NaN that signals */
+    SETS(34, 16, 8, PATH(1), WORDS(7, 8), BYTES(LE32(7), LE32(8)));
+    SETS(36, 32, 24, PATH(3), WORDS(7, 8), BYTES(LE32(7), LE32(8)));
+    SETS(38, 24, 0, PATH(M(0)), WORDS(7, 8), BYTES(LE32(7), LE32(8)));
+    SETS(38, 24, 8, PATH(M(1)), WORDS(65535), BYTES(0xFF, 0xFF));
+    SETS(38, 24, 16, PATH(M(2)), WORDS(65536, UINT32_MAX), BYTES(LE32(65536), LE32(0xFFFFFFFF)));
+    SETS(39, 50, 40, PATH(1, M(2)), WORDS(7, 8), BYTES(LE32(7), LE32(8)));
+    SETS(40, 31, 16, PATH(2), WORDS(7, 8), BYTES(LE32(7), LE32(8)));
+    SETS(41, 31, 8, PATH(M(1)), WORDS(7, 8), BYTES(LE32(7), LE32(8)));
+    SETS(41, 32, 24, PATH(M(2), 1), WORDS(7, 8), BYTES(LE32(7), LE32(8)));
+    SETS(42, 64, 0, PATH(M(0)), WORDS(7), BYTES(LE32(7)));
+    SETS(42, 64, 56, PATH(M(1), 3), WORDS(7, 8), BYTES(LE32(7), LE32(8)));
 }
 
 static void set_refusals(void) {
-    SET_REFUSED(NO_ENTRY, 64, 1, LEPUGASO_REFUSED_ENTRY, 0, WHOLE);
-    SET_REFUSED(5, 64, 1, LEPUGASO_REFUSED_ABSENT, 0, WHOLE);
-    SET_REFUSED(0, 64, 1, LEPUGASO_REFUSED_NOT_STORABLE, 0, WHOLE);
-    SET_REFUSED(22, 64, 1, LEPUGASO_REFUSED_NOT_STORABLE, 0, PATH(M(0)));
-    SET_REFUSED(23, 64, 1, LEPUGASO_REFUSED_NOT_STORABLE, 0, PATH(0, 0));
-    SET_REFUSED(6, 64, 1, LEPUGASO_REFUSED_NOT_STORABLE, 0, PATH(0));
-    SET_REFUSED(26, 64, 1, LEPUGASO_REFUSED_NOT_STORABLE, 0, PATH(3, 2));
-    SET_REFUSED(27, 64, 1, LEPUGASO_REFUSED_NOT_STORABLE, 0, PATH(0, 0));
-    SET_REFUSED(28, 64, 1, LEPUGASO_REFUSED_NOT_STORABLE, 0, PATH(M(0), 1));
-    SET_REFUSED(29, 64, 1, LEPUGASO_REFUSED_NOT_STORABLE, 0, PATH(M(0)));
-    SET_REFUSED(2, 3, 1, LEPUGASO_REFUSED_SHORT_BUFFER, 0, WHOLE);
-    SET_REFUSED(11, 47, 1, LEPUGASO_REFUSED_SHORT_BUFFER, 0, PATH(0, 0));
-    SET_REFUSED(18, 31, 1, LEPUGASO_REFUSED_SHORT_BUFFER, 0, PATH(M(0)));
-    SET_REFUSED(16, 32, 1, LEPUGASO_REFUSED_MEMBER_STEP, 0, PATH(M(3)));
-    SET_REFUSED(18, 47, 1, LEPUGASO_REFUSED_INDEX, 1, PATH(M(1), 1, 0));
-    SET_REFUSED(11, 48, 1, LEPUGASO_REFUSED_INDEX, 1, PATH(2, 3));
-    SET_REFUSED(13, 4, 1, LEPUGASO_REFUSED_INDEX_STEP, 0, PATH(0));
-    SET_REFUSED(8, 12, 1, LEPUGASO_REFUSED_WORDS, 0, WHOLE);
-    SET_REFUSED(11, 48, 1, LEPUGASO_REFUSED_WORDS, 0, PATH(1)); /* a column */
-    SET_REFUSED(16, 32, 1, LEPUGASO_REFUSED_WORDS, 0, PATH(M(1)));
-    SET_REFUSED(18, 48, 1, LEPUGASO_REFUSED_WORDS, 0, PATH(M(1)));
-    SET_REFUSED(4, 2, 65536, LEPUGASO_REFUSED_F16_WORD, 0, WHOLE);
-    SET_REFUSED(21, 32, UINT32_MAX, LEPUGASO_REFUSED_F16_WORD, 0, PATH(1, M(2), 2));
+    SET_REFUSED(NO_ENTRY, 64, LEPUGASO_REFUSED_ENTRY, 0, WHOLE, WORDS(1));
+    SET_REFUSED(5, 64, LEPUGASO_REFUSED_ABSENT, 0, WHOLE, WORDS(1));
+    SET_REFUSED(0, 64, LEPUGASO_REFUSED_NOT_STORABLE, 0, WHOLE, WORDS(1));
+    SET_REFUSED(22, 64, LEPUGASO_REFUSED_NOT_STORABLE, 0, PATH(M(0)), WORDS(1));
+    SET_REFUSED(23, 64, LEPUGASO_REFUSED_NOT_STORABLE, 0, PATH(0, 0), WORDS(1));
+    SET_REFUSED(6, 64, LEPUGASO_REFUSED_NOT_STORABLE, 0, PATH(0), WORDS(1));
+    SET_REFUSED(26, 64, LEPUGASO_REFUSED_NOT_STORABLE, 0, PATH(3, 2), WORDS(1));
+    SET_REFUSED(27, 64, LEPUGASO_REFUSED_NOT_STORABLE, 0, PATH(0, 0), WORDS(1));
+    SET_REFUSED(28, 64, LEPUGASO_REFUSED_NOT_STORABLE, 0, PATH(M(0), 1), WORDS(1));
+    SET_REFUSED(29, 64, LEPUGASO_REFUSED_NOT_STORABLE, 0, PATH(M(0)), WORDS(1));
+    SET_REFUSED(2, 3, LEPUGASO_REFUSED_SHORT_BUFFER, 0, WHOLE, WORDS(1));
+    SET_REFUSED(11, 47, LEPUGASO_REFUSED_SHORT_BUFFER, 0, PATH(0, 0), WORDS(1));
+    SET_REFUSED(18, 31, LEPUGASO_REFUSED_SHORT_BUFFER, 0, PATH(M(0)), WORDS(1));
+    SET_REFUSED(16, 32, LEPUGASO_REFUSED_MEMBER_STEP, 0, PATH(M(3)), WORDS(1));
+    SET_REFUSED(18, 47, LEPUGASO_REFUSED_INDEX, 1, PATH(M(1), 1, 0), WORDS(1));
+    SET_REFUSED(11, 48, LEPUGASO_REFUSED_INDEX, 1, PATH(2, 3), WORDS(1));
+    SET_REFUSED(13, 4, LEPUGASO_REFUSED_INDEX_STEP, 0, PATH(0), WORDS(1));
+    SET_REFUSED(8, 12, LEPUGASO_REFUSED_WORDS, 0, WHOLE, WORDS(1));
+    SET_REFUSED(11, 48, LEPUGASO_REFUSED_WORDS, 0, PATH(1), WORDS(1)); /* a column */
+    SET_REFUSED(16, 32, LEPUGASO_REFUSED_WORDS, 0, PATH(M(1)), WORDS(1));
+    SET_REFUSED(18, 48, LEPUGASO_REFUSED_WORDS, 0, PATH(M(1)), WORDS(1));
+    SET_REFUSED(4, 2, LEPUGASO_REFUSED_F16_WORD, 0, WHOLE, WORDS(65536));
+    SET_REFUSED(21, 32, LEPUGASO_REFUSED_F16_WORD, 0, PATH(1, M(2), 2), WORDS(UINT32_MAX));
+    /* Another number of words than the scalar has (E6): of 64 bits two, of any other one. */
+    SET_REFUSED(31, 8, LEPUGASO_REFUSED_WORDS, 0, WHOLE, NO_WORDS);
+    SET_REFUSED(31, 8, LEPUGASO_REFUSED_WORDS, 0, WHOLE, WORDS(1));
+    SET_REFUSED(31, 8, LEPUGASO_REFUSED_WORDS, 0, WHOLE, WORDS(1, 2, 3));
+    SET_REFUSED(32, 8, LEPUGASO_REFUSED_WORDS, 0, WHOLE, WORDS(1));
+    SET_REFUSED(33, 8, LEPUGASO_REFUSED_WORDS, 0, WHOLE, WORDS(1, 2, 3, 4));
+    SET_REFUSED(36, 32, LEPUGASO_REFUSED_WORDS, 0, PATH(3), WORDS(1));
+    SET_REFUSED(38, 24, LEPUGASO_REFUSED_WORDS, 0, PATH(M(2)), WORDS(1));
+    SET_REFUSED(38, 24, LEPUGASO_REFUSED_WORDS, 0, PATH(M(1)), WORDS(1, 2));
+    SET_REFUSED(40, 16, LEPUGASO_REFUSED_WORDS, 0, PATH(1), WORDS(1));
+    SET_REFUSED(1, 4, LEPUGASO_REFUSED_WORDS, 0, WHOLE, NO_WORDS);
+    SET_REFUSED(1, 8, LEPUGASO_REFUSED_WORDS, 0, WHOLE, WORDS(1, 2));
+    SET_REFUSED(3, 8, LEPUGASO_REFUSED_WORDS, 0, WHOLE, WORDS(1, 2));
+    SET_REFUSED(13, 8, LEPUGASO_REFUSED_WORDS, 0, WHOLE, WORDS(1, 2));
+    SET_REFUSED(4, 2, LEPUGASO_REFUSED_WORDS, 0, WHOLE, NO_WORDS);
+    SET_REFUSED(4, 4, LEPUGASO_REFUSED_WORDS, 0, WHOLE, WORDS(1, 2));
+    SET_REFUSED(16, 32, LEPUGASO_REFUSED_WORDS, 0, PATH(M(2)), WORDS(1, 2, 3, 4, 5));
+    /* No single scalar, with as many words as there are. */
+    SET_REFUSED(34, 16, LEPUGASO_REFUSED_WORDS, 0, WHOLE, WORDS(1, 2, 3, 4));
+    SET_REFUSED(38, 24, LEPUGASO_REFUSED_WORDS, 0, WHOLE, WORDS(1, 2, 3, 4, 5));
+    SET_REFUSED(40, 8, LEPUGASO_REFUSED_WORDS, 0, WHOLE, WORDS(1, 2));
+    SET_REFUSED(14, 16, LEPUGASO_REFUSED_WORDS, 0, PATH(M(0)), WORDS(1, 2, 3));
+    SET_REFUSED(35, 24, LEPUGASO_REFUSED_ABSENT, 0, PATH(0), WORDS(1, 2));
+    SET_REFUSED(37, 64, LEPUGASO_REFUSED_ABSENT, 0, PATH(0, 0), WORDS(1, 2));
+    SET_REFUSED(31, 7, LEPUGASO_REFUSED_SHORT_BUFFER, 0, WHOLE, WORDS(1, 2));
+    SET_REFUSED(31, 8, LEPUGASO_REFUSED_INDEX_STEP, 0, PATH(0), WORDS(1));
     /* Of two or more the first by document 01's order. */
-    SET_REFUSED(5, 0, 65536, LEPUGASO_REFUSED_ABSENT, 0, PATH(M(0)));
-    SET_REFUSED(0, 0, 65536, LEPUGASO_REFUSED_NOT_STORABLE, 0, PATH(M(0)));
-    SET_REFUSED(16, 31, 1, LEPUGASO_REFUSED_SHORT_BUFFER, 0, PATH(0));
-    SET_REFUSED(10, 6, 65536, LEPUGASO_REFUSED_INDEX, 0, PATH(3));
-    SET_REFUSED(10, 6, 65536, LEPUGASO_REFUSED_WORDS, 0, WHOLE);
+    SET_REFUSED(NO_ENTRY, 0, LEPUGASO_REFUSED_ENTRY, 0, PATH(0), NO_WORDS);
+    SET_REFUSED(35, 0, LEPUGASO_REFUSED_ABSENT, 0, PATH(3), NO_WORDS);
+    SET_REFUSED(0, 0, LEPUGASO_REFUSED_NOT_STORABLE, 0, PATH(M(0)), NO_WORDS);
+    SET_REFUSED(31, 7, LEPUGASO_REFUSED_SHORT_BUFFER, 0, PATH(0), WORDS(1));
+    SET_REFUSED(34, 16, LEPUGASO_REFUSED_INDEX, 0, PATH(2), WORDS(1, 2, 3));
+    SET_REFUSED(38, 24, LEPUGASO_REFUSED_MEMBER_STEP, 0, PATH(M(3)), NO_WORDS);
+    SET_REFUSED(4, 2, LEPUGASO_REFUSED_WORDS, 0, WHOLE, WORDS(65536, 65536));
+    SET_REFUSED(4, 1, LEPUGASO_REFUSED_SHORT_BUFFER, 0, WHOLE, WORDS(65536, 65536));
+    SET_REFUSED(5, 0, LEPUGASO_REFUSED_ABSENT, 0, PATH(M(0)), WORDS(65536));
+    SET_REFUSED(0, 0, LEPUGASO_REFUSED_NOT_STORABLE, 0, PATH(M(0)), WORDS(65536));
+    SET_REFUSED(16, 31, LEPUGASO_REFUSED_SHORT_BUFFER, 0, PATH(0), WORDS(1));
+    SET_REFUSED(10, 6, LEPUGASO_REFUSED_INDEX, 0, PATH(3), WORDS(65536));
+    SET_REFUSED(10, 6, LEPUGASO_REFUSED_WORDS, 0, WHOLE, WORDS(65536));
 }
 
 /* Lengths above 32 bits are not cut. Of these bytes and words only the first page can be touched. */
@@ -688,11 +876,12 @@ static void long_regions(const uint8_t *file, size_t length) {
     EXPECT(lepugaso_view(file, length, NO_ENTRY, WHOLE, bytes, limit + 1, &part, &part_len), LEPUGASO_REFUSED_ENTRY, 0, 0);
     EXPECT(lepugaso_view(file, length, 5, WHOLE, bytes, limit + 1, &part, &part_len), LEPUGASO_REFUSED_LONG_BUFFER, 0, 0);
     HOLDS(part == bytes && part_len == 0);
-    EXPECT(lepugaso_set(file, length, 17, PATH(255, 3), 9, bytes, limit), 0, 0, PAGE - 4);
+    EXPECT(lepugaso_set(file, length, 17, PATH(255, 3), WORDS(9), bytes, limit), 0, 0, PAGE - 4);
     HOLDS(bytes[PAGE - 4] == 9);
-    EXPECT(lepugaso_set(file, length, 2, WHOLE, 3, bytes, limit + 1), LEPUGASO_REFUSED_LONG_BUFFER, 0, 0);
-    EXPECT(lepugaso_set(file, length, NO_ENTRY, WHOLE, 3, bytes, limit + 1), LEPUGASO_REFUSED_ENTRY, 0, 0);
-    EXPECT(lepugaso_set(file, length, 0, PATH(0), 3, bytes, limit + 1), LEPUGASO_REFUSED_LONG_BUFFER, 0, 0);
+    EXPECT(lepugaso_set(file, length, 2, WHOLE, many, limit + 2, bytes, limit), LEPUGASO_REFUSED_WORDS, 0, 0);
+    EXPECT(lepugaso_set(file, length, 2, WHOLE, WORDS(3), bytes, limit + 1), LEPUGASO_REFUSED_LONG_BUFFER, 0, 0);
+    EXPECT(lepugaso_set(file, length, NO_ENTRY, WHOLE, WORDS(3), bytes, limit + 1), LEPUGASO_REFUSED_ENTRY, 0, 0);
+    EXPECT(lepugaso_set(file, length, 0, PATH(0), WORDS(3), bytes, limit + 1), LEPUGASO_REFUSED_LONG_BUFFER, 0, 0);
     HOLDS(bytes[0] == 2 && many[0] == 2 && many[1] == 0);
     if (munmap(bytes, limit + 1) || munmap(words, room)) exit(2);
 }
@@ -706,6 +895,7 @@ int main(void) {
     uniform_buffers();
     conversions(file, sizeof good);
     vectors_of_bools();
+    wide_layouts();
     stored_values();
     write_refusals();
     read_refusals();

@@ -150,13 +150,19 @@ static const uint8_t types[] = {
     ARRAY(7, 2),      /* 19: of atomic<u32> */
     VECTOR(3, 0),     /* 20: vec3<bool>, not storable */
     STRUCT(9, 2),     /* 21: u32, vec3<bool> */
+    I64,              /* 22 */
+    U64,              /* 23 */
+    F64,              /* 24 */
+    VECTOR(2, 23),    /* 25: vec2<u64> */
+    STRUCT(11, 3),    /* 26: i64, u32, vec2<u64>: at 0, 8, 16; 32 bytes */
     MEMBER(2), MEMBER(8), MEMBER(6), MEMBER(4), MEMBER(3), /* 0 to 4 */
     MEMBER(1), MEMBER(15),                                 /* 5, 6 */
     MEMBER(2), MEMBER(0),                                  /* 7, 8 */
     MEMBER(2), MEMBER(20),                                 /* 9, 10 */
-    TRAILER(22, 11),
+    MEMBER(22), MEMBER(2), MEMBER(25),                     /* 11 to 13 */
+    TRAILER(27, 14),
 };
-enum { NO_ENTRY = 22, MOST = 256 };
+enum { NO_ENTRY = 27, MOST = 256 };
 
 /* What a buffer holds before a call: no two of its bytes are the same. */
 static void fill(uint8_t *buf, size_t length) {
@@ -243,6 +249,7 @@ static void at_paths(void) {
     UNSIGNED_AT(12, 16, 23, PATH(M(1), 0, 1));
     UNSIGNED_AT(16, 16, 24, PATH(M(1), 1, 0));
     UNSIGNED_AT(4, 19, 8, PATH(1));
+    UNSIGNED_AT(8, 26, 32, PATH(M(1)));
 }
 
 /* The numbers of the header, written out: nothing here is the model's. */
@@ -291,6 +298,15 @@ static void refusals(void) {
     REFUSED(12, 32, LEPUGASO_REFUSED_WORDS, 0, PATH(1, 2));
     REFUSED(13, 48, LEPUGASO_REFUSED_WORDS, 0, PATH(M(3)));
     REFUSED(14, 144, LEPUGASO_REFUSED_WORDS, 0, PATH(2, M(4)));
+    /* 64 bits, of an integer too (E6) */
+    REFUSED(22, 8, LEPUGASO_REFUSED_WORDS, 0, WHOLE);
+    REFUSED(23, 8, LEPUGASO_REFUSED_WORDS, 0, WHOLE);
+    REFUSED(24, 8, LEPUGASO_REFUSED_WORDS, 0, WHOLE);
+    REFUSED(25, 16, LEPUGASO_REFUSED_WORDS, 0, PATH(1));
+    REFUSED(26, 32, LEPUGASO_REFUSED_WORDS, 0, PATH(M(0)));
+    REFUSED(26, 32, LEPUGASO_REFUSED_WORDS, 0, PATH(M(2), 0));
+    REFUSED(22, 8, LEPUGASO_REFUSED_INDEX_STEP, 0, PATH(1));
+    REFUSED(22, 7, LEPUGASO_REFUSED_SHORT_BUFFER, 0, WHOLE);
     /* no single scalar */
     REFUSED(8, 12, LEPUGASO_REFUSED_WORDS, 0, WHOLE);
     REFUSED(12, 32, LEPUGASO_REFUSED_WORDS, 0, PATH(1));

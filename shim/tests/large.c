@@ -113,6 +113,7 @@ static void many_words(const uint8_t *file, size_t length) {
 
 static void many_steps(const uint8_t *file, size_t length) {
     const void *steps = lent(path, STEPS * sizeof *path), *too_many = lent(path, sizeof path);
+    const void *word = lent((const uint32_t[]){0x89ABCDEF}, sizeof(uint32_t));
     uint8_t *buf = fresh(SIZE);
     const uint8_t *part;
     size_t part_len;
@@ -123,14 +124,14 @@ static void many_steps(const uint8_t *file, size_t length) {
     HOLDS(part == buf + SIZE - 4 && part_len == 4);
     EXPECT(lepugaso_view(file, length, LAST, too_many, STEPS + 1, buf, SIZE, &part, &part_len), LEPUGASO_REFUSED_INDEX_STEP, STEPS, 0);
     HOLDS(part == buf && part_len == 0);
-    EXPECT(lepugaso_set(file, length, LAST, too_many, STEPS + 1, 7, buf, SIZE), LEPUGASO_REFUSED_INDEX_STEP, STEPS, 0);
+    EXPECT(lepugaso_set(file, length, LAST, too_many, STEPS + 1, word, 1, buf, SIZE), LEPUGASO_REFUSED_INDEX_STEP, STEPS, 0);
     /* Where there are so many steps there is an f32 at the end of them, so no field. */
     EXPECT(lepugaso_extract_bits(file, length, LAST, steps, STEPS, buf, SIZE, 0, 12), LEPUGASO_REFUSED_WORDS, 0, 0);
     EXPECT(lepugaso_insert_bits(file, length, LAST, steps, STEPS, 7, 0, 12, buf, SIZE), LEPUGASO_REFUSED_WORDS, 0, 0);
     EXPECT(lepugaso_extract_bits(file, length, LAST, too_many, STEPS + 1, buf, SIZE, 0, 12), LEPUGASO_REFUSED_INDEX_STEP, STEPS, 0);
     EXPECT(lepugaso_insert_bits(file, length, LAST, too_many, STEPS + 1, 7, 0, 12, buf, SIZE), LEPUGASO_REFUSED_INDEX_STEP, STEPS, 0);
     HOLDS(memcmp(buf, rows, SIZE) == 0);
-    EXPECT(lepugaso_set(file, length, LAST, steps, STEPS, 0x89ABCDEF, buf, SIZE), 0, 0, SIZE - 4);
+    EXPECT(lepugaso_set(file, length, LAST, steps, STEPS, word, 1, buf, SIZE), 0, 0, SIZE - 4);
     HOLDS(memcmp(buf, rows, SIZE - 4) == 0 && memcmp(buf + SIZE - 4, (const uint8_t[]){0xEF, 0xCD, 0xAB, 0x89}, 4) == 0);
 }
 
@@ -159,7 +160,7 @@ static void no_entries(const uint8_t *file, size_t length) {
             NO_ENTRY(lepugaso_write(file, length, entry, word, 1, buf, 4));
             NO_ENTRY(lepugaso_read(file, length, entry, buf, 4, word, 1));
             NO_ENTRY(lepugaso_view(file, length, entry, NULL, 0, buf, 4, &part, &part_len));
-            NO_ENTRY(lepugaso_set(file, length, entry, NULL, 0, 7, buf, 4));
+            NO_ENTRY(lepugaso_set(file, length, entry, NULL, 0, word, 1, buf, 4));
             NO_ENTRY(lepugaso_extract_bits(file, length, entry, NULL, 0, buf, 4, 0, 12));
             NO_ENTRY(lepugaso_insert_bits(file, length, entry, NULL, 0, 7, 0, 12, buf, 4));
             NO_ENTRY(lepugaso_uniform(file, length, entry));
@@ -175,7 +176,8 @@ static const uint8_t few[] = {
     ABSTRACT_INT,    /* 0 */
     I32,             /* 1 */
     ARRAY(1, 70000), /* 2 */
-    TRAILER(3, 0),
+    I64,             /* 3 */
+    TRAILER(4, 0),
 };
 
 /* Lists whose last number decides. */
@@ -189,7 +191,7 @@ static void long_lists(const uint8_t *file) {
         EXPECT(lepugaso_common(file, sizeof few, list, count), 0, 0, 1);
         list[count - 1] = 2;
         EXPECT(lepugaso_common(file, sizeof few, list, count), LEPUGASO_REFUSED_NO_RANK, 0, 0);
-        list[count - 1] = 3;
+        list[count - 1] = 4;
         EXPECT(lepugaso_common(file, sizeof few, list, count), LEPUGASO_REFUSED_ENTRY, 0, 0);
     }
 }
@@ -197,27 +199,28 @@ static void long_lists(const uint8_t *file) {
 /* Steps whose numbers are good only in their low bits, and one whose number has more than 16. */
 static void large_steps(const uint8_t *file, const uint8_t *large) {
     uint32_t *step = (void *)fresh(sizeof *step);
+    const void *word = lent((const uint32_t[]){7}, sizeof(uint32_t));
     uint8_t *buf = fresh(SIZE);
     const uint8_t *part;
     size_t part_len;
     for (uint32_t bit = 17; bit < 31; bit++) {
         *step = 3 + (UINT32_C(1) << bit);
         EXPECT(lepugaso_view(file, sizeof few, 2, step, 1, buf, SIZE, &part, &part_len), LEPUGASO_REFUSED_INDEX, 0, 0);
-        EXPECT(lepugaso_set(file, sizeof few, 2, step, 1, 7, buf, SIZE), LEPUGASO_REFUSED_INDEX, 0, 0);
+        EXPECT(lepugaso_set(file, sizeof few, 2, step, 1, word, 1, buf, SIZE), LEPUGASO_REFUSED_INDEX, 0, 0);
         EXPECT(lepugaso_extract_bits(file, sizeof few, 2, step, 1, buf, SIZE, 0, 12), LEPUGASO_REFUSED_INDEX, 0, 0);
         EXPECT(lepugaso_insert_bits(file, sizeof few, 2, step, 1, 7, 0, 12, buf, SIZE), LEPUGASO_REFUSED_INDEX, 0, 0);
     }
     for (uint32_t bit = 10; bit < 31; bit++) {
         *step = M(3 + (UINT32_C(1) << bit));
         EXPECT(lepugaso_view(large, LENGTH, LAST, step, 1, buf, SIZE, &part, &part_len), LEPUGASO_REFUSED_MEMBER_STEP, 0, 0);
-        EXPECT(lepugaso_set(large, LENGTH, LAST, step, 1, 7, buf, SIZE), LEPUGASO_REFUSED_MEMBER_STEP, 0, 0);
+        EXPECT(lepugaso_set(large, LENGTH, LAST, step, 1, word, 1, buf, SIZE), LEPUGASO_REFUSED_MEMBER_STEP, 0, 0);
         EXPECT(lepugaso_extract_bits(large, LENGTH, LAST, step, 1, buf, SIZE, 0, 12), LEPUGASO_REFUSED_MEMBER_STEP, 0, 0);
         EXPECT(lepugaso_insert_bits(large, LENGTH, LAST, step, 1, 7, 0, 12, buf, SIZE), LEPUGASO_REFUSED_MEMBER_STEP, 0, 0);
     }
     *step = 65536 + 3;
     EXPECT(lepugaso_view(file, sizeof few, 2, step, 1, buf, SIZE, &part, &part_len), 0, 0, 4 * (65536 + 3));
     HOLDS(part == buf + 4 * (65536 + 3) && part_len == 4);
-    EXPECT(lepugaso_set(file, sizeof few, 2, step, 1, 7, buf, SIZE), 0, 0, 4 * (65536 + 3));
+    EXPECT(lepugaso_set(file, sizeof few, 2, step, 1, word, 1, buf, SIZE), 0, 0, 4 * (65536 + 3));
     HOLDS(buf[4 * 3] == 0 && buf[4 * (65536 + 3)] == 7);
     EXPECT(lepugaso_insert_bits(file, sizeof few, 2, step, 1, 4095, 8, 12, buf, SIZE), 0, 0, 4 * (65536 + 3));
     HOLDS(buf[4 * 3 + 1] == 0 && buf[4 * (65536 + 3)] == 7 && buf[4 * (65536 + 3) + 1] == 255);
@@ -237,7 +240,7 @@ static void long_lengths(const uint8_t *file, const uint8_t *large) {
         EXPECT(lepugaso_read(file, sizeof few, 1, bytes, length, &word, 1), 0, 0, 1);
         EXPECT(lepugaso_view(file, sizeof few, 1, NULL, 0, bytes, length, &part, &part_len), 0, 0, 0);
         HOLDS(part == bytes && part_len == 4);
-        EXPECT(lepugaso_set(file, sizeof few, 1, NULL, 0, 7, bytes, length), 0, 0, 0);
+        EXPECT(lepugaso_set(file, sizeof few, 1, NULL, 0, &word, 1, bytes, length), 0, 0, 0);
         EXPECT(lepugaso_insert_bits(file, sizeof few, 1, NULL, 0, 5, 2, 3, bytes, length), 0, 0, 0);
         EXPECT(lepugaso_extract_bits(file, sizeof few, 1, NULL, 0, bytes, length, 0, 8), 0, 0, 0x17);
     }
@@ -245,7 +248,7 @@ static void long_lengths(const uint8_t *file, const uint8_t *large) {
     EXPECT(lepugaso_write(file, sizeof few, 1, &word, 1, bytes, length), LEPUGASO_REFUSED_LONG_BUFFER, 0, 0);
     EXPECT(lepugaso_read(file, sizeof few, 1, bytes, length, &word, 1), LEPUGASO_REFUSED_LONG_BUFFER, 0, 0);
     EXPECT(lepugaso_view(file, sizeof few, 1, NULL, 0, bytes, length, &part, &part_len), LEPUGASO_REFUSED_LONG_BUFFER, 0, 0);
-    EXPECT(lepugaso_set(file, sizeof few, 1, NULL, 0, 7, bytes, length), LEPUGASO_REFUSED_LONG_BUFFER, 0, 0);
+    EXPECT(lepugaso_set(file, sizeof few, 1, NULL, 0, &word, 1, bytes, length), LEPUGASO_REFUSED_LONG_BUFFER, 0, 0);
     EXPECT(lepugaso_insert_bits(file, sizeof few, 1, NULL, 0, 5, 2, 3, bytes, length), LEPUGASO_REFUSED_LONG_BUFFER, 0, 0);
     EXPECT(lepugaso_extract_bits(file, sizeof few, 1, NULL, 0, bytes, length, 0, 8), LEPUGASO_REFUSED_LONG_BUFFER, 0, 0);
 
@@ -253,6 +256,8 @@ static void long_lengths(const uint8_t *file, const uint8_t *large) {
     for (uint32_t bit = 0; bit <= 32; bit++) {
         size_t count = (size_t)1 << bit;
         EXPECT(lepugaso_write(file, sizeof few, 1, many, 1 + count, buf, 4), LEPUGASO_REFUSED_WORDS, 0, 0);
+        EXPECT(lepugaso_set(file, sizeof few, 1, NULL, 0, many, 1 + count, buf, 4), LEPUGASO_REFUSED_WORDS, 0, 0);
+        EXPECT(lepugaso_set(file, sizeof few, 3, NULL, 0, many, 2 + count, buf, 8), LEPUGASO_REFUSED_WORDS, 0, 0);
         EXPECT(lepugaso_read(file, sizeof few, 1, buf, 4, many, count), 0, 0, 1);
         HOLDS(memcmp(many, "abcd", 4) == 0); /* as a number no entry's */
         EXPECT(lepugaso_common(file, sizeof few, many, count), LEPUGASO_REFUSED_ENTRY, 0, 0);
@@ -261,7 +266,7 @@ static void long_lengths(const uint8_t *file, const uint8_t *large) {
     for (uint32_t bit = 0; bit <= 32; bit++) {
         size_t count = STEPS + ((size_t)1 << bit);
         EXPECT(lepugaso_view(large, LENGTH, LAST, many, count, buf, SIZE, &part, &part_len), LEPUGASO_REFUSED_INDEX_STEP, STEPS, 0);
-        EXPECT(lepugaso_set(large, LENGTH, LAST, many, count, 7, buf, SIZE), LEPUGASO_REFUSED_INDEX_STEP, STEPS, 0);
+        EXPECT(lepugaso_set(large, LENGTH, LAST, many, count, &word, 1, buf, SIZE), LEPUGASO_REFUSED_INDEX_STEP, STEPS, 0);
         EXPECT(lepugaso_extract_bits(large, LENGTH, LAST, many, count, buf, SIZE, 0, 12), LEPUGASO_REFUSED_INDEX_STEP, STEPS, 0);
         EXPECT(lepugaso_insert_bits(large, LENGTH, LAST, many, count, 7, 0, 12, buf, SIZE), LEPUGASO_REFUSED_INDEX_STEP, STEPS, 0);
     }

@@ -28,7 +28,7 @@ static void bad_file(const uint8_t *at, size_t length) {
     size_t part_len = 5;
     REFUSED(lepugaso_view(at, length, 0, NULL, 0, bytes, sizeof bytes, &part, &part_len));
     HOLDS(part == NULL && part_len == 5);
-    REFUSED(lepugaso_set(at, length, 0, NULL, 0, 1, buf, sizeof buf));
+    REFUSED(lepugaso_set(at, length, 0, NULL, 0, list, 1, buf, sizeof buf));
     REFUSED(lepugaso_extract_bits(at, length, 0, NULL, 0, bytes, sizeof bytes, 0, 12));
     REFUSED(lepugaso_insert_bits(at, length, 0, NULL, 0, 1, 0, 12, buf, sizeof buf));
     REFUSED(lepugaso_uniform(at, length, 0));
@@ -58,7 +58,7 @@ static void files(void) {
     EXPECT(lepugaso_write(NULL, 0, 0, list, 1, buf, sizeof buf), LEPUGASO_REFUSED_SHORT_FILE, 0, 0);
     EXPECT(lepugaso_read(NULL, 0, 0, buf, sizeof buf, &word, 1), LEPUGASO_REFUSED_SHORT_FILE, 0, 0);
     EXPECT(lepugaso_view(NULL, 0, 0, NULL, 0, buf, sizeof buf, &part, &part_len), LEPUGASO_REFUSED_SHORT_FILE, 0, 0);
-    EXPECT(lepugaso_set(NULL, 0, 0, NULL, 0, 1, buf, sizeof buf), LEPUGASO_REFUSED_SHORT_FILE, 0, 0);
+    EXPECT(lepugaso_set(NULL, 0, 0, NULL, 0, list, 1, buf, sizeof buf), LEPUGASO_REFUSED_SHORT_FILE, 0, 0);
     EXPECT(lepugaso_extract_bits(NULL, 0, 0, NULL, 0, buf, sizeof buf, 0, 12), LEPUGASO_REFUSED_SHORT_FILE, 0, 0);
     EXPECT(lepugaso_insert_bits(NULL, 0, 0, NULL, 0, 1, 0, 12, buf, sizeof buf), LEPUGASO_REFUSED_SHORT_FILE, 0, 0);
     EXPECT(lepugaso_uniform(NULL, 0, 0), LEPUGASO_REFUSED_SHORT_FILE, 0, 0);
@@ -120,8 +120,9 @@ static void overlaps(void) {
     }
 }
 
-/* Words that cannot be, to both calls that take some; and as a path. */
+/* Words that cannot be, to the three calls that take some; and as a path. */
 static void bad_words(uint32_t *at, size_t count) {
+    static const uint32_t word[] = {1};
     uint8_t buf[] = {6, 7, 8, 9};
     const uint8_t *part = NULL;
     size_t part_len = 5;
@@ -134,8 +135,11 @@ static void bad_words(uint32_t *at, size_t count) {
     REFUSED(lepugaso_view(file, sizeof file, 0, at, count, buf, sizeof buf, &part, &part_len));
     REFUSED(lepugaso_view(NULL, 0, 9, at, count, NULL, 0, &part, &part_len));
     HOLDS(part == NULL && part_len == 5);
-    REFUSED(lepugaso_set(file, sizeof file, 0, at, count, 1, buf, sizeof buf));
-    REFUSED(lepugaso_set(NULL, 0, 9, at, count, 1, NULL, 0));
+    REFUSED(lepugaso_set(file, sizeof file, 0, at, count, word, 1, buf, sizeof buf));
+    REFUSED(lepugaso_set(NULL, 0, 9, at, count, word, 1, NULL, 0));
+    REFUSED(lepugaso_set(file, sizeof file, 0, NULL, 0, at, count, buf, sizeof buf));
+    REFUSED(lepugaso_set(NULL, 0, 9, NULL, 0, at, count, NULL, 0));
+    REFUSED(lepugaso_set(file, sizeof file, 0, at, count, at, count, buf, sizeof buf));
     REFUSED(lepugaso_extract_bits(file, sizeof file, 0, at, count, buf, sizeof buf, 0, 12));
     REFUSED(lepugaso_extract_bits(NULL, 0, 9, at, count, NULL, 0, 0, 12));
     REFUSED(lepugaso_insert_bits(file, sizeof file, 0, at, count, 1, 0, 12, buf, sizeof buf));
@@ -156,8 +160,8 @@ static void bad_buffer(uint8_t *at, size_t length) {
     REFUSED(lepugaso_view(file, sizeof file, 0, NULL, 0, at, length, &part, &part_len));
     REFUSED(lepugaso_view(NULL, 0, 9, NULL, 0, at, length, &part, &part_len));
     HOLDS(part == NULL && part_len == 5);
-    REFUSED(lepugaso_set(file, sizeof file, 0, NULL, 0, 1, at, length));
-    REFUSED(lepugaso_set(NULL, 0, 9, NULL, 0, 1, at, length));
+    REFUSED(lepugaso_set(file, sizeof file, 0, NULL, 0, &word, 1, at, length));
+    REFUSED(lepugaso_set(NULL, 0, 9, NULL, 0, NULL, 0, at, length));
     REFUSED(lepugaso_extract_bits(file, sizeof file, 0, NULL, 0, at, length, 0, 12));
     REFUSED(lepugaso_extract_bits(NULL, 0, 9, NULL, 0, at, length, 0, 12));
     REFUSED(lepugaso_insert_bits(file, sizeof file, 0, NULL, 0, 1, 0, 12, at, length));
@@ -228,6 +232,12 @@ static void words_and_buffers(void) {
     EXPECT(lepugaso_read(file, sizeof file, 0, NULL, 0, words, 1), LEPUGASO_REFUSED_SHORT_BUFFER, 0, 0);
     EXPECT(lepugaso_read(file, sizeof file, 0, buf, sizeof buf, NULL, 0), LEPUGASO_REFUSED_WORDS, 0, 0);
     EXPECT(lepugaso_read(file, sizeof file, 0, buf, sizeof buf, (uint32_t *)(UINTPTR_MAX - 3), 0), LEPUGASO_REFUSED_WORDS, 0, 0);
+    EXPECT(lepugaso_set(file, sizeof file, 0, NULL, 0, NULL, 0, buf, sizeof buf), LEPUGASO_REFUSED_WORDS, 0, 0);
+    EXPECT(lepugaso_set(file, sizeof file, 0, words, 0, (uint32_t *)(UINTPTR_MAX - 3), 0, buf, sizeof buf), LEPUGASO_REFUSED_WORDS, 0, 0);
+    EXPECT(lepugaso_set(file, sizeof file, 0, words, 1, NULL, 0, buf, sizeof buf), LEPUGASO_REFUSED_INDEX_STEP, 0, 0);
+    EXPECT(lepugaso_set(file, sizeof file, 0, NULL, 0, NULL, 0, NULL, 0), LEPUGASO_REFUSED_SHORT_BUFFER, 0, 0);
+    EXPECT(lepugaso_set(file, sizeof file, 0, NULL, 0, words, 1, (uint8_t *)UINTPTR_MAX, 0), LEPUGASO_REFUSED_SHORT_BUFFER, 0, 0);
+    HOLDS(buf[0] == 6 && buf[1] == 7 && buf[2] == 8 && buf[3] == 9);
     EXPECT(lepugaso_extract_bits(file, sizeof file, 0, NULL, 0, NULL, 0, 0, 12), LEPUGASO_REFUSED_SHORT_BUFFER, 0, 0);
     EXPECT(lepugaso_insert_bits(file, sizeof file, 0, NULL, 0, 1, 0, 12, NULL, 0), LEPUGASO_REFUSED_SHORT_BUFFER, 0, 0);
     EXPECT(lepugaso_extract_bits(file, sizeof file, 0, words, 0, (uint8_t *)UINTPTR_MAX, 0, 0, 12), LEPUGASO_REFUSED_SHORT_BUFFER, 0, 0);
@@ -238,6 +248,8 @@ static void words_and_buffers(void) {
     EXPECT(lepugaso_write(file, sizeof file, 0, &words[1], 0, (uint8_t *)words, sizeof words), LEPUGASO_REFUSED_WORDS, 0, 0);
     EXPECT(lepugaso_read(file, sizeof file, 0, (uint8_t *)words + 2, 0, words, 1), LEPUGASO_REFUSED_SHORT_BUFFER, 0, 0);
     EXPECT(lepugaso_read((uint8_t *)words + 2, 0, 0, buf, sizeof buf, words, 1), LEPUGASO_REFUSED_SHORT_FILE, 0, 0);
+    EXPECT(lepugaso_set(file, sizeof file, 0, NULL, 0, words, 1, (uint8_t *)words + 2, 0), LEPUGASO_REFUSED_SHORT_BUFFER, 0, 0);
+    EXPECT(lepugaso_set(file, sizeof file, 0, NULL, 0, &words[1], 0, (uint8_t *)words, sizeof words), LEPUGASO_REFUSED_WORDS, 0, 0);
     EXPECT(lepugaso_insert_bits(file, sizeof file, 0, words, 1, 1, 0, 12, (uint8_t *)words + 2, 0), LEPUGASO_REFUSED_SHORT_BUFFER, 0, 0);
     EXPECT(lepugaso_insert_bits((uint8_t *)words + 2, 0, 0, NULL, 0, 1, 0, 12, (uint8_t *)words, 4), LEPUGASO_REFUSED_SHORT_FILE, 0, 0);
 
@@ -246,6 +258,8 @@ static void words_and_buffers(void) {
     HOLDS(buf[0] == 6 && buf[1] == 1 && buf[4] == 0);
     EXPECT(lepugaso_read(file, sizeof file, 0, buf + 1, 4, &words[2], 1), 0, 0, 1);
     HOLDS(words[0] == 1 && words[1] == 2 && words[2] == 1);
+    EXPECT(lepugaso_set(file, sizeof file, 0, NULL, 0, words, 1, buf + 1, 4), 0, 0, 0);
+    HOLDS(buf[0] == 6 && buf[1] == 1 && buf[4] == 0);
     EXPECT(lepugaso_insert_bits(file, sizeof file, 0, NULL, 0, 0xFFFFFFFF, 8, 24, buf + 1, 4), 0, 0, 0);
     HOLDS(buf[0] == 6 && buf[1] == 1 && buf[2] == 255 && buf[4] == 255);
     EXPECT(lepugaso_extract_bits(file, sizeof file, 0, NULL, 0, buf + 1, 4, 0, 12), 0, 0, 0xF01);
@@ -296,19 +310,23 @@ static void writable_overlaps(void) {
     }
 }
 
-/* The same of a set and an insertion, whose path of one step is read, and of each place for a view's part: with a path and a buffer behind
- * the file. */
+/* The same of a set and an insertion, whose path of one step is read, and of a set its word too; and of each place for a view's part: with
+ * a path and a buffer behind the file. */
 static void path_overlaps(void) {
-    enum { EIGHT = 8, BUF_AT = 108, OUT = 8 };
+    enum { EIGHT = 8, WORD_AT = 124, BUF_AT = 108, OUT = 8 };
     for (size_t at = 0; at + EIGHT + 4 <= MEMORY; at++) {
         union memory m = filled_memory(), expected;
         m.words[READ_AT / 4] = 1;
+        m.words[WORD_AT / 4] = 0x04030201;
         expected = m;
-        int shared = shares(at, EIGHT + SPARE, FILE_AT, sizeof pair) || shares(at, EIGHT + SPARE, READ_AT, 4);
+        int shared = shares(at, EIGHT + SPARE, FILE_AT, sizeof pair) || shares(at, EIGHT + SPARE, READ_AT, 4) ||
+                     shares(at, EIGHT + SPARE, WORD_AT, 4);
         if (!shared) memcpy(expected.bytes + at + 4, "\1\2\3\4", 4);
-        EXPECT(lepugaso_set(m.bytes + FILE_AT, sizeof pair, 1, &m.words[READ_AT / 4], 1, 0x04030201, m.bytes + at, EIGHT + SPARE),
+        EXPECT(lepugaso_set(m.bytes + FILE_AT, sizeof pair, 1, &m.words[READ_AT / 4], 1, &m.words[WORD_AT / 4], 1, m.bytes + at,
+                            EIGHT + SPARE),
                shared ? LEPUGASO_BAD_POINTER : 0, 0, shared ? 0 : 4);
         HOLDS(memcmp(&m, &expected, sizeof m) == 0);
+        shared = shares(at, EIGHT + SPARE, FILE_AT, sizeof pair) || shares(at, EIGHT + SPARE, READ_AT, 4);
         if (!shared) memcpy(expected.bytes + at + 5, "\6\7", 2);
         EXPECT(lepugaso_insert_bits(m.bytes + FILE_AT, sizeof pair, 1, &m.words[READ_AT / 4], 1, 0x0706, 8, 16, m.bytes + at,
                                     EIGHT + SPARE),
@@ -333,6 +351,25 @@ static void path_overlaps(void) {
     }
 }
 
+/* And of a set of 64 bits: every word that is lent counts, whether there are two, which are set, or more or fewer. */
+static void wide_overlaps(void) {
+    static const uint8_t wide[] = {I64, TRAILER(1, 0)};
+    enum { EIGHT = 8 };
+    for (size_t at = 0; at + EIGHT + SPARE <= MEMORY; at++) {
+        for (size_t count = 0; count <= 3; count++) {
+            union memory m = filled_memory(), expected;
+            memcpy(m.bytes + FILE_AT, wide, sizeof wide);
+            expected = m;
+            int shared = shares(at, EIGHT + SPARE, FILE_AT, sizeof wide) || (count && shares(at, EIGHT + SPARE, READ_AT, 4 * count));
+            if (!shared && count == 2) memcpy(expected.bytes + at, m.bytes + READ_AT, EIGHT);
+            uint32_t refusal = shared ? LEPUGASO_BAD_POINTER : count == 2 ? 0 : LEPUGASO_REFUSED_WORDS;
+            EXPECT(lepugaso_set(m.bytes + FILE_AT, sizeof wide, 0, NULL, 0, &m.words[READ_AT / 4], count, m.bytes + at, EIGHT + SPARE),
+                   refusal, 0, 0);
+            HOLDS(memcmp(&m, &expected, sizeof m) == 0);
+        }
+    }
+}
+
 /* What is only read may overlap: words, and a buffer, that lie within the file. */
 static void read_only_overlaps(void) {
     union memory m = filled_memory();
@@ -352,6 +389,14 @@ static void read_only_overlaps(void) {
     EXPECT(lepugaso_view(m.bytes + FILE_AT, sizeof pair, 1, &m.words[FILE_AT / 4 + 1], 1, m.bytes + FILE_AT, sizeof pair, &part, &part_len),
            0, 0, 0);
     HOLDS(part == m.bytes + FILE_AT && part_len == 4);
+    /* A path and the word to be set at it, both in the file, and in the same place: its second word is 0, its fourth the vector's. */
+    memset(buf, 9, sizeof buf);
+    EXPECT(lepugaso_set(m.bytes + FILE_AT, sizeof pair, 1, &m.words[FILE_AT / 4 + 1], 1, &m.words[FILE_AT / 4 + 3], 1, buf, sizeof buf), 0,
+           0, 0);
+    HOLDS(memcmp(buf, pair + 12, 4) == 0 && buf[4] == 9);
+    EXPECT(lepugaso_set(m.bytes + FILE_AT, sizeof pair, 1, &m.words[FILE_AT / 4 + 1], 1, &m.words[FILE_AT / 4 + 1], 1, buf, sizeof buf), 0,
+           0, 0);
+    HOLDS(memcmp(buf, pair + 4, 4) == 0 && buf[4] == 9);
     /* And a field of the file itself, by a path in it: its first byte is U32's kind. */
     EXPECT(lepugaso_extract_bits(m.bytes + FILE_AT, sizeof pair, 1, &m.words[FILE_AT / 4 + 1], 1, m.bytes + FILE_AT, sizeof pair, 1, 31), 0,
            0, 1);
@@ -366,6 +411,7 @@ int main(void) {
     parts();
     writable_overlaps();
     path_overlaps();
+    wide_overlaps();
     read_only_overlaps();
     return failures != 0;
 }
