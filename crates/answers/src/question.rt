@@ -88,13 +88,22 @@ fn answer_view(file: &[u8], entry: u32, path: &[u32], held: &[u8]) {
 }
 
 // Sets a scalar in a copy of the buffer, and says what the copy holds then.
-fn answer_set(file: &[u8], entry: u32, word: u32, path: &[u32], held: &[u8]) {
+fn answer_set(file: &[u8], entry: u32, path: &[u32], words: &[u32], held: &[u8]) {
     let mut buffer = io::buffer();
     let p = copy(held, &mut buffer);
     let n = p.count;
-    say_plain(set(file, entry, path, word, &mut buffer[..n]));
+    say_plain(set(file, entry, path, words, &mut buffer[..n]));
     say_bytes(&buffer[..n]);
     say(b"\n");
+}
+
+// The same, where the first `count` numbers are the words and the others the path.
+fn answer_set_of(file: &[u8], entry: u32, count: u32, ns: &[u32], held: &[u8]) {
+    let words = count as usize;
+    if ns.len() < words {
+        return say(b"not a question\n");
+    }
+    answer_set(file, entry, &ns[words..], &ns[..words], held);
 }
 
 // Says the field of a scalar in the buffer.
@@ -193,7 +202,7 @@ pub fn answer_line(file: &[u8], held: &[u8], line: &[u8], word: usize)
     }
     if 1 < n {
         if same(&line[..word], b"set") {
-            return answer_set(file, ns[0], ns[1], &ns[2..n], held);
+            return answer_set_of(file, ns[0], ns[1], &ns[2..n], held);
         }
     }
     if 2 < n {
