@@ -57,7 +57,7 @@ pub record AllCross (f : List ℕ) : Type 0 where
   pub read : (e : ℕ) (b ws : List ℕ) → CrossesWhole (answerOf (readCall f e b ws))
   pub write : (e : ℕ) (ws b : List ℕ) → CrossesWhole (answerOf (writeCall f e ws b))
   pub view : (e : ℕ) (steps b : List ℕ) → CrossesWhole (offsetOf (viewCall f e steps b))
-  pub set : (e : ℕ) (steps : List ℕ) (w : ℕ) (b : List ℕ) → CrossesWhole (answerOf (setCall f e steps w b))
+  pub set : (e : ℕ) (steps ws b : List ℕ) → CrossesWhole (answerOf (setCall f e steps ws b))
   pub extract : (e : ℕ) (steps b : List ℕ) (offset count : ℕ) → CrossesWhole (extractCall f e steps b offset count)
   pub insert : (e : ℕ) (steps : List ℕ) (new offset count : ℕ) (b : List ℕ) → CrossesWhole (answerOf (insertCall f e steps new offset count b))
   pub uniform : (e : ℕ) → CrossesWhole (uniformCall f e)
