@@ -27,6 +27,10 @@ const PLAN: Plan = Plan {
     uniforms: 20_000,
     bool_edges: 1,
     bools: 6000,
+    long_small: 3,
+    long_edges: 1,
+    long_counts: 1,
+    longs: 12_000,
 };
 
 const RECORDED: Plan = Plan {
@@ -43,7 +47,11 @@ const RECORDED: Plan = Plan {
     packed: 1,
     uniforms: 40,
     bool_edges: 16,
-    bools: 6,
+    bools: 3,
+    long_small: 0,
+    long_edges: 100,
+    long_counts: 2,
+    longs: 3,
 };
 
 fn read(path: &str) -> String {
@@ -89,6 +97,7 @@ pub fn ask(seed: u64, document: &str, folder: &str) -> bool {
     generate::field_blocks(seed, &PLAN, &mut put);
     generate::uniform_blocks(seed, &PLAN, &mut put);
     generate::bool_blocks(seed, &PLAN, &mut put);
+    generate::long_blocks(seed, &PLAN, &mut put);
     flush(&mut text);
     println!("{files:9} files in all, seed {seed}");
     true
@@ -216,6 +225,7 @@ pub fn record(document: &str, folder: &str) -> bool {
     generate::field_blocks(1, &RECORDED, |b| blocks.push(b));
     generate::uniform_blocks(1, &RECORDED, |b| blocks.push(b));
     generate::bool_blocks(1, &RECORDED, |b| blocks.push(b));
+    generate::long_blocks(1, &RECORDED, |b| blocks.push(b));
     let questions = blocks.iter().fold(format!("{HEAD}\n"), |s, b| s + &b.lines());
     let rust = answer(&questions);
     let mut rust = rust.lines();

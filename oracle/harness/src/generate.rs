@@ -54,10 +54,14 @@ fn structure(t: &Table, ms: Vec<Member>) -> Choice {
     (entry(12, 0, 0, t.members.len() as u16, ms.len() as u32), ms)
 }
 
-/// Every choice of the menu for the next entry.
-fn menu(t: &Table) -> Vec<Choice> {
+/// The kinds of scalars that have at most 32 bits, and of those that have 64.
+const SHORT: [u8; 7] = [0, 1, 2, 3, 4, 5, 6];
+const LONG: [u8; 3] = [13, 14, 15];
+
+/// Every choice of the menu for the next entry, with these scalars.
+fn menu(t: &Table, kinds: &[u8]) -> Vec<Choice> {
     let k = t.entries.len() as u16;
-    let mut list: Vec<Choice> = (0..=6).map(scalar).collect();
+    let mut list: Vec<Choice> = kinds.iter().map(|kind| scalar(*kind)).collect();
     let given = [(None, None), (Some(20), None), (None, Some(16)), (Some(20), Some(32))];
     for r in 0..k {
         for rows in 2..=4 {
@@ -81,24 +85,29 @@ fn menu(t: &Table) -> Vec<Choice> {
     list
 }
 
-/// Every accepted table of at most `most` entries over the menu.
+/// Every accepted table of at most `most` entries over the menu without scalars of 64 bits.
 pub fn small(most: usize) -> Vec<Table> {
-    fn grow(t: &Table, laid: &[Laid], most: usize, found: &mut Vec<Table>) {
+    small_over(most, &SHORT)
+}
+
+/// Every accepted table of at most `most` entries over the menu with these scalars.
+fn small_over(most: usize, kinds: &[u8]) -> Vec<Table> {
+    fn grow(t: &Table, laid: &[Laid], most: usize, kinds: &[u8], found: &mut Vec<Table>) {
         if laid.len() == most {
             return;
         }
-        for choice in menu(t) {
+        for choice in menu(t, kinds) {
             let t = with(t, &choice);
             if let Ok(l) = model::lay(&t, laid, laid.len()) {
                 let mut laid = laid.to_vec();
                 laid.push(l);
-                grow(&t, &laid, most, found);
+                grow(&t, &laid, most, kinds, found);
                 found.push(t);
             }
         }
     }
     let mut found = Vec::new();
-    grow(&Table::default(), &[], most, &mut found);
+    grow(&Table::default(), &[], most, kinds, &mut found);
     found
 }
 
@@ -195,6 +204,9 @@ fn edges(r: &mut Random, good: &Good, e: usize, n: u64) -> Vec<Question> {
 
 const MEMBER: u32 = 1 << 31;
 
+/// The kinds of scalars of at most 32 bits that may be stored.
+const STORED: [u8; 4] = [1, 2, 3, 4];
+
 /// A good step from where a path stands, if there is any.
 fn step(r: &mut Random, good: &Good, stand: Stand, n: u64) -> Option<u32> {
     let one_of = |r: &mut Random, count: u64| {
@@ -249,12 +261,19 @@ fn any_path(r: &mut Random, good: &Good, e: usize, n: u64) -> Vec<u32> {
     path
 }
 
+/// As many of two words as the scalar takes that a path leads to; one where it leads to none.
+fn words_to_set(good: &Good, e: usize, n: u64, path: &[u32], words: [u32; 2]) -> Vec<u32> {
+    let scalar = good.walk(e, n, path).ok().and_then(|t| good.scalar(t.stand));
+    words[..scalar.map_or(1, |s| good.laid[s].words as usize)].to_vec()
+}
+
 /// Views and sets of entry `e` with `n` elements: the whole, scalars, parts, each sort of bad step at any place, each edge of the bytes.
 fn path_edges(r: &mut Random, good: &Good, e: usize, n: u64) -> Vec<Question> {
     let (extent, entry) = (good.extent(e, n), e as u32);
     if extent > MOST_BYTES - 12 || !good.has_layout(e) {
         let path = good_path(r, good, e, n, 2);
-        return vec![Question::View(entry, path.clone(), bytes(r, 9)), Question::Set(entry, 1, path, bytes(r, 9))];
+        let set = |r: &mut Random, path| Question::Set(entry, vec![1], path, bytes(r, 9));
+        return vec![Question::View(entry, path.clone(), bytes(r, 9)), set(r, path)];
     }
     let more = 1 + r.below(9);
     let reached = if good.laid[e].open { rows::start(good, e) } else { rows::reach(good, e) };
@@ -264,8 +283,9 @@ fn path_edges(r: &mut Random, good: &Good, e: usize, n: u64) -> Vec<Question> {
         let words = any_words(r, 2);
         let word = r.of(&[words[0], words[1] % 65_536, 65_535, 65_536, u32::MAX]);
         let buffer = &room[..length as usize];
+        let set = words_to_set(good, e, n, &path, [word, words[0]]);
         qs.push(Question::View(entry, path.clone(), buffer.to_vec()));
-        qs.push(Question::Set(entry, word, path, buffer.to_vec()));
+        qs.push(Question::Set(entry, set, path, buffer.to_vec()));
     };
     ask(r, vec![], extent);
     for length in [extent, extent.saturating_sub(1), reached, extent + more] {
@@ -322,9 +342,10 @@ fn faulty(r: &mut Random, good: Option<&Good>, entry: u32) -> Question {
 /// A view or a set at a path that may be bad, of a buffer that may be short; of a small value mostly.
 fn faulty_path(r: &mut Random, good: Option<&Good>, entry: u32) -> Question {
     let (mut path, mut length) = ((0..r.below(3)).map(|_| r.of(&[0, 1, MEMBER])).collect(), r.below(20));
-    if let Some(good) = good.filter(|g| (entry as usize) < g.laid.len()) {
-        let e = entry as usize;
-        let n = if good.laid[e].open { r.of(&[0, 1, 1, 2, 3, 7]) } else { 0 };
+    let good = good.filter(|g| (entry as usize) < g.laid.len());
+    let (e, mut n) = (entry as usize, 0);
+    if let Some(good) = good {
+        n = if good.laid[e].open { r.of(&[0, 1, 1, 2, 3, 7]) } else { 0 };
         let most = if r.one_in(40) { MOST_BYTES } else { FEW_BYTES };
         if good.extent(e, n) <= most {
             length = good.extent(e, n);
@@ -340,7 +361,8 @@ fn faulty_path(r: &mut Random, good: Option<&Good>, entry: u32) -> Question {
         return Question::View(entry, path, buffer);
     }
     let word = r.of(&[words[0], words[1] % 65_536, words[1] % 65_536, 65_536]);
-    Question::Set(entry, word, path, buffer)
+    let set = good.map_or(vec![word], |good| words_to_set(good, e, n, &path, [word, words[0]]));
+    Question::Set(entry, set, path, buffer)
 }
 
 /// `n` questions of any sort; now and then an entry that is not there.
@@ -536,11 +558,11 @@ fn random_member(r: &mut Random, laid: &[Laid], ty: u16) -> Member {
     member(ty, size, align)
 }
 
-/// A choice for the next entry that may or may not be accepted; references are mostly to the last entries.
-fn random_choice(r: &mut Random, t: &Table, laid: &[Laid]) -> Choice {
+/// A choice for the next entry that may or may not be accepted, of these scalars; references are mostly to the last entries.
+fn random_choice(r: &mut Random, t: &Table, laid: &[Laid], kinds: &[u8]) -> Choice {
     let k = laid.len() as u64;
     if k == 0 || r.one_in(4) {
-        return scalar(r.below(7) as u8);
+        return scalar(r.of(kinds));
     }
     let lower = |r: &mut Random| if r.one_in(2) { r.below(k) } else { k - 1 - r.below(k.min(3)) } as u16;
     let reference = lower(r);
@@ -567,16 +589,16 @@ fn random_choice(r: &mut Random, t: &Table, laid: &[Laid]) -> Choice {
     }
 }
 
-/// An accepted table of `types` entries and at most `most` members.
+/// An accepted table of `types` entries and at most `most` members, without scalars of 64 bits.
 pub fn random(r: &mut Random, types: usize, most: usize) -> Table {
-    random_over(r, Table::default(), types, most)
+    random_over(r, Table::default(), types, most, &SHORT)
 }
 
-/// Such a table over the entries of an accepted one.
-fn random_over(r: &mut Random, mut t: Table, types: usize, most: usize) -> Table {
+/// Such a table over the entries of an accepted one, of these scalars.
+fn random_over(r: &mut Random, mut t: Table, types: usize, most: usize, kinds: &[u8]) -> Table {
     let mut laid = model::check(&t.write(&[])).map_or(vec![], |good| good.laid);
     while laid.len() < types {
-        let choice = random_choice(r, &t, &laid);
+        let choice = random_choice(r, &t, &laid, kinds);
         if t.members.len() + choice.1.len() > most {
             continue;
         }
@@ -639,10 +661,10 @@ fn worked() -> Vec<Table> {
     ]
 }
 
-/// An accepted table whose last entry, mostly a small value, has paths of many steps: each entry within the next. Now and then as deep as
-/// a table can be.
-fn nested(r: &mut Random) -> Table {
-    let bottom = 1 + r.below(4) as u8;
+/// An accepted table whose last entry, mostly a small value, has paths of many steps: each entry within the next, the first a scalar of
+/// one of these kinds. Now and then as deep as a table can be.
+fn nested(r: &mut Random, kinds: &[u8]) -> Table {
+    let bottom = r.of(kinds);
     let mut t = with(&Table::default(), &scalar(bottom));
     let depth = if r.one_in(32) { 256 } else { 3 + r.below(20) as usize };
     let most = if r.one_in(32) { MOST_BYTES - 500 } else { FEW_BYTES };
@@ -652,7 +674,9 @@ fn nested(r: &mut Random) -> Table {
         let choice = match r.below(4) {
             _ if k == 1 && bottom < 3 && r.one_in(3) => (entry(11, 0, 0, 0, 0), vec![]),
             _ if k == 1 && r.one_in(2) => (entry(7, 0, 2 + r.below(3) as u8, 0, 0), vec![]),
-            _ if k == 1 && bottom >= 3 => (entry(8, 2 + r.below(3) as u8, 2 + r.below(3) as u8, 0, 0), vec![]),
+            _ if k == 1 && [3, 4].contains(&bottom) => {
+                (entry(8, 2 + r.below(3) as u8, 2 + r.below(3) as u8, 0, 0), vec![])
+            }
             0 => (entry(9, 0, 0, k - 1, if size < most / 4 { 1 + r.below(4) as u32 } else { 1 }), vec![]),
             _ => {
                 let mut ms = vec![random_member(r, &good.laid, k - 1)];
@@ -665,7 +689,7 @@ fn nested(r: &mut Random) -> Table {
         };
         let grown = with(&t, &choice);
         match model::lay(&grown, &good.laid, k as usize) {
-            Ok(l) if l.size.is_some_and(|s| s <= most) => t = grown,
+            Ok(l) if l.size.is_some_and(|s| s <= most) && l.align.is_some() => t = grown,
             // what does not fit is tried again, or left where nothing may fit any more
             _ if size > most / 2 => break,
             _ => {}
@@ -817,6 +841,185 @@ fn bool_edges() -> Vec<Table> {
     ]
 }
 
+/// Every scalar, and vectors and arrays of abstract ones beside those of 64 bits: what ranks to what.
+fn long_ranks() -> Vec<Table> {
+    let over = |kind, rows, reference, count| (entry(kind, 0, rows, reference, count), vec![]);
+    let (vector, array, runtime) = (|rows, of| over(7, rows, of, 0), |of| over(9, 0, of, 2), |of| over(10, 0, of, 0));
+    vec![
+        table(&[LONG.map(scalar).to_vec(), SHORT.map(scalar).to_vec()].concat()),
+        table(&[scalar(13), scalar(5), vector(2, 0), vector(2, 1), vector(3, 0), vector(3, 1), array(2), array(3)]),
+        table(&[scalar(15), scalar(15), vector(4, 0), vector(4, 1), runtime(2), runtime(3)]),
+    ]
+}
+
+/// Scalars of 64 bits: alone, in vectors, arrays and structs, beside others; and what they are refused in.
+fn long_edges() -> Vec<Table> {
+    let over = |kind, reference, count| (entry(kind, 0, 0, reference, count), vec![]);
+    let (array, runtime, atomic) = (|of, count| over(9, of, count), |of| over(10, of, 0), |of| over(11, of, 0));
+    let vector = |rows, of| (entry(7, 0, rows, of, 0), vec![]);
+    let of = |ms: Vec<Member>| (entry(12, 0, 0, 0, 0), ms);
+    let all = |types: &[u16]| of(types.iter().map(|ty| member(*ty, None, None)).collect());
+    let (sized, aligned) = (|ty, n| member(ty, Some(n), None), |ty, n| member(ty, None, Some(n)));
+    // 0 is i64, 1 f16, 2 u32
+    let after = |more: &[Choice]| table(&[&[scalar(13), scalar(4), scalar(2)], more].concat());
+    let mut list = vec![
+        // an f16 after an i64, before it and between two
+        after(&[all(&[0, 1]), all(&[1, 0]), all(&[0, 1, 0, 1]), array(5, 2)]),
+        after(&[all(&[2, 0]), all(&[0, 2]), array(3, 2), array(4, 3)]),
+        after(&[vector(2, 0), vector(4, 0), all(&[1, 3, 2, 4, 0])]),
+        after(&[array(0, 3), array(3, 2), all(&[1, 3]), all(&[2, 4, 1])]),
+        // runtime arrays
+        after(&[runtime(0), all(&[3]), all(&[2, 3]), all(&[1, 0, 3])]),
+        after(&[all(&[0, 1]), runtime(3), all(&[2, 4])]),
+        after(&[all(&[1, 0]), runtime(3), runtime(1), all(&[0, 5])]),
+        after(&[vector(2, 0), runtime(3), all(&[0, 4]), of(vec![member(2, None, None), aligned(4, 32)])]),
+        // given sizes and aligns, on each side of an edge
+        after(&[of(vec![sized(0, 8), member(2, None, None)]), of(vec![sized(0, 9), member(1, None, None)])]),
+        after(&[of(vec![sized(0, 12), member(2, None, None)]), of(vec![member(2, None, None), aligned(0, 16)])]),
+        after(&[of(vec![sized(0, 7)])]),
+        after(&[of(vec![aligned(0, 4)])]),
+        after(&[of(vec![aligned(0, 8), aligned(2, 8)])]),
+        // the largest array, and the next
+        after(&[array(0, 536_870_911)]),
+        after(&[array(0, 536_870_912)]),
+        after(&[vector(4, 0), array(3, 134_217_727)]),
+        after(&[vector(4, 0), array(3, 134_217_728)]),
+        // in a uniform buffer: elements every 8, 16 and 32 bytes
+        after(&[array(0, 2), vector(2, 0), array(4, 2), vector(4, 0), array(6, 2), all(&[0, 5, 7]), all(&[0, 3])]),
+        // a vector of three, and arrays of it; no member, no runtime array's element
+        after(&[vector(3, 0), array(3, 1), array(4, 2)]),
+        table(&[scalar(14), vector(3, 0), array(1, 2)]),
+        table(&[scalar(15), vector(3, 0), vector(4, 0)]),
+        after(&[vector(3, 0), all(&[3])]),
+        after(&[vector(3, 0), of(vec![member(3, Some(24), Some(32))])]),
+        after(&[vector(3, 0), array(3, 2), of(vec![member(4, Some(64), Some(32)), member(2, None, None)])]),
+        after(&[vector(3, 0), runtime(3)]),
+        after(&[vector(3, 0), array(3, 2), runtime(4)]),
+        // no atomic, no matrix, no vector of vectors, no array of runtime arrays
+        after(&[atomic(0)]),
+        table(&[scalar(14), atomic(0)]),
+        after(&[(entry(8, 2, 2, 0, 0), vec![])]),
+        table(&[scalar(15), (entry(8, 2, 2, 0, 0), vec![])]),
+        table(&[scalar(15), (entry(8, 4, 3, 0, 0), vec![])]),
+        after(&[vector(2, 0), vector(2, 3)]),
+        after(&[vector(1, 0)]),
+        after(&[vector(5, 0)]),
+        after(&[runtime(0), array(3, 2)]),
+        after(&[array(0, 0)]),
+    ];
+    // kinds that are none, and fields that such a scalar does not use
+    list.extend([16, 17, 127, 128, 255].map(|kind| table(&[scalar(kind)])));
+    for kind in LONG {
+        let unused = [entry(kind, 1, 0, 0, 0), entry(kind, 0, 2, 0, 0), entry(kind, 0, 0, 0, 1)];
+        list.extend(unused.map(|e| table(&[(e, vec![])])));
+        list.push(table(&[scalar(2), (entry(kind, 0, 0, 1, 0), vec![])]));
+    }
+    list
+}
+
+/// Values of 64 bits that are special to an integer or to a float, low word first: as words, as bytes, and set.
+fn long_values(e: u32) -> Vec<Question> {
+    let special = [
+        [0, 0],
+        [1, 0],
+        [0, 1],
+        [u32::MAX, u32::MAX],
+        [0, 0x8000_0000],
+        [u32::MAX, 0x7fff_ffff],
+        [0x8000_0000, 0],
+        // a float's least, an infinite one, NaNs of both sorts
+        [1, 0x8000_0000],
+        [0, 0x7ff0_0000],
+        [1, 0x7ff0_0000],
+        [0xdead_beef, 0xfff7_ffff],
+        [0, 0xfff8_0000],
+    ];
+    let room = vec![0xa5; 9];
+    let mut qs: Vec<Question> = special.map(|words| Question::Write(e, words.to_vec(), room.clone())).to_vec();
+    qs.extend(special.map(|words| Question::Set(e, words.to_vec(), vec![], room.clone())));
+    qs.extend(special.map(|words| Question::Read(e, vec![7; 3], words.map(u32::to_le_bytes).concat())));
+    qs
+}
+
+/// Writes and reads of entry `e` with `n` elements, of a word fewer and more and of a byte fewer, and of a word that no f16 has; views and
+/// sets by 0 to 3 words at some of its scalars and of the whole. Of a small value alone.
+fn counted(r: &mut Random, good: &Good, e: usize, n: u64) -> Vec<Question> {
+    let (count, extent, entry) = (good.words(e, n), good.extent(e, n), e as u32);
+    if count > FEW_WORDS || extent > FEW_BYTES {
+        return vec![];
+    }
+    let room = bytes(r, extent);
+    let words: Vec<u32> = (1..=count as u32 + 1).collect();
+    let half = good.places(e, n, 0).iter().rposition(|p| p.width == 2);
+    let mut qs = Vec::new();
+    for count in [count - 1, count, count + 1].map(|n| n as usize) {
+        qs.push(Question::Write(entry, words[..count].to_vec(), room.clone()));
+        qs.push(Question::Read(entry, vec![9; count], room.clone()));
+    }
+    if let Some(half) = half {
+        let mut words = words[..count as usize].to_vec();
+        words[half] = 65_536;
+        qs.push(Question::Write(entry, words, room.clone()));
+    }
+    let mut paths = scalar_paths(good, e, n, &[]);
+    while paths.len() > 3 {
+        paths.remove(r.below(paths.len() as u64) as usize);
+    }
+    if !paths.contains(&vec![]) {
+        paths.push(vec![]);
+    }
+    for path in paths {
+        qs.push(Question::View(entry, path.clone(), room.clone()));
+        for count in 0..4 {
+            qs.push(Question::Set(entry, words[..count.min(words.len())].to_vec(), path.clone(), room.clone()));
+        }
+    }
+    qs.push(Question::Write(entry, words[..count as usize].to_vec(), room[1..].to_vec()));
+    qs.push(Question::Read(entry, vec![9; count as usize], room[1..].to_vec()));
+    qs
+}
+
+/// What is asked of a vector of three scalars of 64 bits and of arrays of it, which have no layout: of the words and bytes that one would
+/// have, and of fewer and more.
+fn without_layout(r: &mut Random, good: &Good, e: usize) -> Vec<Question> {
+    let (count, size, entry) = (good.words(e, 0), good.extent(e, 0), e as u32);
+    let room = bytes(r, if size == 0 { 96 } else { size + 3 });
+    if size == 0 {
+        let all = [1, 2].map(|n| Question::Set(entry, vec![7; n], vec![0, 1], room.clone()));
+        let viewed = [vec![], vec![0], vec![0, 2]].map(|path| Question::View(entry, path, room.clone()));
+        let words =
+            [Question::Write(entry, any_words(r, count), room.clone()), Question::Read(entry, vec![7; 24], room)];
+        return [all.to_vec(), viewed.to_vec(), words.to_vec()].concat();
+    }
+    let mut qs = Vec::new();
+    for length in [size - 1, size, size + 3].map(|n| n as usize) {
+        let buffer = &room[..length];
+        qs.push(Question::Write(entry, any_words(r, count), buffer.to_vec()));
+        qs.push(Question::Read(entry, any_words(r, count), buffer.to_vec()));
+        for path in [vec![], vec![0], vec![2], vec![3], vec![MEMBER], vec![1, 0]] {
+            qs.push(Question::View(entry, path.clone(), buffer.to_vec()));
+            qs.extend([1, 2].map(|n| Question::Set(entry, vec![7; n], path.clone(), buffer.to_vec())));
+        }
+    }
+    for wrong in [0, count.saturating_sub(1), count + 1] {
+        qs.push(Question::Write(entry, any_words(r, wrong), room.clone()));
+        qs.push(Question::Read(entry, any_words(r, wrong), room.clone()));
+    }
+    qs
+}
+
+/// The same questions, but of the sets one of three with another number of words.
+fn recounted(r: &mut Random, questions: Vec<Question>) -> Vec<Question> {
+    let mut again = |q| match q {
+        Question::Set(e, _, path, buffer) if r.one_in(3) => {
+            let count = r.below(4);
+            Question::Set(e, any_words(r, count), path, buffer)
+        }
+        q => q,
+    };
+    questions.into_iter().map(&mut again).collect()
+}
+
 /// A member near a rule of the uniform profile: its size or its align given so that it, or the one after it, stands right, or just not.
 fn uniform_member(r: &mut Random, laid: &[Laid], ty: u16) -> Member {
     let l = laid[ty as usize];
@@ -891,6 +1094,26 @@ fn long() -> Vec<Table> {
             of(vec![plain(0), plain(1)]),
             over(9, 0, 0, 2, 9),
             over(9, 0, 0, 3, 8),
+        ]),
+    ]
+}
+
+/// Values of many words, two of each scalar.
+fn long_ones() -> Vec<Table> {
+    let over = |kind, rows, reference, count| (entry(kind, 0, rows, reference, count), vec![]);
+    let of = |types: &[u16]| (entry(12, 0, 0, 0, 0), types.iter().map(|ty| member(*ty, None, None)).collect());
+    vec![
+        table(&[scalar(13), over(9, 0, 0, 500)]),
+        table(&[scalar(15), over(7, 4, 0, 0), over(9, 0, 1, 120)]),
+        table(&[scalar(14), scalar(4), of(&[1, 0, 1]), over(9, 0, 2, 160)]),
+        table(&[
+            scalar(13),
+            scalar(2),
+            over(7, 2, 0, 0),
+            of(&[1, 2]),
+            over(9, 0, 3, 100),
+            over(10, 0, 0, 0),
+            of(&[4, 5]),
         ]),
     ]
 }
@@ -993,7 +1216,7 @@ pub fn damaged_table(r: &mut Random, t: &Table) -> Table {
             let types = t.entries.len() as u64;
             let e = &mut t.entries[i];
             match r.below(9) {
-                0 => e.kind = r.below(14) as u8,
+                0 => e.kind = r.of(&[0, 1, 2, 3, 4, 5, 6, 7, 8, 9, 10, 11, 12, 13, 14, 15, 16, 255]),
                 1 => e.columns = n as u8,
                 2 => e.rows = n as u8,
                 3 => e.zero3 = n as u8,
@@ -1055,6 +1278,13 @@ pub struct Plan {
     pub bool_edges: u64,
     /// random tables over a vec3 of bool; for each four a damaged one
     pub bools: usize,
+    /// all tables of at most so many entries over the menu with an i64, in each the edges of its last entry
+    pub long_small: usize,
+    /// of the entries with scalars of 64 bits, whose edges are asked about, and of which with a word fewer and more: one of so many
+    pub long_edges: u64,
+    pub long_counts: u64,
+    /// random tables with scalars of 64 bits; for each four a nested one and a damaged one
+    pub longs: usize,
 }
 
 pub fn blocks(seed: u64, plan: &Plan, mut each: impl FnMut(Block)) {
@@ -1072,7 +1302,7 @@ pub fn blocks(seed: u64, plan: &Plan, mut each: impl FnMut(Block)) {
         each(Block { file: t.write(&[]), questions });
     }
     for _ in 0..plan.nested {
-        let t = nested(&mut r);
+        let t = nested(&mut r, &STORED);
         let good = model::check(&t.write(&[])).ok().expect("an accepted table");
         let e = t.entries.len() - 1;
         let n = if good.laid[e].open { 1 + r.below(3) } else { 0 };
@@ -1082,7 +1312,7 @@ pub fn blocks(seed: u64, plan: &Plan, mut each: impl FnMut(Block)) {
     for file in trailers() {
         let mut questions = vec![Question::Check, Question::Size(0), Question::Uniform(0)];
         questions.extend([Question::Write(0, vec![1], vec![2; 5]), Question::Read(0, vec![1, 2], vec![3; 5])]);
-        questions.extend([Question::View(0, vec![], vec![4; 5]), Question::Set(0, 1, vec![], vec![5; 5])]);
+        questions.extend([Question::View(0, vec![], vec![4; 5]), Question::Set(0, vec![1], vec![], vec![5; 5])]);
         each(Block { file, questions });
     }
     for t in small(plan.small) {
@@ -1133,7 +1363,7 @@ pub fn field_blocks(seed: u64, plan: &Plan, mut each: impl FnMut(Block)) {
         each(Block { file: t.write(&[]), questions: field_edges(&mut r, &good, e, n, &fields) });
     }
     for _ in 0..plan.packed {
-        let t = nested(&mut r);
+        let t = nested(&mut r, &STORED);
         let good = model::check(&t.write(&[])).ok().expect("an accepted table");
         let e = t.entries.len() - 1;
         let n = if good.laid[e].open { 1 + r.below(3) } else { 0 };
@@ -1161,7 +1391,7 @@ pub fn uniform_blocks(seed: u64, plan: &Plan, mut each: impl FnMut(Block)) {
         let t = uniform_table(&mut r, types);
         ask(file(&mut r, &t), &t);
         if i % 8 == 0 {
-            let n = nested(&mut r);
+            let n = nested(&mut r, &STORED);
             ask(n.write(&[]), &n);
             let any = random(&mut r, types, 60);
             ask(file(&mut r, &any), &any);
@@ -1186,7 +1416,7 @@ pub fn bool_blocks(seed: u64, plan: &Plan, mut each: impl FnMut(Block)) {
             }
             questions.extend([1, 3, 4, 6].map(|n| Question::Write(e, vec![1; n], buffer.clone())));
             questions.push(Question::Read(e, vec![7; 12], buffer.clone()));
-            questions.push(Question::Set(e, 1, vec![2], buffer.clone()));
+            questions.push(Question::Set(e, vec![1], vec![2], buffer.clone()));
         }
         if let Ok(good) = model::check(&t.write(&[])) {
             for e in 1..t.entries.len() {
@@ -1202,12 +1432,81 @@ pub fn bool_blocks(seed: u64, plan: &Plan, mut each: impl FnMut(Block)) {
     let base = table(&[scalar(0), (entry(7, 0, 3, 0, 0), vec![])]);
     for i in 0..plan.bools {
         let types = 3 + r.below(8) as usize;
-        let t = random_over(&mut r, base.clone(), types, 60);
+        let t = random_over(&mut r, base.clone(), types, 60, &SHORT);
         let questions = [some(&mut r, &t, 21), some_fields(&mut r, &t, 3), uniform_of_all(&t)].concat();
         each(Block { file: file(&mut r, &t), questions });
         if i % 4 == 0 {
             let d = damaged_table(&mut r, &t);
             each(Block { file: file(&mut r, &d), questions: some(&mut r, &d, 4) });
+        }
+    }
+}
+
+/// The questions about scalars of 64 bits that those above do not ask. They have random numbers of their own too.
+pub fn long_blocks(seed: u64, plan: &Plan, mut each: impl FnMut(Block)) {
+    let mut r = Random(seed.rotate_left(48));
+    let is_long = |t: &Table| t.entries.iter().any(|e| LONG.contains(&e.kind));
+    for (i, t) in long_ranks().into_iter().enumerate() {
+        let values = if i == 0 { (0..3).flat_map(long_values).collect() } else { vec![] };
+        each(Block { file: t.write(&[]), questions: [everything(&t), values].concat() });
+    }
+    for t in long_edges() {
+        let mut questions = vec![Question::Check];
+        // of the entries that they all begin with nothing more is asked
+        let base = if t.entries.len() > 3 { 3 } else { 0 };
+        for e in base..t.entries.len() {
+            let entry = e as u32;
+            questions.extend([Question::Layout(entry), Question::Size(entry), Question::Align(entry)]);
+            questions.extend([Question::MinSize(entry), Question::Uniform(entry), Question::Rank(entry, 0)]);
+            let Ok(good) = model::check(&t.write(&[])) else {
+                questions.push(Question::Write(entry, vec![1, 2], vec![3; 9]));
+                questions.push(Question::Read(entry, vec![1, 2], vec![3; 9]));
+                questions.push(Question::View(entry, vec![], vec![3; 9]));
+                questions.extend([1, 2].map(|n| Question::Set(entry, vec![1; n], vec![], vec![3; 9])));
+                continue;
+            };
+            let n = if good.laid[e].open { 2 } else { 0 };
+            if !good.has_layout(e) {
+                questions.extend(without_layout(&mut r, &good, e));
+            } else if r.one_in(plan.long_edges) {
+                let field = any_field(&mut r);
+                questions.extend(all_edges(&mut r, &good, e));
+                questions.extend(field_edges(&mut r, &good, e, n, &[field]));
+            }
+            if good.has_layout(e) && r.one_in(plan.long_counts) {
+                questions.extend(counted(&mut r, &good, e, n));
+            }
+        }
+        each(Block { file: t.write(&[]), questions });
+    }
+    for t in long_ones().into_iter().take(plan.long) {
+        let good = model::check(&t.write(&[])).ok().expect("an accepted table");
+        let questions = all_edges(&mut r, &good, t.entries.len() - 1);
+        each(Block { file: t.write(&[]), questions });
+    }
+    for t in small_over(plan.long_small, &[2, 4, 5, 13]).into_iter().filter(is_long) {
+        let good = model::check(&t.write(&[])).ok().expect("an accepted table");
+        let edges = all_edges(&mut r, &good, t.entries.len() - 1);
+        each(Block { file: t.write(&[]), questions: [everything(&t), recounted(&mut r, edges)].concat() });
+    }
+    let kinds = [13, 13, 14, 15, 15, 0, 1, 2, 3, 4, 4, 5, 6];
+    for i in 0..plan.longs {
+        let types = 2 + r.below(8) as usize;
+        let base = table(&[scalar(r.of(&LONG))]);
+        let t = random_over(&mut r, base, types, 60, &kinds);
+        let asked = some(&mut r, &t, 21);
+        let questions = [recounted(&mut r, asked), some_fields(&mut r, &t, 3), uniform_of_all(&t)].concat();
+        each(Block { file: file(&mut r, &t), questions });
+        if i % 4 == 3 {
+            let n = nested(&mut r, &LONG);
+            let good = model::check(&n.write(&[])).ok().expect("an accepted table");
+            let e = n.entries.len() - 1;
+            let elements = if good.laid[e].open { 1 + r.below(3) } else { 0 };
+            let asked = [path_edges(&mut r, &good, e, elements), some_fields(&mut r, &n, 6)].concat();
+            each(Block { file: n.write(&[]), questions: recounted(&mut r, asked) });
+            let d = damaged_table(&mut r, &t);
+            let asked = some(&mut r, &d, 4);
+            each(Block { file: file(&mut r, &d), questions: recounted(&mut r, asked) });
         }
     }
 }

@@ -1,6 +1,6 @@
 //! Document 01's rules, written from its text: which file is refused, with what number and place, and what the calls answer; and document
-//! 02's on strides, bit fields, vectors of three bools and the uniform profile. It decides where Lepugaso and the Rust may differ (the rows
-//! of docs/DIFFERENCES.md), and what Lepugaso has to say there.
+//! 02's on strides, bit fields, vectors of three bools, the uniform profile and scalars of 64 bits. It decides where Lepugaso and the Rust
+//! may differ (the rows of docs/DIFFERENCES.md), and what Lepugaso has to say there.
 use std::collections::BTreeSet;
 
 use crate::file::{Entry, Member, Table};
@@ -20,7 +20,7 @@ pub struct Laid {
     pub open: bool,
     /// the runtime array that it is or ends in
     pub tail: Option<Tail>,
-    /// its scalars, those of a runtime array not counted
+    /// the words of its scalars, those of a runtime array not counted
     pub words: u64,
     pub holds_bool: bool,
 }
@@ -54,22 +54,30 @@ fn up(a: u64, n: u64) -> u64 {
     n.div_ceil(a) * a
 }
 
+/// Kinds 0 to 6, and since E6 13 to 15.
+pub fn is_scalar(kind: u8) -> bool {
+    matches!(kind, 0..=6 | 13..=15)
+}
+
+/// E6: "i64, u64, f64: 8/8"
 fn scalar(kind: u8) -> Laid {
     let n = match kind {
         0..=3 => Some(4),
         4 => Some(2),
+        13..=15 => Some(8),
         _ => None,
     };
     plain(n, n, 1, kind)
 }
 
-/// A type of so many scalars of one kind.
-fn plain(size: Option<u64>, align: Option<u64>, words: u64, kind: u8) -> Laid {
+/// A type of so many scalars of one kind. E6: "A 64-bit scalar takes two words"
+fn plain(size: Option<u64>, align: Option<u64>, scalars: u64, kind: u8) -> Laid {
+    let words = if kind < 13 { scalars } else { 2 * scalars };
     Laid { size, align, stride: None, open: false, tail: None, words, holds_bool: kind == 0 }
 }
 
 /// Size and alignment of a vector of `n` over the scalar of kind `kind`. E4: "WGSL's alignment table lists bool beside i32 in the vector
-/// rows: 12/16."
+/// rows: 12/16." E6: "of 3 size 24 and no alignment"
 fn vector(n: u64, kind: u8) -> Laid {
     let size = scalar(kind).size.map(|s| n * s);
     let align = match (n, kind) {
@@ -150,7 +158,7 @@ pub fn lay(table: &Table, laid: &[Laid], k: usize) -> Result<Laid, Refusal> {
     }
     let below = |r: u16| table.entries[r as usize].kind;
     let l = match e.kind {
-        0..=6 => scalar(e.kind),
+        0..=6 | 13..=15 => scalar(e.kind),
         7 => vector(e.rows as u64, below(e.reference)),
         8 => {
             let column = vector(e.rows as u64, below(e.reference)).align;
@@ -178,11 +186,11 @@ pub fn lay(table: &Table, laid: &[Laid], k: usize) -> Result<Laid, Refusal> {
 
 /// The first rule under 5 that an entry or its members break.
 fn broken(table: &Table, laid: &[Laid], k: usize, e: &Entry) -> Option<Row> {
-    if e.kind > 12 {
+    if e.kind > 15 {
         return Some(Row::Unsayable);
     }
     let uses = match e.kind {
-        0..=6 => (false, false, false, false),
+        0..=6 | 13..=15 => (false, false, false, false),
         7 => (false, true, true, false),
         8 => (true, true, true, false),
         9 | 12 => (false, false, true, true),
@@ -204,7 +212,7 @@ fn broken(table: &Table, laid: &[Laid], k: usize, e: &Entry) -> Option<Row> {
     let below = |kinds: &[u8]| kinds.contains(&table.entries[e.reference as usize].kind);
     match e.kind {
         7 if !sides(e.rows) => Some(Row::VectorRows),
-        7 if !below(&[0, 1, 2, 3, 4, 5, 6]) => Some(Row::VectorOf),
+        7 if !is_scalar(table.entries[e.reference as usize].kind) => Some(Row::VectorOf),
         8 if !sides(e.columns) || !sides(e.rows) => Some(Row::MatrixSides),
         8 if !below(&[3, 4, 6]) => Some(Row::MatrixOf),
         9 if e.count == 0 => Some(Row::ArrayOfNone),
@@ -308,7 +316,7 @@ impl Good {
         self.laid[e].has_layout()
     }
 
-    /// The scalars of a type, with `n` elements if it is open.
+    /// The words of a type, with `n` elements if it is open.
     pub fn words(&self, e: usize, n: u64) -> u64 {
         let one = self.laid[e].tail.map_or(0, |t| self.laid[t.element].words);
         self.laid[e].words.saturating_add(n.saturating_mul(one))
@@ -332,16 +340,16 @@ impl Good {
         }
     }
 
-    /// "Its words are its scalars in order of offset": their places, where the type begins at `at`.
+    /// "Its words are its scalars in order of offset", of 64 bits "two words, low first": their places, where the type begins at `at`.
     pub fn places(&self, e: usize, n: u64, at: u64) -> Vec<Place> {
         let x = self.table.entries[e];
         let (l, r) = (&self.laid[e], x.reference as usize);
         let run = |count: u64, of: usize, at: u64| {
-            let width = self.laid[of].size.unwrap_or(0);
-            (0..count).map(move |i| Place { at: at + i * width, width })
+            let (size, words) = (self.laid[of].size.unwrap_or(0), self.laid[of].words);
+            (0..count * words).map(move |i| Place { at: at + i * (size / words), width: size / words })
         };
         match x.kind {
-            0..=6 => run(1, e, at).collect(),
+            0..=6 | 13..=15 => run(1, e, at).collect(),
             7 => run(x.rows as u64, r, at).collect(),
             8 => (0..x.columns as u64).flat_map(|c| run(x.rows as u64, r, at + c * l.align.unwrap_or(0))).collect(),
             9 | 10 => {
@@ -406,8 +414,9 @@ impl Good {
     fn enter(&self, stand: Stand, n: u64, member: bool, number: u64) -> Target {
         let (x, l) = match stand {
             Stand::Column(_, scalar) => {
-                let width = self.laid[scalar].size.unwrap_or(0);
-                return Target { stand: Stand::Entry(scalar), offset: number * width, word: number };
+                let l = &self.laid[scalar];
+                let offset = number * l.size.unwrap_or(0);
+                return Target { stand: Stand::Entry(scalar), offset, word: number * l.words };
             }
             Stand::Entry(e) => (self.table.entries[e], &self.laid[e]),
         };
@@ -419,8 +428,8 @@ impl Good {
             return Target { stand: Stand::Entry(ms[number as usize].ty as usize), offset, word: before };
         }
         let (below, stride, words) = match x.kind {
-            7 => (Stand::Entry(r), self.laid[r].size, 1),
-            8 => (Stand::Column(x.rows as u64, r), l.align, x.rows as u64),
+            7 => (Stand::Entry(r), self.laid[r].size, self.laid[r].words),
+            8 => (Stand::Column(x.rows as u64, r), l.align, x.rows as u64 * self.laid[r].words),
             _ => (Stand::Entry(r), l.stride, self.words(r, n)),
         };
         Target { stand: below, offset: number * stride.unwrap_or(0), word: number.saturating_mul(words) }
@@ -460,14 +469,14 @@ impl Good {
     pub fn count(&self, stand: Stand, n: u64) -> u64 {
         match stand {
             Stand::Entry(e) => self.words(e, n),
-            Stand::Column(rows, _) => rows,
+            Stand::Column(rows, scalar) => rows * self.laid[scalar].words,
         }
     }
 
-    /// The bytes of the scalar that a target is.
-    pub fn width(&self, stand: Stand) -> Option<u64> {
+    /// The scalar that a target is: an entry of one, or of an atomic.
+    pub fn scalar(&self, stand: Stand) -> Option<usize> {
         match stand {
-            Stand::Entry(e) if matches!(self.table.entries[e].kind, 0..=6 | 11) => self.laid[e].size,
+            Stand::Entry(e) if is_scalar(self.table.entries[e].kind) || self.table.entries[e].kind == 11 => Some(e),
             _ => None,
         }
     }
@@ -490,15 +499,16 @@ impl Good {
         Ok((t.offset, part.to_vec()))
     }
 
-    /// Setting: then 14, 16.
-    pub fn set(&self, e: usize, path: &[u32], word: u32, buffer: &mut [u8]) -> Answer {
+    /// Setting: then 14, 16. E6: "Setting takes a word list of that length. Refusals: 14 for another length"
+    pub fn set(&self, e: usize, path: &[u32], words: &[u32], buffer: &mut [u8]) -> Answer {
         self.stored(e, buffer.len() as u64)?;
         let (t, _) = self.target(e, path, buffer.len() as u64)?;
-        let width = self.width(t.stand).ok_or((14, 0))? as usize;
-        if width == 2 && word > 65_535 {
-            return Err((16, 0));
+        let scalar = self.scalar(t.stand).filter(|s| words.len() as u64 == self.laid[*s].words).ok_or((14, 0))?;
+        let places = self.places(scalar, 0, t.offset);
+        if let Some(k) = bad_word(&places, words) {
+            return Err((16, k));
         }
-        buffer[t.offset as usize..][..width].copy_from_slice(&word.to_le_bytes()[..width]);
+        put(&places, words, buffer);
         Ok(t.offset)
     }
 
@@ -537,7 +547,7 @@ impl Good {
         }
         let x = self.table.entries[e];
         match x.kind {
-            0..=6 => {}
+            0..=6 | 13..=15 => {}
             12 => {
                 let ms = self.table.members_of(&x).expect("members within the table");
                 ms.iter().for_each(|m| self.reach(m.ty as usize, reached));
@@ -601,21 +611,23 @@ impl Good {
             return Err((15, 0));
         }
         let places = self.places(e, n, 0);
-        if let Some(k) = places.iter().zip(words).position(|(p, w)| p.width == 2 && *w > 65_535) {
-            return Err((16, k as u64));
+        if let Some(k) = bad_word(&places, words) {
+            return Err((16, k));
         }
         buffer[..extent as usize].fill(0);
-        for (p, w) in places.iter().zip(words) {
-            buffer[p.at as usize..(p.at + p.width) as usize].copy_from_slice(&w.to_le_bytes()[..p.width as usize]);
-        }
+        put(&places, words, buffer);
         Ok(extent)
     }
 
     /// Reading words: then 15, 14. `needed` are the bytes that a type of fixed size needs, `start` is where an open type's array begins.
     pub fn read(&self, e: usize, needed: u64, start: u64, buffer: &[u8], words: &mut [u32]) -> Answer {
-        let length = buffer.len() as u64;
-        self.stored(e, length)?;
-        let tail = self.laid[e].tail;
+        self.stored(e, buffer.len() as u64)?;
+        self.read_stored(e, needed, start, buffer, words)
+    }
+
+    /// The same of a type that was found storable.
+    pub fn read_stored(&self, e: usize, needed: u64, start: u64, buffer: &[u8], words: &mut [u32]) -> Answer {
+        let (length, tail) = (buffer.len() as u64, self.laid[e].tail);
         let n = self.elements_in(e, start, length);
         if (tail.is_some() && n == 0) || (tail.is_none() && length < needed) {
             return Err((15, 0));
@@ -634,6 +646,18 @@ impl Good {
             *w = u32::from_le_bytes(bytes);
         }
         Ok(count)
+    }
+}
+
+/// The first word that its place can't hold: an f16's above 65,535.
+pub fn bad_word(places: &[Place], words: &[u32]) -> Option<u64> {
+    places.iter().zip(words).position(|(p, w)| p.width == 2 && *w > 65_535).map(|k| k as u64)
+}
+
+/// Puts words at their places.
+pub fn put(places: &[Place], words: &[u32], buffer: &mut [u8]) {
+    for (p, w) in places.iter().zip(words) {
+        buffer[p.at as usize..][..p.width as usize].copy_from_slice(&w.to_le_bytes()[..p.width as usize]);
     }
 }
 
@@ -689,7 +713,7 @@ fn scalar_rank(a: u8, b: u8) -> Option<u32> {
 
 pub fn rank(t: &Table, a: u32, b: u32) -> Option<u32> {
     let (x, y) = (t.entries[a as usize], t.entries[b as usize]);
-    if x.kind <= 6 && y.kind <= 6 {
+    if is_scalar(x.kind) && is_scalar(y.kind) {
         return scalar_rank(x.kind, y.kind);
     }
     if x.kind != y.kind {
@@ -783,9 +807,9 @@ pub fn answer(checked: &Result<Good, Refusal>, nodes: &[u64], q: &Question) -> D
             with_words(good.read(e, laid[e].size.unwrap_or(0), start, buffer, &mut words), &words)
         }
         Question::View(e, path, buffer) => with_part(good.view(*e as usize, path, buffer)),
-        Question::Set(e, word, path, buffer) => {
+        Question::Set(e, words, path, buffer) => {
             let mut buffer = buffer.clone();
-            with_buffer(good.set(*e as usize, path, *word, &mut buffer), &buffer)
+            with_buffer(good.set(*e as usize, path, words, &mut buffer), &buffer)
         }
         Question::Extract(e, field, path, buffer) => question::told(good.extract(*e as usize, path, *field, buffer)),
         Question::Insert(e, new, field, path, buffer) => {

@@ -1,7 +1,7 @@
-//! Questions, their lines and those of their answers (oracle/README.md, version 6).
+//! Questions, their lines and those of their answers (oracle/README.md, version 7).
 
-pub const HEAD: &str = "questions 6";
-pub const ANSWERS_HEAD: &str = "answers 6";
+pub const HEAD: &str = "questions 7";
+pub const ANSWERS_HEAD: &str = "answers 7";
 
 #[derive(Clone)]
 pub enum Question {
@@ -19,8 +19,8 @@ pub enum Question {
     Read(u32, Vec<u32>, Vec<u8>),
     /// an entry, the steps, and the buffer
     View(u32, Vec<u32>, Vec<u8>),
-    /// an entry, the word, the steps, and what the buffer holds before
-    Set(u32, u32, Vec<u32>, Vec<u8>),
+    /// an entry, the words, the steps, and what the buffer holds before
+    Set(u32, Vec<u32>, Vec<u32>, Vec<u8>),
     /// an entry, the field, the steps, and the buffer
     Extract(u32, Field, Vec<u32>, Vec<u8>),
     /// an entry, the new value, the field, the steps, and what the buffer holds before
@@ -76,7 +76,7 @@ impl Question {
             Question::Write(e, words, _) => listed(format!("write {e}"), words),
             Question::Read(e, words, _) => listed(format!("read {e}"), words),
             Question::View(e, path, _) => listed(format!("view {e}"), path),
-            Question::Set(e, word, path, _) => listed(format!("set {e} {word}"), path),
+            Question::Set(e, words, path, _) => listed(listed(format!("set {e} {}", words.len()), words), path),
             Question::Extract(e, field, path, _) => listed(format!("extract {e} {}", field.line()), path),
             Question::Insert(e, new, field, path, _) => listed(format!("insert {e} {new} {}", field.line()), path),
             Question::ExtractU32(word, field) => format!("extract_u32 {word} {}", field.line()),
@@ -102,7 +102,10 @@ impl Question {
             ("write", [e, words @ ..]) => Question::Write(*e, words.to_vec(), buffer.to_vec()),
             ("read", [e, words @ ..]) => Question::Read(*e, words.to_vec(), buffer.to_vec()),
             ("view", [e, path @ ..]) => Question::View(*e, path.to_vec(), buffer.to_vec()),
-            ("set", [e, word, path @ ..]) => Question::Set(*e, *word, path.to_vec(), buffer.to_vec()),
+            ("set", [e, count, rest @ ..]) if *count as usize <= rest.len() => {
+                let (words, path) = rest.split_at(*count as usize);
+                Question::Set(*e, words.to_vec(), path.to_vec(), buffer.to_vec())
+            }
             ("extract", [e, o, c, path @ ..]) => Question::Extract(*e, field(o, c), path.to_vec(), buffer.to_vec()),
             ("insert", [e, new, o, c, path @ ..]) => {
                 Question::Insert(*e, *new, field(o, c), path.to_vec(), buffer.to_vec())

@@ -42,6 +42,7 @@ rows! {
     NoEntry = "no-entry",
     Doubling = "doubling",
     Vec3Bool = "vec3-bool",
+    Vec3Of64 = "vec3-64-bit",
     WordCount = "word-count",
     Vast = "vast",
     F16Word = "f16-word",
@@ -98,26 +99,29 @@ enum Made {
     Panic,
 }
 
+/// So many scalars of an entry's type, one after another.
+fn scalars(good: &Good, e: usize, count: u64, words: &mut impl Iterator<Item = u32>) -> Vec<u8> {
+    let l = &good.laid[e];
+    let width = (l.size.unwrap_or(0) / l.words) as usize;
+    words.take((count * l.words) as usize).flat_map(|w| w.to_le_bytes()[..width].to_vec()).collect()
+}
+
 /// What the Rust writes for an entry's type, of which there are `n` elements if it is open: no struct's end is padded, but where it is a
 /// member of another, a vector or a matrix of what can't be shared panics, and where a number is absent that it needs there is nothing.
 fn made(good: &Good, e: usize, n: u64, words: &mut impl Iterator<Item = u32>) -> Made {
     let x = good.table.entries[e];
     let (l, r) = (&good.laid[e], x.reference as usize);
-    let scalar = |w: Option<u32>, of: usize| {
-        let width = good.laid[of].size.unwrap_or(0) as usize;
-        w.expect("as many words as scalars").to_le_bytes()[..width].to_vec()
-    };
     let unshared = |of: usize| [0, 5, 6].contains(&good.table.entries[of].kind);
     let mut bytes = Vec::new();
     match x.kind {
         0..=6 if unshared(e) => return Made::Nothing,
         7 | 8 if unshared(r) => return Made::Panic,
-        0..=6 => bytes = scalar(words.next(), e),
-        11 => bytes = scalar(words.next(), r),
-        7 => (0..x.rows).for_each(|_| bytes.extend(scalar(words.next(), r))),
+        0..=6 | 13..=15 => bytes = scalars(good, e, 1, words),
+        11 => bytes = scalars(good, r, 1, words),
+        7 => bytes = scalars(good, r, x.rows as u64, words),
         8 => {
             for c in 1..=x.columns as usize {
-                (0..x.rows).for_each(|_| bytes.extend(scalar(words.next(), r)));
+                bytes.extend(scalars(good, r, x.rows as u64, words));
                 bytes.resize(c * l.align.expect("a matrix of floats") as usize, 0);
             }
         }
@@ -159,7 +163,7 @@ fn written(good: &Good, e: usize, words: &[u32], buffer: &[u8]) -> (Row, String)
     if good.extent(e, n) > VAST {
         return (Row::Vast, NOTHING.into());
     }
-    if good.places(e, n, 0).iter().zip(words).any(|(p, w)| p.width == 2 && *w > 65_535) {
+    if model::bad_word(&good.places(e, n, 0), words).is_some() {
         return (Row::F16Word, NOTHING.into());
     }
     if l.open && n == 0 {
@@ -178,7 +182,7 @@ fn written(good: &Good, e: usize, words: &[u32], buffer: &[u8]) -> (Row, String)
             Ok(bytes.len() as u64)
         }
     };
-    (Row::StructEnd, with_buffer(answer, &buffer))
+    (if good.has_layout(e) { Row::StructEnd } else { Row::Vec3Of64 }, with_buffer(answer, &buffer))
 }
 
 /// How many bytes the Rust needs to read a type of fixed size: up to the end of the last column, element or member.
@@ -212,10 +216,7 @@ pub fn start(good: &Good, e: usize) -> u64 {
 fn made_of(good: &Good, stand: Stand, n: u64, words: &[u32]) -> Vec<u8> {
     let mut words = words.iter().copied();
     match stand {
-        Stand::Column(rows, scalar) => {
-            let width = good.laid[scalar].size.unwrap_or(0) as usize;
-            words.take(rows as usize).flat_map(|w| w.to_le_bytes()[..width].to_vec()).collect()
-        }
+        Stand::Column(rows, scalar) => scalars(good, scalar, rows, &mut words),
         Stand::Entry(e) => match made(good, e, n, &mut words) {
             Made::Bytes(bytes) => bytes,
             _ => unreachable!("what was read can be written"),
@@ -228,21 +229,29 @@ fn padded(good: &Good, stand: Stand, n: u64, words: &[u32]) -> Vec<u8> {
     let mut bytes = vec![0; good.span(stand, n) as usize];
     match stand {
         Stand::Column(..) => bytes = made_of(good, stand, n, words),
-        Stand::Entry(e) => {
-            for (p, w) in good.places(e, n, 0).iter().zip(words) {
-                bytes[p.at as usize..][..p.width as usize].copy_from_slice(&w.to_le_bytes()[..p.width as usize]);
-            }
-        }
+        Stand::Entry(e) => model::put(&good.places(e, n, 0), words, &mut bytes),
     }
     bytes
 }
 
-/// What the Rust reads of an entry's type into words; 9 where it has no layout by the Rust's own numbers.
+/// Whether the Rust writes and reads an entry's type though it has no alignment: a vector of three scalars of 64 bits. It needs that
+/// number for nothing but what holds the vector.
+fn is_vec3_of_64(good: &Good, e: usize) -> bool {
+    let x = good.table.entries[e];
+    x.kind == 7 && x.rows == 3 && good.table.entries[x.reference as usize].kind >= 13
+}
+
+/// What the Rust reads of an entry's type into words; 9 where it has no layout by the Rust's own numbers, but of a vector of three
+/// scalars of 64 bits only where the buffer is short.
 fn read(good: &Good, e: usize, buffer: &[u8], words: &mut [u32]) -> Answer {
+    let (needed, start) = (reach(good, e), start(good, e));
+    if is_vec3_of_64(good, e) && buffer.len() as u64 >= needed {
+        return good.read_stored(e, needed, start, buffer, words);
+    }
     if !good.rust[e].has_layout() {
         return Err((9, 0));
     }
-    good.read(e, reach(good, e), start(good, e), buffer, words)
+    good.read(e, needed, start, buffer, words)
 }
 
 /// A value as the Rust reads it: its words, how many elements it has if it is open, and how far before their place in 01 it read those.
@@ -279,6 +288,7 @@ impl Held {
 /// The row of an entry that the Rust reads where 01 does not, or has no layout of where 01 has one.
 fn early(good: &Good, e: usize) -> Row {
     match &good.rust[e] {
+        _ if !good.has_layout(e) => Row::Vec3Of64,
         l if !l.has_layout() => Row::Vec3Bool,
         l if l.open => Row::ArrayStart,
         _ => Row::LastPadding,
@@ -307,7 +317,7 @@ fn viewed(good: &Good, e: usize, path: &[u32], buffer: &[u8]) -> (Row, String) {
 }
 
 /// The first row that holds of a set, and what the Rust says of it.
-fn changed(good: &Good, e: usize, path: &[u32], word: u32, buffer: &[u8]) -> (Row, String) {
+fn changed(good: &Good, e: usize, path: &[u32], words: &[u32], buffer: &[u8]) -> (Row, String) {
     let refused = |refusal| with_buffer(Err(refusal), buffer);
     let mut held = match held(good, e, buffer) {
         Err(refusal) => return (early(good, e), refused(refusal)),
@@ -318,13 +328,14 @@ fn changed(good: &Good, e: usize, path: &[u32], word: u32, buffer: &[u8]) -> (Ro
         Ok(t) => t,
     };
     let unseen = good.view(e, path, buffer).is_err();
-    match (t.stand, good.width(t.stand)) {
-        (_, None) => return (early(good, e), refused((14, 0))),
-        (Stand::Entry(s), _) if good.table.entries[s].kind == 11 => {
+    match good.scalar(t.stand) {
+        None => return (early(good, e), refused((14, 0))),
+        Some(s) if words.len() as u64 != good.laid[s].words => return (Row::WordCount, NOTHING.into()),
+        Some(s) if good.table.entries[s].kind == 11 => {
             return (if unseen { early(good, e) } else { Row::SetAtomic }, refused((14, 0)));
         }
-        (_, Some(2)) if word > 65_535 => return (Row::F16Word, NOTHING.into()),
-        _ => held.words[t.word as usize] = word,
+        Some(s) if model::bad_word(&good.places(s, 0, 0), words).is_some() => return (Row::F16Word, NOTHING.into()),
+        _ => held.words[t.word as usize..][..words.len()].copy_from_slice(words),
     }
     let bytes = made_of(good, Stand::Entry(e), held.n, &held.words);
     let row = match () {
@@ -354,7 +365,7 @@ pub fn departure(good: &Good, q: &Question, says: &str) -> Option<(Row, String)>
             (early(good, e), with_words(answer, &words))
         }
         Question::View(e, path, buffer) => viewed(good, *e as usize, path, buffer),
-        Question::Set(e, word, path, buffer) => changed(good, *e as usize, path, *word, buffer),
+        Question::Set(e, words, path, buffer) => changed(good, *e as usize, path, words, buffer),
         Question::Extract(..) | Question::Insert(..) => (Row::BitFields, NOTHING.into()),
         Question::Uniform(_) => (Row::Uniform, NOTHING.into()),
         _ => return None,

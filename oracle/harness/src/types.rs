@@ -76,6 +76,9 @@ fn entry(t: &Table, types: &[Option<Type>], k: usize, e: &Entry) -> Option<Type>
         (4, (0, 0), 0, 0) => Some(Type::F16),
         (5, (0, 0), 0, 0) => Some(Type::AbstractInt),
         (6, (0, 0), 0, 0) => Some(Type::AbstractFloat),
+        (13, (0, 0), 0, 0) => Some(Type::I64),
+        (14, (0, 0), 0, 0) => Some(Type::U64),
+        (15, (0, 0), 0, 0) => Some(Type::F64),
         (7, (0, rows), _, 0) => Some(Type::Vec(rows, inner()?)),
         (8, (columns, rows), _, 0) => Some(Type::Mat(columns, rows, inner()?)),
         (9, (0, 0), _, n) => Some(Type::Array(inner()?, Some(n as usize))),
@@ -140,25 +143,26 @@ fn tail(ty: &Type) -> Option<&Type> {
     }
 }
 
-/// The scalars of a type, those of a runtime array not counted.
-fn scalars(ty: &Type) -> u64 {
+/// The words of a type's scalars, two of each of 64 bits, those of a runtime array not counted.
+fn count(ty: &Type) -> u64 {
     match ty {
-        Type::Vec(n, _) => *n as u64,
-        Type::Mat(c, r, _) => *c as u64 * *r as u64,
+        Type::Vec(n, scalar) => *n as u64 * count(scalar),
+        Type::Mat(c, r, scalar) => *c as u64 * *r as u64 * count(scalar),
         Type::Array(_, None) => 0,
-        Type::Array(element, Some(n)) => scalars(element).saturating_mul(*n as u64),
-        Type::Struct(s) => s.members.iter().fold(0, |n, m| n.saturating_add(scalars(&m.ty))),
+        Type::Array(element, Some(n)) => count(element).saturating_mul(*n as u64),
+        Type::Struct(s) => s.members.iter().fold(0, |n, m| n.saturating_add(count(&m.ty))),
+        Type::I64 | Type::U64 | Type::F64 => 2,
         _ => 1,
     }
 }
 
-/// How many elements a type has that has so many scalars; none where no number of elements gives so many.
+/// How many elements a type has that has so many words; none where no number of elements gives so many.
 fn elements(ty: &Type, words: u64) -> Option<u64> {
     match tail(ty) {
-        None => (words == scalars(ty)).then_some(0),
+        None => (words == count(ty)).then_some(0),
         Some(element) => {
-            let more = words.checked_sub(scalars(ty))?;
-            (more % scalars(element) == 0).then_some(more / scalars(element))
+            let more = words.checked_sub(count(ty))?;
+            (more % count(element) == 0).then_some(more / count(element))
         }
     }
 }
@@ -180,7 +184,7 @@ pub fn value(ty: &Type, n: u64, words: &mut impl Iterator<Item = u32>) -> Option
             let members = s.members.iter().map(|m| value(&m.ty, n, words)).collect::<Option<Vec<Instance>>>()?;
             StructInstance::new((**s).clone(), members).into()
         }
-        scalar => literal(scalar, words.next().expect("as many words as scalars"))?.into(),
+        scalar => literal(scalar, &words.take(count(scalar) as usize).collect::<Vec<_>>())?.into(),
     })
 }
 
@@ -189,26 +193,39 @@ fn values(ty: &Type, count: u64, n: u64, words: &mut impl Iterator<Item = u32>) 
     (0..count).map(|_| value(ty, n, words)).collect()
 }
 
-fn literal(scalar: &Type, word: u32) -> Option<LiteralInstance> {
-    Some(match scalar {
-        Type::Bool => LiteralInstance::Bool(word != 0),
-        Type::AbstractInt => LiteralInstance::AbstractInt(word as i64),
-        Type::AbstractFloat => LiteralInstance::AbstractFloat(word as f64),
-        Type::I32 => LiteralInstance::I32(word as i32),
-        Type::U32 => LiteralInstance::U32(word),
-        Type::F32 => LiteralInstance::F32(f32::from_bits(word)),
-        Type::F16 => LiteralInstance::F16(f16::from_bits(word.try_into().ok()?)),
-        _ => unreachable!("no scalar"),
+/// The scalar that has these words, of 64 bits the low one first; none where it takes another number of them, or an f16 can't have the
+/// word's bits.
+fn literal(scalar: &Type, words: &[u32]) -> Option<LiteralInstance> {
+    Some(match (scalar, words) {
+        (Type::Bool, [word]) => LiteralInstance::Bool(*word != 0),
+        (Type::AbstractInt, [word]) => LiteralInstance::AbstractInt(*word as i64),
+        (Type::AbstractFloat, [word]) => LiteralInstance::AbstractFloat(*word as f64),
+        (Type::I32, [word]) => LiteralInstance::I32(*word as i32),
+        (Type::U32, [word]) => LiteralInstance::U32(*word),
+        (Type::F32, [word]) => LiteralInstance::F32(f32::from_bits(*word)),
+        (Type::F16, [word]) => LiteralInstance::F16(f16::from_bits((*word).try_into().ok()?)),
+        (Type::I64, [low, high]) => LiteralInstance::I64(long(*low, *high) as i64),
+        (Type::U64, [low, high]) => LiteralInstance::U64(long(*low, *high)),
+        (Type::F64, [low, high]) => LiteralInstance::F64(f64::from_bits(long(*low, *high))),
+        _ => return None,
     })
+}
+
+fn long(low: u32, high: u32) -> u64 {
+    (high as u64) << 32 | low as u64
 }
 
 /// The words of a value.
 pub fn words_of(value: &Instance, words: &mut Vec<u32>) {
+    let both = |n: u64| [n as u32, (n >> 32) as u32];
     match value {
         Instance::Literal(LiteralInstance::I32(n)) => words.push(*n as u32),
         Instance::Literal(LiteralInstance::U32(n)) => words.push(*n),
         Instance::Literal(LiteralInstance::F32(n)) => words.push(n.to_bits()),
         Instance::Literal(LiteralInstance::F16(n)) => words.push(n.to_bits() as u32),
+        Instance::Literal(LiteralInstance::I64(n)) => words.extend(both(*n as u64)),
+        Instance::Literal(LiteralInstance::U64(n)) => words.extend(both(*n)),
+        Instance::Literal(LiteralInstance::F64(n)) => words.extend(both(n.to_bits())),
         Instance::Vec(v) => v.iter().for_each(|c| words_of(c, words)),
         Instance::Mat(m) => m.iter_cols().for_each(|c| words_of(c, words)),
         Instance::Array(a) => a.iter().for_each(|c| words_of(c, words)),
@@ -321,19 +338,19 @@ fn view(ty: &Type, path: &[u32], buffer: &[u8]) -> String {
     with_part(viewed())
 }
 
-/// What the Rust is given to set a part of this type to a word: a literal of the scalar that it is, or that its atomic refers to, else any.
-/// None where an f16 can't have the word's bits.
-fn literal_for(ty: &Type, word: u32) -> Option<LiteralInstance> {
+/// What the Rust is given to set a part of this type to words: a literal of the scalar that it is, or that its atomic refers to, else any.
+/// None where there is no such scalar.
+fn literal_for(ty: &Type, words: &[u32]) -> Option<LiteralInstance> {
     match ty {
-        Type::Atomic(scalar) => literal(scalar, word),
-        Type::Vec(..) | Type::Mat(..) | Type::Array(..) | Type::Struct(_) => Some(LiteralInstance::U32(word)),
-        scalar => literal(scalar, word),
+        Type::Atomic(scalar) => literal(scalar, words),
+        Type::Vec(..) | Type::Mat(..) | Type::Array(..) | Type::Struct(_) => Some(LiteralInstance::U32(7)),
+        scalar => literal(scalar, words),
     }
 }
 
 /// The Rust sets what a path leads to in a value; none where there is no such value.
-pub fn set_part(value: &mut Instance, path: &MemView, word: u32) -> Option<Result<(), Error>> {
-    let set = |part: &mut Instance| Some(part.write(literal_for(&part.ty(), word)?.into()).map(|_| ()));
+pub fn set_part(value: &mut Instance, path: &MemView, words: &[u32]) -> Option<Result<(), Error>> {
+    let set = |part: &mut Instance| Some(part.write(literal_for(&part.ty(), words)?.into()).map(|_| ()));
     match value.view_mut(path) {
         Ok(part) => set(part),
         Err(error) => Some(Err(error)),
@@ -341,11 +358,11 @@ pub fn set_part(value: &mut Instance, path: &MemView, word: u32) -> Option<Resul
 }
 
 /// The Rust reads the buffer, sets what the path leads to in the value, and its bytes of the whole value go to the front of the buffer.
-fn set(ty: &Type, path: &[u32], word: u32, buffer: &[u8]) -> Option<String> {
+fn set(ty: &Type, path: &[u32], words: &[u32], buffer: &[u8]) -> Option<String> {
     let mut after = buffer.to_vec();
     let answer: Answer = match Instance::from_buffer(buffer, ty) {
         None => Err((unshared(ty).unwrap_or(15), 0)),
-        Some(mut value) => match set_part(&mut value, &mem_view(path), word)? {
+        Some(mut value) => match set_part(&mut value, &mem_view(path), words)? {
             Err(error) => Err(part(&value, path).err().unwrap_or((number(error), 0))),
             Ok(()) => {
                 let bytes = value.to_buffer().expect("what was read can be written");
@@ -391,9 +408,9 @@ pub fn answer(types: &[Option<Type>], checked: &Result<Good, Refusal>, q: &Quest
             let (_, ty) = checked.as_ref().ok().zip(of(e))?;
             Some(view(ty, path, buffer))
         }
-        Question::Set(e, word, path, buffer) => {
+        Question::Set(e, words, path, buffer) => {
             let (_, ty) = checked.as_ref().ok().zip(of(e))?;
-            set(ty, path, *word, buffer)
+            set(ty, path, words, buffer)
         }
         // The six files have no such function.
         Question::Uniform(_) => None,
