@@ -42,11 +42,16 @@ fn table(entries: &[Entry], members: &[u16]) -> Table {
 
 /// The type of a case is its table's last entry.
 fn cases() -> Vec<Case> {
-    let (i32, u32, f32, f16) = (over(1, 0, 0, 0, 0), over(2, 0, 0, 0, 0), over(3, 0, 0, 0, 0), over(4, 0, 0, 0, 0));
+    let [i32, u32, f32, f16, i64] = [1, 2, 3, 4, 13].map(|kind| over(kind, 0, 0, 0, 0));
     vec![
         Case {
             name: "array<u32, 262144>",
             table: table(&[u32, over(9, 0, 0, 0, 262_144)], &[]),
+            goal: Goal::Memcpy(1.2),
+        },
+        Case {
+            name: "array<i64, 131072>",
+            table: table(&[i64, over(9, 0, 0, 0, 131_072)], &[]),
             goal: Goal::Memcpy(1.2),
         },
         Case {
@@ -203,7 +208,7 @@ fn check_path(input: &Input, word: u32) -> u64 {
     let mut buf = input.bytes.clone();
     assert_eq!(lepugaso::set(&input.file, input.entry, &PATH, word, &mut buf), answer);
     let mut value = input.value.clone();
-    types::set_part(&mut value, &path, word).expect("a value").expect("a scalar");
+    types::set_part(&mut value, &path, &[word]).expect("a value").expect("a scalar");
     assert!(value.to_buffer().expect("its bytes") == buf && buf != input.bytes);
     offset
 }
@@ -221,10 +226,10 @@ fn path_times(input: &Input, word: u32) -> [Vec<f64>; 2] {
     ]);
     let set = best(&mut [
         &mut || drop(black_box(lepugaso::set(black_box(file), entry, black_box(&PATH), word, &mut buf.borrow_mut()))),
-        &mut || drop(black_box(types::set_part(&mut value.borrow_mut(), black_box(&path), word))),
+        &mut || drop(black_box(types::set_part(&mut value.borrow_mut(), black_box(&path), &[word]))),
         &mut || {
             let mut value = read();
-            drop(black_box(types::set_part(&mut value, black_box(&path), word)));
+            drop(black_box(types::set_part(&mut value, black_box(&path), &[word])));
             drop(black_box(value.to_buffer()))
         },
     ]);
