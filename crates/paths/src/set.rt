@@ -55,8 +55,10 @@ fn set_eight(at: usize, words: &[u32], buf: &mut [u8]) -> Number
     if words.len() != 2 {
         return Number::Refused(Refusal::Count);
     }
-    store_u32(buf, at, words[0]);
-    store_u32(buf, at + 4, words[1]);
+    let low = words[0];
+    let high = words[1];
+    store_u32(buf, at, low);
+    store_u32(buf, at + 4, high);
     Number::Is(at as u32)
 }
 

@@ -18,7 +18,7 @@ use Rattle.wgsl.specs.Size.{present, widthOf, sizeOf, hasLayout, isPlain
 use Rattle.wgsl.specs.Said.{good, orRefuse}
 use Rattle.wgsl.specs.Place.{elementsBy, elementsIn, one, shapeOf, spanOf, Place, wordPlaces, places, wordCount, storeWords, wordsRead}
 use Rattle.wgsl.specs.Path.{walk, stepOf}
-use Rattle.wgsl.specs.Call.{isShort, targetIn, targetCall, viewCall, scalarAt, setScalar, setTarget, setCall}
+use Rattle.wgsl.specs.Call.{contentsOf, isShort, targetIn, targetCall, viewCall, scalarAt, setScalar, setTarget, setCall}
 use Rattle.wgsl.specs.Claim.{Apart, Ordered, Fit, Holds, Stored}
 use Rattle.wgsl.specs.Demand.{Given, Leading, Words, SetThenRead, DemandThree}
 use Rattle.wgsl.specs.Shapes.{Divides, Sound}
@@ -163,6 +163,11 @@ set-done {f} {e} {b} {path} {a} {s} g l new holds =
     ∙ then-is _ refl
     ∙ refuse-no 14 0 (ap not (eq-eqb _ _ (holds .count)))
     ∙ next-is _ (fit-checkWords 0 (wordPlaces s a) new (holds .words-fit))
+
+-- and stores them
+pub set-stores : {f : List ℕ} {e : ℕ} {b path b′ : List ℕ} {a : ℕ} {s : Scalar} (g : Given f e b) → Leading f e b path a s → (new : List ℕ) → Holds (present (widthOf s)) a new → setCall f e path new b ≡ good (done a b′) → b′ ≡ storeWords (wordPlaces s a) new b
+unfolding contentsOf
+set-stores g l new holds is = ap (contentsOf []) (sym is ∙ set-done g l new holds)
 
 -- Words that the scalar can hold, set at a path, are read back from the scalar's position on, and nothing else changes.
 pub set-then-read : {f : List ℕ} {e : ℕ} {b path : List ℕ} {a : ℕ} {s : Scalar} (g : Given f e b) → Leading f e b path a s → (new : List ℕ) → Holds (present (widthOf s)) a new → (ws : List ℕ) → wordCount 0 (g .type) ≤ length ws → SetThenRead g path a s new ws

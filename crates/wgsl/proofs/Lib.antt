@@ -50,6 +50,8 @@ pub mod Case
 pub mod StrideCase
 pub mod BoolCase
 pub mod UniformCase
+pub mod Wide
+pub mod WideCase
 pub mod BitFieldCase
 pub mod Bit
 pub mod FieldAt

@@ -1,8 +1,8 @@
 -- What is claimed of the definitions of document 02, request by request. Each proof is one citation: read the statements.
 --
--- Here: E1, strides; E2, bit fields; E4, vectors of three bools; E5, the uniform profile. That the places of refusals fit and what the calls have in common with those of 01 stands in Claims.
+-- Here: E1, strides; E2, bit fields; E4, vectors of three bools; E5, the uniform profile; E6, scalars of 64 bits. That the places of refusals fit and what the calls have in common with those of 01 stands in Claims.
 -- Assumes nothing.
-use Prim.Native.Nat.{ℕ, _+_, _-_, _%_, _^_, _<_, _≤_, max}
+use Prim.Native.Nat.{ℕ, _+_, _-_, _*_, _%_, _^_, _<_, _≤_, max, min}
 use mathlib.Core.Bool.{true, false, cond}
 use mathlib.Core.List.{List, _∷_, []}
 use mathlib.Core.Option.{Option, some}
@@ -13,20 +13,23 @@ use lib.ListN.{length, getD, getElem?}
 use Rattle.wgsl.specs.Number.{load}
 use Rattle.wgsl.specs.Round.{up, limit}
 use Rattle.wgsl.specs.Types.{Scalar, Ty, array, runtime, everywhere}
-use Rattle.wgsl.specs.Size.{sizeOf, alignOf, ownStrideOf, isStorable}
+use Rattle.wgsl.specs.Size.{present, widthOf, sizeOf, alignOf, ownStrideOf, isStorable}
 use Rattle.wgsl.specs.Said.{good, refused}
 use Rattle.wgsl.specs.Rule.{isWellFormed, typesOf}
-use Rattle.wgsl.specs.Place.{wordCount}
+use Rattle.wgsl.specs.Place.{one, Place, wordsFor, wordPlaces, wordCount, wordsRead}
 use Rattle.wgsl.specs.Call.{Done, entryFor, setCall}
+use Rattle.wgsl.specs.Path.{Target}
+use Rattle.wgsl.specs.Rank.{scalarRank}
 use Rattle.wgsl.specs.BitField.{startOf, bitsOf, bitAt, extractedU32, extractedI32, repeatedTop, inserted, signedOf, bitExtracted, bitInserted}
 use Rattle.wgsl.specs.BitFieldCase.{fieldCasesPass}
-use Rattle.wgsl.specs.BitFieldCall.{isInteger, isSigned, FoundInteger, integerAt, extractCall, insertCall}
+use Rattle.wgsl.specs.BitFieldCall.{isInteger, isSigned, FoundInteger, integerOf, integerAt, extractCall, insertCall}
 use Rattle.wgsl.specs.Uniform.{reaches, uniformCall}
-use Rattle.wgsl.specs.Claim.{IsStride, ByElement, HoldsBool, LaidOut, GoodIf, CanField, Reaches, CanUniform, LowestBroken, SameReached}
-use Rattle.wgsl.specs.Demand.{Given, Leading, SetThenRead}
+use Rattle.wgsl.specs.Claim.{Holds, together, IsStride, ByElement, HoldsBool, LaidOut, GoodIf, CanField, Reaches, CanUniform, LowestBroken, SameReached}
+use Rattle.wgsl.specs.Demand.{Given, Leading, Words, SetThenRead}
 use Rattle.wgsl.specs.StrideCase.{strideCasesPass}
 use Rattle.wgsl.specs.BoolCase.{boolCasesPass}
 use Rattle.wgsl.specs.UniformCase.{uniformCasesPass}
+use Rattle.wgsl.specs.WideCase.{wideCasesPass}
 use Rattle.wgsl.proofs.Stride as stride
 use Rattle.wgsl.proofs.StrideCase.{stride-cases-pass}
 use Rattle.wgsl.proofs.BitField as field
@@ -37,6 +40,9 @@ use Rattle.wgsl.proofs.BoolCase.{bool-cases-pass}
 use Rattle.wgsl.proofs.Uniform as uniform
 use Rattle.wgsl.proofs.UniformPart as part
 use Rattle.wgsl.proofs.UniformCase.{uniform-cases-pass}
+use Rattle.wgsl.proofs.ScalarWords as scalar-words
+use Rattle.wgsl.proofs.Wide as wide
+use Rattle.wgsl.proofs.WideCase.{wide-cases-pass}
 
 -- ---- E1: strides
 
@@ -183,3 +189,39 @@ unreached-never-matters = part.same-reached
 -- The rules on each side of their edges.
 pub uniform-cases : T uniformCasesPass
 uniform-cases = uniform-cases-pass
+
+-- ---- E6: scalars of 64 bits
+
+-- "the statement about word order is given once over the words a scalar takes": as many as its bytes by four, rounded up,
+pub words-taken : (s : Scalar) (at : ℕ) → length (wordPlaces s at) ≡ wordsFor (present (widthOf s))
+words-taken = scalar-words.scalar-length
+
+-- of which the k-th begins at byte 4 x k and holds four bytes, or those that are left,
+pub word-lies : (s : Scalar) (at k : ℕ) (p : Place) → getElem? (wordPlaces s at) k ≡ some p → (p .at ≡ at + 4 * k) × (p .width ≡ min 4 (present (widthOf s) - 4 * k))
+word-lies = scalar-words.word-lies
+
+-- "low first": together they are the number that the scalar's bytes hold, and no other words are.
+pub words-low-first : (s : Scalar) (b : List ℕ) (at : ℕ) → load (present (widthOf s)) b at ≡ together (wordsRead (wordPlaces s at) b)
+words-low-first = scalar-words.words-low-first
+
+pub one-word-list : (ws vs : List ℕ) → length ws ≡ length vs → Words ws → Words vs → together ws ≡ together vs → ws ≡ vs
+one-word-list = scalar-words.together-one
+
+-- After a set of words the scalar's bytes hold the number that they are together.
+pub set-number : {f : List ℕ} {e : ℕ} {b path : List ℕ} {a : ℕ} {s : Scalar} (g : Given f e b) → Leading f e b path a s → (new : List ℕ) (h : Holds (present (widthOf s)) a new) (ws : List ℕ) (room : wordCount 0 (g .type) ≤ length ws) → (x : SetThenRead g path a s new ws) → load (present (widthOf s)) (x .b′) a ≡ together new
+set-number = wide.set-number
+
+-- They rank to themselves, and nothing else to them.
+pub wide-to-itself : (s t : Scalar) (r : ℕ) → present (widthOf s) ≡ 8 → scalarRank s t ≡ some r → s ≡ t
+wide-to-itself = wide.wide-to-itself
+
+pub none-to-wide : (s t : Scalar) (r : ℕ) → present (widthOf t) ≡ 8 → scalarRank s t ≡ some r → s ≡ t
+none-to-wide = wide.none-to-wide
+
+-- E2 stays for i32 and u32: a 64-bit scalar there is refused by 14.
+pub no-wide-field : (u : Target) (s : Scalar) → u .shape ≡ one s → present (widthOf s) ≡ 8 → integerOf u ≡ refused 14 0
+no-wide-field = wide.no-wide-field
+
+-- The request's own numbers, and the edges of its refusals.
+pub wide-cases : T wideCasesPass
+wide-cases = wide-cases-pass

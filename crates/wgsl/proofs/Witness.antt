@@ -4,7 +4,7 @@
 -- The files are those of specs/Case: a matrix (P11), a struct with a given size (P7), an open struct (P10), an array too large (P9); those
 -- of specs/BoolCase and UniformCase; and two entries that break 5 and 6, and 6 and 7.
 -- Assumes nothing.
-use Prim.Native.Nat.{ℕ, zero, suc, _^_, _<_, _≤_}
+use Prim.Native.Nat.{ℕ, zero, suc, _^_, _<_, _≤_, _+_, _-_, _*_, min}
 use mathlib.Core.Bool.{true, false}
 use mathlib.Core.List.{List, [], _∷_, _++_, List·Memᴰ·head, List·Memᴰ·not-nil}
 use mathlib.Core.Logic.{inr}
@@ -14,7 +14,7 @@ use native.Mathlib.Omega.{arith}
 use lib.ListN.{getD, take, drop, getElem?, replicate}
 use Rattle.wgsl.specs.Number.{load, bytesOf, store}
 use Rattle.wgsl.specs.Round.{IsUp, up, IsPower, powerBelow, isPower, limit, withinLimit}
-use Rattle.wgsl.specs.Types.{bool, u32, f32, f16, Ty, scalar, vector, matrix, array, runtime, struct, no-more, member, isRuntime, endsInRuntime, isOpen, everywhere, everyMember, isScalarKind}
+use Rattle.wgsl.specs.Types.{bool, u32, f32, f16, Ty, scalar, vector, matrix, array, runtime, struct, no-more, member, isRuntime, endsInRuntime, isOpen, everywhere, everyMember, isScalarKind, i64, u64, scalarKind}
 use Rattle.wgsl.specs.Size.{both, givenOr, isPresent, present, widthOf, vec3Align, vectorSize, vectorAlign, startAfter, endAfter, memberStart, memberEnd, sizeOf, alignOf, membersAlign, membersEnd, strideOf, ownStrideOf, minSizeOf, offsetsOf, innerNumbersOf, numbersOf, withinLimits, fitsLimit, hasLayout, isStored, isPlain, isStorable}
 use Rattle.wgsl.specs.Said.{good, refused, _>>=_, _>>_, refuse, orRefuse}
 use Rattle.wgsl.specs.File.{trailerOf, lengthBy, typeEntryFrom, typeEntryAt, memberEntryFrom, memberEntryAt, sizeIsGiven, alignIsGiven, givenSize, givenAlign, restIsZero, between, checkTrailer}
@@ -23,11 +23,13 @@ use Rattle.wgsl.specs.Place.{tailAt, membersTail, tailOf, extentBy, exte
 use Rattle.wgsl.specs.Path.{stepOf, enter, walk}
 use Rattle.wgsl.specs.Call.{Done, checkOf, entryOf, allowed, entryFor, isShort, readElements, readType, readCall, elementsFor, isWrongCount, writeWords, writeElements, writeType, writeCall, targetIn, targetCall, viewCall, scalarAt, setScalar, setTarget, setCall}
 use Rattle.wgsl.specs.BoolCase.{boolFile}
-use Rattle.wgsl.specs.Claim.{isBool, isNoBool, Lowest, ByElement, Ordered, typesIn, memberStep, CanRead, CanWrite, CanView, CanSet, CanField, Wrote, Read, Reaches, CanUniform, LowestBroken, Fit}
+use Rattle.wgsl.specs.Claim.{isBool, isNoBool, Lowest, ByElement, Ordered, typesIn, memberStep, CanRead, CanWrite, CanView, CanSet, CanField, Wrote, Read, Reaches, CanUniform, LowestBroken, Fit, Holds, together}
 use Rattle.wgsl.specs.BitField.{startOf, bitsOf, bitAt, fieldAt, repeatedTop, extractedU32, extractedI32, putAt, inserted, isInside, bitExtracted, bitInserted}
 use Rattle.wgsl.specs.BitFieldCall.{isInteger, isSigned, integerOf, integerAt, wordOf, extractedAs, extractCall, insertCall}
 use Rattle.wgsl.specs.Uniform.{uniformAlign, earliestAfter, membersKeep, keepsUniform, isUniform, memberTypes, refersTo, anyOf, reachesBy, reaches, isBrokenType, isBroken, lowestFrom, lowestBroken, refuseBroken, mayLive, uniformCall}
 use Rattle.wgsl.specs.UniformCase.{brokenFile, nestedFile}
+use Rattle.wgsl.specs.Rank.{ifSame, scalarRank}
+use Rattle.wgsl.specs.WideCase.{wideFile}
 use Rattle.wgsl.specs.Demand.{Given, Leading, SetThenRead, OnePath}
 use Rattle.wgsl.specs.Case.{typeEntry, memberGiven, memberEntry, trailer, arrayOfU32, openStruct, matrixOfF32, structWithSize}
 use Rattle.wgsl.proofs.Absent.{true-not-false}
@@ -68,6 +70,10 @@ inMatrix = 2 ∷ 1 ∷ []
 
 unfoldable pub inStruct : List ℕ
 inStruct = memberStep 1 ∷ []
+
+-- member 2 of the struct of E6's cases
+unfoldable pub inWide : List ℕ
+inWide = memberStep 2 ∷ []
 
 -- its bytes are bytes
 rubbish-byte : (n i : ℕ) → getD (replicate n 7) i 0 < 256
@@ -141,9 +147,18 @@ pub record Witnesses : Type 0 where
   pub reached-by-steps : Reaches brokenFile 4 1
   pub good-never-named : uniformCall brokenFile 4 ≡ refused 19 3 → ⊥
   pub unreached-never-matters : uniformCall (arrayOfU32 5) 0 ≡ uniformCall (arrayOfU32 7) 0
+  -- E6
+  pub wide-given : Given wideFile 3 rubbish
+  pub wide-leading : Leading wideFile 3 rubbish inWide 16 u64
+  pub wide-demand : SetThenRead wide-given inWide 16 u64 (5 ∷ 6 ∷ []) nine
+  pub set-number : load 8 (wide-demand .b′) 16 ≡ 25_769_803_781
+  pub word-lies : (20 ≡ 16 + 4 * 1) × (4 ≡ min 4 (8 - 4 * 1))
+  pub wide-to-itself : i64 ≡ i64
+  pub none-to-wide : i64 ≡ i64
+  pub no-wide-field : integerOf (record { offset = 16; shape = one u64 }) ≡ refused 14 0
 
 pub witnesses : Witnesses
-unfolding load bytesOf up powerBelow isPower withinLimit isRuntime endsInRuntime isOpen everywhere everyMember both givenOr isPresent present widthOf vec3Align vectorSize vectorAlign startAfter endAfter sizeOf alignOf membersAlign membersEnd strideOf ownStrideOf minSizeOf offsetsOf innerNumbersOf numbersOf withinLimits fitsLimit hasLayout isStored isPlain isStorable _>>=_ _>>_ refuse orRefuse trailerOf lengthBy typeEntryFrom typeEntryAt memberEntryFrom memberEntryAt sizeIsGiven alignIsGiven givenSize givenAlign restIsZero between checkTrailer when andThen unused scalarOfKind isScalarKind scalarIn lower membersFrom scalarMade vectorMade matrixMade arrayMade runtimeMade atomicMade structMade overMade typeMade typeOfEntry isMatrixScalar isAtomicScalar isLast countOf memberAllowed membersAllowed isAllowed atLeast givenSizeFits isMultiple givenAlignFits membersGivenFit givenFits judged typesBelow typesOf tailAt membersTail tailOf extentBy extentOf elementsBy elementsIn column shapeOf fieldsOf spanOf wordPlaces wordsFor wordsOver repeated placesOf places wordCount wordsRead stepOf enter walk entryOf allowed entryFor isShort readElements readType readCall targetIn targetCall viewCall typeEntry memberGiven memberEntry trailer arrayOfU32 openStruct matrixOfF32 structWithSize memberStart memberEnd memberStep store storeWords written canHold checkWords Fit elementsFor isWrongCount writeWords writeElements writeType writeCall scalarAt setScalar setTarget setCall typesIn isWellFormed checkOf startOf bitsOf bitAt fieldAt repeatedTop extractedU32 extractedI32 putAt inserted isInside bitExtracted bitInserted isInteger isSigned integerOf integerAt wordOf extractedAs extractCall insertCall uniformAlign earliestAfter membersKeep keepsUniform isUniform memberTypes refersTo anyOf reachesBy reaches isBrokenType isBroken lowestFrom lowestBroken refuseBroken mayLive uniformCall brokenFile nestedFile isBool isNoBool boolFile fiveAndSix sixAndSeven matrixTypes nine rubbish inMatrix inStruct
+unfolding load bytesOf up powerBelow isPower withinLimit isRuntime endsInRuntime isOpen everywhere everyMember both givenOr isPresent present widthOf vec3Align vectorSize vectorAlign startAfter endAfter sizeOf alignOf membersAlign membersEnd strideOf ownStrideOf minSizeOf offsetsOf innerNumbersOf numbersOf withinLimits fitsLimit hasLayout isStored isPlain isStorable _>>=_ _>>_ refuse orRefuse trailerOf lengthBy typeEntryFrom typeEntryAt memberEntryFrom memberEntryAt sizeIsGiven alignIsGiven givenSize givenAlign restIsZero between checkTrailer when andThen unused scalarOfKind isScalarKind scalarIn lower membersFrom scalarMade vectorMade matrixMade arrayMade runtimeMade atomicMade structMade overMade typeMade typeOfEntry isMatrixScalar isAtomicScalar isLast countOf memberAllowed membersAllowed isAllowed atLeast givenSizeFits isMultiple givenAlignFits membersGivenFit givenFits judged typesBelow typesOf tailAt membersTail tailOf extentBy extentOf elementsBy elementsIn column shapeOf fieldsOf spanOf wordPlaces wordsFor wordsOver repeated placesOf places wordCount wordsRead stepOf enter walk entryOf allowed entryFor isShort readElements readType readCall targetIn targetCall viewCall typeEntry memberGiven memberEntry trailer arrayOfU32 openStruct matrixOfF32 structWithSize memberStart memberEnd memberStep store storeWords written canHold checkWords Fit elementsFor isWrongCount writeWords writeElements writeType writeCall scalarAt setScalar setTarget setCall typesIn isWellFormed checkOf startOf bitsOf bitAt fieldAt repeatedTop extractedU32 extractedI32 putAt inserted isInside bitExtracted bitInserted isInteger isSigned integerOf integerAt wordOf extractedAs extractCall insertCall uniformAlign earliestAfter membersKeep keepsUniform isUniform memberTypes refersTo anyOf reachesBy reaches isBrokenType isBroken lowestFrom lowestBroken refuseBroken mayLive uniformCall brokenFile nestedFile isBool isNoBool boolFile fiveAndSix sixAndSeven matrixTypes nine rubbish inMatrix inStruct inWide wideFile together scalarRank ifSame scalarKind
 witnesses =
     let types : typesBelow matrixOfF32 2 ≡ good matrixTypes = refl in
     let entry : entryOf matrixOfF32 1 ≡ good (matrix 3 3 f32) = refl in
@@ -167,6 +182,18 @@ witnesses =
       within = omega arith;
     } in
     let second : Leading structWithSize 1 rubbish inStruct 20 u32 = record { leads = refl } in
+    let widely : Given wideFile 3 rubbish = record {
+      type = struct 3 (member (scalar i64) none none (member (scalar f16) none none (member (scalar u64) none none no-more)));
+      size = 24;
+      entry = refl;
+      storable = refl;
+      sized = refl;
+      room = omega arith;
+      within = omega arith;
+    } in
+    let third : Leading wideFile 3 rubbish inWide 16 u64 = record { leads = refl } in
+    let two-words : Holds 8 16 (5 ∷ 6 ∷ []) = record { count = refl; words-fit = (omega arith, (omega arith, tt)) } in
+    let both-set = claims.demand-3 widely .set-read inWide 16 u64 third (5 ∷ 6 ∷ []) two-words nine (omega arith) in
     let bytes : (i : ℕ) → getD rubbish i 0 < 256 = λ i. rubbish-byte 50 i in
     let named = requests.uniform-names brokenFile 4 1 refl in
     let alone : (k : ℕ) → Reaches (arrayOfU32 5) 0 k → k ≡ 0 = λ k r. reach-cases r (λ q. q) (λ i m rest. absurd (List·Memᴰ·not-nil m)) in
@@ -242,4 +269,12 @@ witnesses =
             same-type = λ k r. rw (alone k r);
             same-references = λ k r. rw (alone k r);
           });
+      wide-given = widely;
+      wide-leading = third;
+      wide-demand = both-set;
+      set-number = requests.set-number widely third (5 ∷ 6 ∷ []) two-words nine (omega arith) both-set;
+      word-lies = requests.word-lies u64 16 1 (record { at = 20; width = 4 }) refl;
+      wide-to-itself = requests.wide-to-itself i64 i64 0 refl refl;
+      none-to-wide = requests.none-to-wide i64 i64 0 refl refl;
+      no-wide-field = requests.no-wide-field (record { offset = 16; shape = one u64 }) u64 refl refl;
     }

@@ -21,4 +21,5 @@ pub mod Case
 pub mod StrideCase
 pub mod BoolCase
 pub mod UniformCase
+pub mod WideCase
 pub mod Shapes
