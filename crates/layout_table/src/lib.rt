@@ -4,6 +4,7 @@ use file::fields::TYPE_ENTRY_LENGTH;
 use file::fields::TypeEntry;
 use file::fields::entry_at;
 use file::fields::member_at;
+use file::kinds::ABSTRACT_FLOAT;
 use file::kinds::STRUCT;
 use file::kinds::is_scalar;
 use file::trailer::Trailer;
@@ -85,11 +86,15 @@ fn entry_made(f: &[u8], e: TypeEntry, k: usize, base: usize, members: usize, tab
     if !zeros(e.zero3, e.zero6, 0, 0) {
         return Made::Rule;
     }
-    if is_scalar(e.kind) {
+    // the scalars of document 01, then structs, then the scalars of 64 bits: no test is added on a struct's way
+    if e.kind <= ABSTRACT_FLOAT {
         return scalar_entry(e);
     }
     if e.kind == STRUCT {
         return struct_entry(f, e, k, base, members, table);
+    }
+    if is_scalar(e.kind) {
+        return scalar_entry(e);
     }
     let r = wide(e.reference);
     if k <= r {

@@ -7,6 +7,7 @@ use borrow.Author.Needs.{needs}
 use denote.Ref.{now}
 use Rattle.wgsl.specs.Types.{Ty}
 use Rattle.wgsl.specs.Rule.{unused}
+use Rattle.wgsl.proofs.ScalarKind.{low-scalar}
 use Rattle.layout_values.proofs.Unused.{unused-two, denied, granted}
 use Rattle.layout_structs.specs.SoFar.{Lower}
 use Rattle.layout_structs.proofs.MembersFrom.{LowerFound, lower-found, lower-past}
@@ -23,7 +24,10 @@ told : {a b c : Bool} → a ≡ b → a ≡ c → b ≡ c
 told e h = sym e ∙ h
 
 scalar-entry-requires : tie.Need-scalar-entry-requires
-scalar-entry-requires c κs = told (c .before .is-scalar .ensures) (c .if2 .taken)
+scalar-entry-requires c κs = low-scalar _ (c .if2 .taken)
+
+scalar-entry-requires-2 : tie.Need-scalar-entry-requires-2
+scalar-entry-requires-2 c κs = told (c .before .is-scalar .ensures) (c .if4 .taken)
 
 returns : tie.Need-returns
 returns c ts u =
@@ -36,8 +40,7 @@ returns-2 c ts u =
     let z = c .before .before .before in
     let a = z .before .before .before .args in
     c .scalar-entry .ensures
-    ∙ entry-scalar (now (a .f)) ts (a .k) (a .e .reference) (u .entry-is) (zero-fields z)
-    (told (c .before .before .is-scalar .ensures) (c .before .if2 .taken))
+    ∙ entry-scalar (now (a .f)) ts (a .k) (a .e .reference) (u .entry-is) (zero-fields z) (low-scalar _ (c .before .if2 .taken))
 
 returns-3 : tie.Need-returns-3
 returns-3 c ts u =
@@ -48,42 +51,50 @@ returns-3 c ts u =
 
 returns-4 : tie.Need-returns-4
 returns-4 c ts u =
-    let w = c .before in
-    let z = w .before .before .before .before .before in
+    let s = c .before .before in
+    let z = s .before .before .before .before .before in
     let a = z .before .before .before .args in
-    entry-missing (now (a .f)) ts (a .k) (a .e .reference) (u .entry-is) (zero-fields z)
-    (told (w .before .before .before .before .is-scalar .ensures) (w .before .before .before .if2 .left))
-    (w .before .if3 .left) (lower-past (now (a .f)) (now (a .table)) (a .k) ts (a .e .reference) (u .lower)
-    (omega (arith, w .wide .ensures, c .if4 .taken)))
-
--- the entry that is referred to
-below : (c : tie.Else4) →
-    let a = c .before .before .before .before .before .before .before .before .before .args in
-    (ts : List Ty) → Lower (now (a .f)) (now (a .table)) (a .k) ts → LowerFound (now (a .f)) (now (a .table)) ts (c .before .wide .result)
-below c ts low =
-    let a = c .before .before .before .before .before .before .before .before .before .args in
-    lower-found (now (a .f)) (now (a .table)) (a .k) ts (c .before .wide .result) low (c .if4 .left)
-
-over-entry-requires : tie.Need-over-entry-requires
-over-entry-requires c κs =
-    let u = c .before .before .before .before .before .before .before .before .before .before .pre in
-    let r = below (c .before) (u .0) (u .1 .lower) in
-    record { type = r .type; is = rw (c .value-at .ensures) (r .layout); well-formed = r .well-formed }
+    c .scalar-entry2 .ensures
+    ∙ entry-scalar (now (a .f)) ts (a .k) (a .e .reference) (u .entry-is) (zero-fields z) (told (s .is-scalar .ensures) (c .before .if4 .taken))
 
 returns-5 : tie.Need-returns-5
 returns-5 c ts u =
+    let w = c .before in
+    let s = w .before .before in
+    let z = s .before .before .before .before .before in
+    let a = z .before .before .before .args in
+    entry-missing (now (a .f)) ts (a .k) (a .e .reference) (u .entry-is) (zero-fields z) (told (s .is-scalar .ensures) (w .before .if4 .left))
+    (s .before .if3 .left) (lower-past (now (a .f)) (now (a .table)) (a .k) ts (a .e .reference) (u .lower)
+    (omega (arith, w .wide .ensures, c .if5 .taken)))
+
+-- the entry that is referred to
+below : (c : tie.Else5) →
+    let a = c .before .before .before .before .before .before .before .before .before .before .before .args in
+    (ts : List Ty) → Lower (now (a .f)) (now (a .table)) (a .k) ts → LowerFound (now (a .f)) (now (a .table)) ts (c .before .wide .result)
+below c ts low =
+    let a = c .before .before .before .before .before .before .before .before .before .before .before .args in
+    lower-found (now (a .f)) (now (a .table)) (a .k) ts (c .before .wide .result) low (c .if5 .left)
+
+over-entry-requires : tie.Need-over-entry-requires
+over-entry-requires c κs =
+    let u = c .before .before .before .before .before .before .before .before .before .before .before .before .pre in
+    let r = below (c .before) (u .0) (u .1 .lower) in
+    record { type = r .type; is = rw (c .value-at .ensures) (r .layout); well-formed = r .well-formed }
+
+returns-6 : tie.Need-returns-6
+returns-6 c ts u =
     let l = c .before in
     let w = l .before .before in
-    let z = w .before .before .before .before .before in
+    let s = w .before .before in
+    let z = s .before .before .before .before .before in
     let a = z .before .before .before .args in
     let r = below (l .before) ts (u .lower) in
     c .over-entry .ensures (r .type) (rw (l .value-at .ensures) (r .layout)) (r .well-formed)
-    ∙ entry-over (now (a .f)) ts (a .k) (a .e .reference) (u .entry-is) (zero-fields z)
-    (told (w .before .before .before .before .is-scalar .ensures) (w .before .before .before .if2 .left))
-    (w .before .if3 .left) (r .type) (w .wide .ensures .0) (r .is)
+    ∙ entry-over (now (a .f)) ts (a .k) (a .e .reference) (u .entry-is) (zero-fields z) (told (s .is-scalar .ensures) (w .before .if4 .left))
+    (s .before .if3 .left) (r .type) (w .wide .ensures .0) (r .is)
 
 pub entry-made-spec : {M : Type 1} → statement M
 entry-made-spec =
     tie.close (tie.spec
-    (λ c κs. search needs) returns (λ c κs. search needs) scalar-entry-requires returns-2 (λ c κs. search needs) returns-3
-    (λ c κs. search needs) returns-4 (λ c κs. search needs) over-entry-requires returns-5)
+    (λ c κs. search needs) returns scalar-entry-requires returns-2 (λ c κs. search needs) returns-3 (λ c κs. search needs)
+    scalar-entry-requires-2 returns-4 (λ c κs. search needs) returns-5 (λ c κs. search needs) over-entry-requires returns-6)
