@@ -61,7 +61,7 @@ module _ (t : Ty) (l : Value) (is : l ≡ valueOf (l .reference) t) (e : TypeEnt
         (verdict-laid (vector (e .rows) s) v (rw (le-leb 2 (e .rows) low, le-leb (e .rows) 4 high)) refl
         (fits-small (vector (e .rows) s) refl size (omega (arith, align s k)) refl) (h s k (x .narrow-is)))
 
-    -- The layout of a vector. "none over bool, as in 000", and none over an abstract scalar: then it has no words.
+    -- The layout of a vector. Over abstract scalars, and of three scalars of 64 bits, it has no alignment: then it has no words.
     pub vector-laid : (u : ℕ) → u ≡ cond (eqb a 0) 0 (wordsFor w) → madeOf (e .reference) (vectorMade (some t) e) ≡ Laid (record { kind = 7; narrow = l .narrow; reference = e .reference; count = e .rows; unit = u; stride = w; size = e .rows * w; align = a })
     unfolding kindOf narrowOf partsOf sizeOf alignOf isOpen
     vector-laid u unit =
