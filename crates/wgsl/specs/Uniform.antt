@@ -78,7 +78,7 @@ unfoldable pub memberTypes : List ℕ → ℕ → ℕ → List ℕ
 memberTypes f zero m = []
 memberTypes f (suc n) m = memberEntryAt f m .type ∷ memberTypes f n (suc m)
 
--- what entry k refers to: kinds 0 to 6 nothing, a struct its members' types, any other one entry
+-- what entry k refers to: a scalar nothing, a struct its members' types, any other one entry
 unfoldable pub refersTo : List ℕ → ℕ → List ℕ
 refersTo f k =
     let e : TypeEntry = typeEntryAt f k in
