@@ -1,5 +1,6 @@
 -- What the code's records of a file's fields say, in the words of crates/wgsl.
 -- Definitions only. Assumes nothing.
+use Prim.Native.Nat.{ℕ}
 use Rattle.wgsl.specs.Said.{Said, good, refused}
 use Rattle.wgsl.specs.File as wgsl
 use Rattle.file.specs.declared.trailer.Trailer.{Trailer}
@@ -8,6 +9,9 @@ use Rattle.file.specs.declared.trailer.Trailered.the-variants.{Good, Ref
 use Rattle.file.specs.declared.fields.TypeEntry.{TypeEntry}
 use Rattle.file.specs.declared.fields.MemberEntry.{MemberEntry}
 use Rattle.said.specs.Refusal.{numberOf, placeOf}
+
+abbrev pub trailerOver : ℕ → ℕ → ℕ → ℕ → wgsl.Trailer
+trailerOver types members start form = record { types = types; members = members; start = start; form = form }
 
 abbrev pub trailerIs : Trailer → wgsl.Trailer
 trailerIs t = record { types = t .types; members = t .members; start = t .start; form = t .form }

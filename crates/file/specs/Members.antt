@@ -5,6 +5,10 @@ use mathlib.Core.List.{List}
 use lib.ListN.{take, drop}
 use Rattle.wgsl.specs.File.{Trailer, trailerOf, typeEntryLength, memberEntryLength}
 
+-- how long each is
+abbrev pub memberLength : List ℕ → ℕ
+memberLength f = memberEntryLength (trailerOf f .form)
+
 -- where they begin
 unfoldable pub membersStart : List ℕ → ℕ
 membersStart f = let r : Trailer = trailerOf f in r .start + typeEntryLength * r .types
@@ -13,4 +17,4 @@ membersStart f = let r : Trailer = trailerOf f in r .start + typeEntryLength * r
 unfoldable pub memberBytes : List ℕ → List ℕ
 memberBytes f =
     let r : Trailer = trailerOf f in
-    take (memberEntryLength (r .form) * r .members) (drop (membersStart f) f)
+    take (memberLength f * r .members) (drop (membersStart f) f)

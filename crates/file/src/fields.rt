@@ -7,15 +7,21 @@ ghost use mathlib.Core.Path.{_≡_};
 ghost use Prim.Native.Nat.{_+_, _≤_, _<_};
 ghost use lib.ListN.{length};
 ghost use Rattle.wgsl.specs.Number.{load};
-ghost use Rattle.wgsl.specs.File.{typeEntryLength, typeEntryFrom, memberFieldsLength, memberEntryFrom};
+ghost use Rattle.wgsl.specs.File.{memberEntryLength, typeEntryLength, typeEntryFrom, memberFieldsLength, memberEntryFrom};
 ghost use Rattle.file.specs.Fields.{entryIs, memberIs};
 
-// How long a type entry is, and a member entry of form 1; the second as a number of 32 bits too, as a struct's value carries it.
+// How long a type entry is.
 pub const TYPE_ENTRY_LENGTH: usize = 12;
 
-pub const MEMBER_ENTRY_LENGTH: usize = 12;
-
-pub const MEMBER_ENTRY_STRIDE: u32 = 12;
+// How long a member entry is, by the file's form: a number of 32 bits, as a struct's value carries it. It is said here alone.
+pub fn member_length(form: u32) -> u32
+    ensures { λ r. ⌜ (r ≡ memberEntryLength form) × (r ≤ 16) ⌝ }
+{
+    if form == 2 {
+        return 16;
+    }
+    12
+}
 
 // A type entry.
 pub struct TypeEntry {

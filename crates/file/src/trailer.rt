@@ -1,20 +1,23 @@
 // The trailer, and the refusals 1 to 4.
-use crate::fields::MEMBER_ENTRY_LENGTH;
 use crate::fields::TYPE_ENTRY_LENGTH;
 use crate::fields::half;
+use crate::fields::member_length;
 use numbers::bytes::u32_at;
 use numbers::wide::wide;
 use said::refusal::Refusal;
 ghost use mathlib.Core.Path.{_≡_};
+ghost use mathlib.Core.Bool.{not, _&&_};
 ghost use Prim.Native.Nat.{_≤_, _<_};
 ghost use lib.ListN.{length};
-ghost use Rattle.wgsl.specs.File.{trailerLength, trailerOf, checkTrailer};
-ghost use Rattle.file.specs.Fields.{trailerIs, saidTrailer};
+ghost use Rattle.wgsl.specs.File.{trailerLength, trailerOf, mostTypes, mostMembers, between, lengthBy, checkTrailer};
+ghost use Rattle.file.specs.Fields.{trailerIs, trailerOver, saidTrailer};
 
-// How long the trailer is, the form, and the most types and members that a file may have.
-const TRAILER_LENGTH: usize = 10;
+// How long the trailer is, the forms, and the most types and members that a file may have.
+pub const TRAILER_LENGTH: usize = 10;
 
-const FORM: u32 = 1;
+const FORM_1: u32 = 1;
+
+const FORM_2: u32 = 2;
 
 const MOST_TYPES: u32 = 256;
 
@@ -33,7 +36,7 @@ pub enum Trailered {
 }
 
 // The fields of the trailer, where the file has one.
-fn trailer_fields(f: &[u8]) -> Trailer
+pub fn trailer_fields(f: &[u8]) -> Trailer
     requires { ⌜ trailerLength ≤ length (now f) ⌝ }
     ensures { λ r. ⌜ trailerIs r ≡ trailerOf (now (f .entry)) ⌝ }
 {
@@ -46,6 +49,38 @@ fn trailer_fields(f: &[u8]) -> Trailer
     }
 }
 
+// Whether a form is neither of the two.
+fn form_unknown(form: u32) -> bool
+    ensures { λ r. ⌜ r ≡ not (between 1 2 form) ⌝ }
+{
+    if form < FORM_1 {
+        return true;
+    }
+    FORM_2 < form
+}
+
+// Whether T or M is outside its range.
+fn counts_wrong(types: u32, members: u32) -> bool
+    ensures { λ r. ⌜ r ≡ not (between 1 mostTypes types && between 0 mostMembers members) ⌝ }
+{
+    if types < 1 {
+        return true;
+    }
+    if MOST_TYPES < types {
+        return true;
+    }
+    MOST_MEMBERS < members
+}
+
+// The length that the fields of a trailer say.
+pub fn length_by(types: u32, members: u32, start: u32, form: u32) -> usize
+    requires { ⌜ (types ≤ mostTypes) × (members ≤ mostMembers) ⌝ }
+    ensures { λ r. ⌜ r ≡ lengthBy (trailerOver types members start form) ⌝ }
+{
+    let length = wide(member_length(form));
+    wide(start) + (TYPE_ENTRY_LENGTH * wide(types) + length * wide(members)) + TRAILER_LENGTH
+}
+
 // The trailer, or the first of the refusals 1 to 4.
 pub fn check_trailer(f: &[u8]) -> Trailered
     ensures { λ r. ⌜ saidTrailer r ≡ checkTrailer (now (f .entry)) ⌝ }
@@ -54,24 +89,13 @@ pub fn check_trailer(f: &[u8]) -> Trailered
         return Trailered::Refused(Refusal::Short);
     }
     let t = trailer_fields(f);
-    if t.form != FORM {
+    if form_unknown(t.form) {
         return Trailered::Refused(Refusal::Form);
     }
-    if t.types < 1 {
+    if counts_wrong(t.types, t.members) {
         return Trailered::Refused(Refusal::Counts);
     }
-    if MOST_TYPES < t.types {
-        return Trailered::Refused(Refusal::Counts);
-    }
-    if MOST_MEMBERS < t.members {
-        return Trailered::Refused(Refusal::Counts);
-    }
-    let types = wide(t.types);
-    let members = wide(t.members);
-    let start = wide(t.start);
-    if f.len()
-        != start + (TYPE_ENTRY_LENGTH * types + MEMBER_ENTRY_LENGTH * members) + TRAILER_LENGTH
-    {
+    if f.len() != length_by(t.types, t.members, t.start, t.form) {
         return Trailered::Refused(Refusal::Length);
     }
     Trailered::Good(t)

@@ -26,7 +26,7 @@ use Rattle.said.specs.declared.refusal.Refusal.{Refusal}
 use Rattle.file.specs.declared.trailer.Trailer.{Trailer}
 use Rattle.wgsl.proofs.ScalarKind.{no-scalar-kind}
 use Rattle.layout_values.proofs.ValuesOf.{own-reference}
-use Rattle.layout_values.specs.Value.{partsOf, valueOf}
+use Rattle.layout_values.specs.Value.{partsOf, strideIn, valueOf}
 use Rattle.layout_values.specs.declared.value.Value.{Value}
 use Rattle.layout_table.specs.Table.{acceptedTrailer, saidChecked, groundOf, groundIn, saidGround}
 use Rattle.layout_table.specs.declared.Checked.{Checked}
@@ -66,15 +66,15 @@ marked-is ask p t w e = rw e (marked-present (ask t) (λ n h. p t n w h))
 
 -- ---- minimum sizes
 
-runtime-least : (t : Ty) → kindOf t ≡ 10 → present (partsOf t .stride) ≡ present (minSizeOf t)
-unfolding kindOf partsOf minSizeOf
-runtime-least (scalar s) h = absurd (no-scalar-kind s 10 (omega arith) (omega arith) h)
-runtime-least (vector n s) h = absurd (omega arith)
-runtime-least (matrix c r s) h = absurd (omega arith)
-runtime-least (array n t) h = absurd (omega arith)
-runtime-least (runtime t) h = refl
-runtime-least (atomic s) h = absurd (omega arith)
-runtime-least (struct k ms) h = absurd (omega arith)
+runtime-least : (long : ℕ) (t : Ty) → kindOf t ≡ 10 → present (strideIn long t) ≡ present (minSizeOf t)
+unfolding kindOf strideIn partsOf minSizeOf
+runtime-least long (scalar s) h = absurd (no-scalar-kind s 10 (omega arith) (omega arith) h)
+runtime-least long (vector n s) h = absurd (omega arith)
+runtime-least long (matrix c r s) h = absurd (omega arith)
+runtime-least long (array n t) h = absurd (omega arith)
+runtime-least long (runtime t) h = refl
+runtime-least long (atomic s) h = absurd (omega arith)
+runtime-least long (struct k ms) h = absurd (omega arith)
 
 other-least : (t : Ty) → (kindOf t ≡ 10 → ⊥) → sizeOf t ≡ minSizeOf t
 unfolding kindOf minSizeOf
@@ -86,11 +86,11 @@ other-least (runtime t) h = absurd (h refl)
 other-least (atomic s) h = refl
 other-least (struct k ms) h = refl
 
-module _ (l : Value) (t : Ty) (is : l ≡ valueOf (l .reference) t) where
+module _ (l : Value) (t : Ty) (is : l ≡ valueOf (l .stride) (l .reference) t) where
   -- "its minimum size is one stride"
   pub least-stride : l .kind ≡ 10 → l .stride ≡ present (minSizeOf t)
   unfolding valueOf
-  least-stride h = ap (λ (x : Value). x .stride) is ∙ runtime-least t (sym (ap (λ (x : Value). x .kind) is) ∙ h)
+  least-stride h = ap (λ (x : Value). x .stride) is ∙ runtime-least (l .stride) t (sym (ap (λ (x : Value). x .kind) is) ∙ h)
 
   -- "any other type's is its size"
   pub least-size : (l .kind ≡ 10 → ⊥) → l .size ≡ present (minSizeOf t)
@@ -157,15 +157,15 @@ module _ (f : List ℕ) (e : ℕ) (a : ValueFound) (says : saidValue a ≡ value
 
   module _ (l : Value) (is : a ≡ ValueFound.Is l) where
     -- Any question that the layout of a well-formed type answers, its entry answers.
-    ask-is : {B : Type 0} (rest : Ty → Said B) (s : Said B) → ((t : Ty) → l ≡ valueOf (l .reference) t → everywhere isWellFormed t ≡ true → s ≡ rest t) → s ≡ _>>=_ (entryOf f e) rest
+    ask-is : {B : Type 0} (rest : Ty → Said B) (s : Said B) → ((t : Ty) → l ≡ valueOf (l .stride) (l .reference) t → everywhere isWellFormed t ≡ true → s ≡ rest t) → s ≡ _>>=_ (entryOf f e) rest
     unfolding valueFound
     ask-is rest s h =
         let x = then-good _ _ (sym says ∙ ap saidValue is) in
         let t = x .value in
-        h t (own-reference _ t (sym (inner (x .after)))) (entry-well-formed f e t (x .first)) ∙ sym (then-is rest (x .first))
+        h t (own-reference _ _ t (sym (inner (x .after)))) (entry-well-formed f e t (x .first)) ∙ sym (then-is rest (x .first))
 
     -- A number asked alone.
-    ask-number : (ask : Ty → Option ℕ) → Positive ask → (n : ℕ) → ((t : Ty) → l ≡ valueOf (l .reference) t → n ≡ present (ask t)) → {s : Said ℕ} → s ≡ orRefuse 9 0 (marked n) → s ≡ _>>=_ (entryOf f e) (λ t. orRefuse 9 0 (ask t))
+    ask-number : (ask : Ty → Option ℕ) → Positive ask → (n : ℕ) → ((t : Ty) → l ≡ valueOf (l .stride) (l .reference) t → n ≡ present (ask t)) → {s : Said ℕ} → s ≡ orRefuse 9 0 (marked n) → s ≡ _>>=_ (entryOf f e) (λ t. orRefuse 9 0 (ask t))
     ask-number ask p n same h = ask-is _ _ (λ t v w. h ∙ ap (orRefuse 9 0) (marked-is ask p t w (same t v)))
 
     pub ask-size : {s : Said ℕ} → s ≡ orRefuse 9 0 (marked (l .size)) → s ≡ sizeCall f e
@@ -176,13 +176,13 @@ module _ (f : List ℕ) (e : ℕ) (a : ValueFound) (says : saidValue a ≡ value
     unfolding alignCall valueOf
     ask-align h = ask-number alignOf align-positive (l .align) (λ t v. ap (λ (x : Value). x .align) v) h
 
-    module _ (least : ℕ) (same : (t : Ty) → l ≡ valueOf (l .reference) t → least ≡ present (minSizeOf t)) where
+    module _ (least : ℕ) (same : (t : Ty) → l ≡ valueOf (l .stride) (l .reference) t → least ≡ present (minSizeOf t)) where
       pub ask-min-size : {s : Said ℕ} → s ≡ orRefuse 9 0 (marked least) → s ≡ minSizeCall f e
       unfolding minSizeCall
       ask-min-size h = ask-number minSizeOf least-positive least same h
 
       -- "(the layout answer marks it absent instead)"; its stride as well
-      pub ask-layout : (own : ℕ) → ((t : Ty) → l ≡ valueOf (l .reference) t → everywhere isWellFormed t ≡ true → own ≡ present (ownStrideOf t)) → {size align min stride : Option ℕ} → size ≡ marked (l .size) → align ≡ marked (l .align) → min ≡ marked least → stride ≡ marked own → good (record { size = size; align = align; minSize = min; stride = stride }) ≡ layoutCall f e
+      pub ask-layout : (own : ℕ) → ((t : Ty) → l ≡ valueOf (l .stride) (l .reference) t → everywhere isWellFormed t ≡ true → own ≡ present (ownStrideOf t)) → {size align min stride : Option ℕ} → size ≡ marked (l .size) → align ≡ marked (l .align) → min ≡ marked least → stride ≡ marked own → good (record { size = size; align = align; minSize = min; stride = stride }) ≡ layoutCall f e
       unfolding layoutCall layoutOf valueOf
       ask-layout own stride p q r s =
           ask-is _ _ (λ t v w.

@@ -9,6 +9,7 @@ use Rattle.wgsl.specs.Said.{Said, good, refused, _>>=_}
 use Rattle.wgsl.specs.File.{typeEntryAt}
 use Rattle.wgsl.specs.Call.{entryOf}
 use Rattle.said.specs.Refusal.{numberOf, placeOf}
+use Rattle.file.specs.Members.{memberLength}
 use Rattle.layout_values.specs.declared.value.Value.{Value}
 use Rattle.layout_values.specs.Value.{valueOf}
 use Rattle.layout_ask.specs.declared.ValueFound.{ValueFound}
@@ -16,7 +17,7 @@ use Rattle.layout_ask.specs.declared.ValueFound.{ValueFound}
 unfoldable pub valueFound : List ℕ → ℕ → Said Value
 valueFound f e = do
   t ← entryOf f e
-  good (valueOf (typeEntryAt f e .reference) t)
+  good (valueOf (memberLength f) (typeEntryAt f e .reference) t)
 
 abbrev pub saidValue : ValueFound → Said Value
 saidValue (ValueFound.Is l) = good l

@@ -80,7 +80,7 @@ fn mark(n: u32) -> Maybe
 }
 
 fn least(l: Value) -> u32
-    ensures { λ r. ⌜ ((t : Ty) → l ≡ valueOf (l .reference) t → r ≡ present (minSizeOf t)) ⌝ }
+    ensures { λ r. ⌜ ((t : Ty) → l ≡ valueOf (l .stride) (l .reference) t → r ≡ present (minSizeOf t)) ⌝ }
 {
     if l.kind == RUNTIME {
         return l.stride;

@@ -64,7 +64,7 @@ runtime-kind (runtime t) = refl
 runtime-kind (atomic s) = refl
 runtime-kind (struct k ms) = refl
 
-module _ (l : Value) (t : Ty) (is : l ≡ valueOf (l .reference) t) (w : everywhere isWellFormed t ≡ true) where
+module _ (l : Value) (t : Ty) (is : l ≡ valueOf (l .stride) (l .reference) t) (w : everywhere isWellFormed t ≡ true) where
   kind-is : eqb (l .kind) 10 ≡ isRuntime t
   unfolding valueOf
   kind-is = ap (λ (x : Value). eqb (x .kind) 10) is ∙ runtime-kind t

@@ -46,7 +46,7 @@ pub fn rest_is_zero(m: MemberEntry) -> bool
 
 // "A member type has size and alignment, except that the last may be a runtime array."
 pub fn is_allowed(l: Value, last: bool) -> bool
-    ensures { λ r. ⌜ ((t : Ty) → l ≡ valueOf (l .reference) t → everywhere isWellFormed t ≡ true → r ≡ memberAllowed last t) ⌝ }
+    ensures { λ r. ⌜ ((t : Ty) → l ≡ valueOf (l .stride) (l .reference) t → everywhere isWellFormed t ≡ true → r ≡ memberAllowed last t) ⌝ }
 {
     if l.align == 0 {
         return false;
@@ -62,7 +62,7 @@ pub fn is_allowed(l: Value, last: bool) -> bool
 
 // "A given size is at least the type's size and never stands on a runtime array."
 pub fn size_fits(m: MemberEntry, l: Value) -> bool
-    ensures { λ r. ⌜ ((t : Ty) → l ≡ valueOf (l .reference) t → everywhere isWellFormed t ≡ true → r ≡ givenSizeFits t (givenSize (memberIs m))) ⌝ }
+    ensures { λ r. ⌜ ((t : Ty) → l ≡ valueOf (l .stride) (l .reference) t → everywhere isWellFormed t ≡ true → r ≡ givenSizeFits t (givenSize (memberIs m))) ⌝ }
 {
     if !size_given(m) {
         return true;
@@ -76,7 +76,7 @@ pub fn size_fits(m: MemberEntry, l: Value) -> bool
 // "A given align is a power of two and a multiple of the type's alignment." That is one too, so a power of two is a
 // multiple of it if it is not below it.
 pub fn align_fits(m: MemberEntry, l: Value) -> bool
-    ensures { λ r. ⌜ ((t : Ty) → l ≡ valueOf (l .reference) t → everywhere isWellFormed t ≡ true → r ≡ givenAlignFits t (givenAlign (memberIs m))) ⌝ }
+    ensures { λ r. ⌜ ((t : Ty) → l ≡ valueOf (l .stride) (l .reference) t → everywhere isWellFormed t ≡ true → r ≡ givenAlignFits t (givenAlign (memberIs m))) ⌝ }
 {
     if !align_given(m) {
         return true;

@@ -21,55 +21,55 @@ use Rattle.numbers.specs.declared.limit.Limited.the-variants.{Is, TooLarge}
 use Rattle.layout_referring.proofs.Limited.{limited-is, limited-large}
 use Rattle.layout_values.proofs.ValueOf.{unaligned, Element, element, align-within, words-within, no-words}
 use Rattle.layout_values.proofs.StrideOf.{element-stride, unaligned-stride}
-use Rattle.layout_values.specs.Value.{narrowOf, partsOf, fixedWords, wordsIn, valueOf, verdictOn, madeOf}
+use Rattle.layout_values.specs.Value.{narrowOf, partsOf, fixedWords, wordsIn, valueOf, verdictOn, madeOf, strideIn}
 use Rattle.layout_values.specs.declared.value.Value.{Value}
 use Rattle.layout_values.specs.declared.value.Made.the-variants.{Laid, Rule, Large}
 
 -- ---- words
 
 -- The words of an element, with an alignment or without, are within the limit.
-pub array-words : (t : Ty) (l : Value) → l ≡ valueOf (l .reference) t → everywhere isWellFormed t ≡ true → isOpen t ≡ false → wordsIn l ≤ 4294967295
+pub array-words : (t : Ty) (l : Value) → l ≡ valueOf (l .stride) (l .reference) t → everywhere isWellFormed t ≡ true → isOpen t ≡ false → wordsIn l ≤ 4294967295
 array-words t l is w o = go (l .align) refl
   where
     go : (a : ℕ) → l .align ≡ a → wordsIn l ≤ 4294967295
     go zero q = omega (arith, no-words t l is w q)
     go (suc a) q = words-within t l (element t l is w o (omega arith))
 
-module _ (e : TypeEntry) (t : Ty) where
+module _ (e : TypeEntry) (t : Ty) (long : ℕ) where
   -- ---- the fields
 
   -- "Fields a kind doesn't use are zero."
-  pub array-used : unused (e .columns ∷ e .rows ∷ []) ≡ false → madeOf (e .reference) (arrayMade (some t) e) ≡ Rule
+  pub array-used : unused (e .columns ∷ e .rows ∷ []) ≡ false → madeOf long (e .reference) (arrayMade (some t) e) ≡ Rule
   unfolding madeOf arrayMade when
   array-used h = rw h
 
   module _ (free : unused (e .columns ∷ e .rows ∷ []) ≡ true) where
-    array-made : madeOf (e .reference) (arrayMade (some t) e) ≡ verdictOn (e .reference) (array (e .count) t)
+    array-made : madeOf long (e .reference) (arrayMade (some t) e) ≡ verdictOn long (e .reference) (array (e .count) t)
     unfolding madeOf arrayMade when andThen
     array-made = rw free
 
     -- ---- the rules
 
     -- "count at least 1"
-    pub array-empty : e .count < 1 → madeOf (e .reference) (arrayMade (some t) e) ≡ Rule
+    pub array-empty : e .count < 1 → madeOf long (e .reference) (arrayMade (some t) e) ≡ Rule
     unfolding verdictOn isAllowed
     array-empty h = array-made ∙ rw (lt-leb 1 (e .count) h)
 
     module _ (full : 1 ≤ e .count) where
       -- "An array's element isn't open"
-      pub array-open : isOpen t ≡ true → madeOf (e .reference) (arrayMade (some t) e) ≡ Rule
+      pub array-open : isOpen t ≡ true → madeOf long (e .reference) (arrayMade (some t) e) ≡ Rule
       unfolding verdictOn isAllowed
       array-open h = array-made ∙ rw (le-leb 1 (e .count) full, h)
 
-      array-allowed : isOpen t ≡ false → madeOf (e .reference) (arrayMade (some t) e) ≡ cond (fitsLimit (array (e .count) t)) (Laid (valueOf (e .reference) (array (e .count) t))) Large
+      array-allowed : isOpen t ≡ false → madeOf long (e .reference) (arrayMade (some t) e) ≡ cond (fitsLimit (array (e .count) t)) (Laid (valueOf long (e .reference) (array (e .count) t))) Large
       unfolding verdictOn isAllowed givenFits
       array-allowed h = array-made ∙ rw (le-leb 1 (e .count) full, h)
 
       -- ---- an element with no alignment
 
       -- "A number made from an absent one is absent": such an array has neither size nor layout.
-      none-laid : (l : Value) → l ≡ valueOf (l .reference) t → isOpen t ≡ false → alignOf t ≡ none → madeOf (e .reference) (arrayMade (some t) e) ≡ Laid (record { kind = 9; narrow = l .narrow; reference = e .reference; count = e .count; unit = 0; stride = 0; size = 0; align = 0 })
-      unfolding fitsLimit withinLimits numbersOf minSizeOf innerNumbersOf strideOf sizeOf alignOf both valueOf kindOf narrowOf partsOf present hasLayout isPresent
+      none-laid : (l : Value) → l ≡ valueOf (l .stride) (l .reference) t → isOpen t ≡ false → alignOf t ≡ none → madeOf long (e .reference) (arrayMade (some t) e) ≡ Laid (record { kind = 9; narrow = l .narrow; reference = e .reference; count = e .count; unit = 0; stride = 0; size = 0; align = 0 })
+      unfolding fitsLimit withinLimits numbersOf minSizeOf innerNumbersOf strideOf sizeOf alignOf both valueOf kindOf narrowOf partsOf strideIn present hasLayout isPresent
       none-laid l is h q =
           let narrow : narrowOf t ≡ l .narrow = sym (ap (λ (x : Value). x .narrow) is) in
           array-allowed h ∙ rw (q, narrow)
@@ -85,7 +85,7 @@ module _ (e : TypeEntry) (t : Ty) where
         size-is = rw (x .align-is, x .size-is, number .0)
 
         -- "Array: count x stride", past the limit
-        large : limited (e .count * stride) ≡ TooLarge → madeOf (e .reference) (arrayMade (some t) e) ≡ Large
+        large : limited (e .count * stride) ≡ TooLarge → madeOf long (e .reference) (arrayMade (some t) e) ≡ Large
         unfolding fitsLimit withinLimits numbersOf withinLimit
         large h = array-allowed (x .closed) ∙ rw (size-is, lt-leb _ _ (limited-large _ h))
 
@@ -102,8 +102,8 @@ module _ (e : TypeEntry) (t : Ty) where
                 le-leb _ _ (align-within t l x),
               )
 
-          laid : madeOf (e .reference) (arrayMade (some t) e) ≡ Laid (record { kind = 9; narrow = l .narrow; reference = e .reference; count = e .count; unit = wordsIn l; stride = stride; size = size; align = l .align })
-          unfolding valueOf kindOf narrowOf partsOf present fixedWords hasLayout isPresent isOpen sizeOf alignOf strideOf both
+          laid : madeOf long (e .reference) (arrayMade (some t) e) ≡ Laid (record { kind = 9; narrow = l .narrow; reference = e .reference; count = e .count; unit = wordsIn l; stride = stride; size = size; align = l .align })
+          unfolding valueOf kindOf narrowOf partsOf strideIn present fixedWords hasLayout isPresent isOpen sizeOf alignOf strideOf both
           laid =
               array-allowed (x .closed)
               ∙ rw (
@@ -119,25 +119,25 @@ module _ (e : TypeEntry) (t : Ty) where
 
       -- ---- any element
 
-      module _ (l : Value) (is : l ≡ valueOf (l .reference) t) (w : everywhere isWellFormed t ≡ true) (closed : isOpen t ≡ false) (stride : ℕ) (own : stride ≡ present (ownStrideOf t)) where
+      module _ (l : Value) (is : l ≡ valueOf (l .stride) (l .reference) t) (w : everywhere isWellFormed t ≡ true) (closed : isOpen t ≡ false) (stride : ℕ) (own : stride ≡ present (ownStrideOf t)) where
         no-stride : l .align ≡ 0 → stride ≡ 0
         no-stride q = unaligned-stride t stride closed (unaligned t l is w q) own
 
         -- "Array: count x stride", past the limit
-        pub array-large : limited (e .count * stride) ≡ TooLarge → madeOf (e .reference) (arrayMade (some t) e) ≡ Large
+        pub array-large : limited (e .count * stride) ≡ TooLarge → madeOf long (e .reference) (arrayMade (some t) e) ≡ Large
         array-large h = go (l .align) refl
           where
-            go : (a : ℕ) → l .align ≡ a → madeOf (e .reference) (arrayMade (some t) e) ≡ Large
+            go : (a : ℕ) → l .align ≡ a → madeOf long (e .reference) (arrayMade (some t) e) ≡ Large
             go zero q =
                 let none-there : e .count * stride ≡ 0 = rw (no-stride q) (mul-zero (e .count)) in
                 absurd (omega (arith, limited-large _ h, none-there))
             go (suc a) q = large l (element t l is w closed (omega arith)) stride own h
 
         -- The layout of an array.
-        pub array-laid : (size : ℕ) → limited (e .count * stride) ≡ Is size → madeOf (e .reference) (arrayMade (some t) e) ≡ Laid (record { kind = 9; narrow = l .narrow; reference = e .reference; count = e .count; unit = wordsIn l; stride = stride; size = size; align = l .align })
+        pub array-laid : (size : ℕ) → limited (e .count * stride) ≡ Is size → madeOf long (e .reference) (arrayMade (some t) e) ≡ Laid (record { kind = 9; narrow = l .narrow; reference = e .reference; count = e .count; unit = wordsIn l; stride = stride; size = size; align = l .align })
         array-laid size h = go (l .align) refl
           where
-            go : (a : ℕ) → l .align ≡ a → madeOf (e .reference) (arrayMade (some t) e) ≡ Laid (record { kind = 9; narrow = l .narrow; reference = e .reference; count = e .count; unit = wordsIn l; stride = stride; size = size; align = l .align })
+            go : (a : ℕ) → l .align ≡ a → madeOf long (e .reference) (arrayMade (some t) e) ≡ Laid (record { kind = 9; narrow = l .narrow; reference = e .reference; count = e .count; unit = wordsIn l; stride = stride; size = size; align = l .align })
             go zero q =
                 let none-there : e .count * stride ≡ 0 = rw (no-stride q) (mul-zero (e .count)) in
                 let none-long : size ≡ 0 = sym (limited-is _ size h .0) ∙ none-there in

@@ -2,7 +2,7 @@
 --
 -- In order: the scalars of an atomic; the ways to break a rule; the layout.
 -- Assumes nothing.
-use Prim.Native.Nat.{_<_, _≤_}
+use Prim.Native.Nat.{_<_, _≤_, ℕ}
 use mathlib.Core.Bool.{true, false}
 use mathlib.Core.List.{[], _∷_}
 use mathlib.Core.Option.{some}
@@ -17,7 +17,7 @@ use Rattle.wgsl.specs.Place.{wordsFor}
 use Rattle.wgsl.proofs.ScalarKind.{low-scalar}
 use Rattle.layout_values.proofs.VerdictOn.{fits-small, layout-closed, value-is, verdict-laid, made-used, made-rule, made-over}
 use Rattle.layout_values.proofs.ScalarMade.{scalar-known, scalar-kind}
-use Rattle.layout_values.specs.Value.{storedWidth, narrowOf, partsOf, valueOf, madeOf}
+use Rattle.layout_values.specs.Value.{storedWidth, narrowOf, partsOf, valueOf, madeOf, strideIn}
 use Rattle.layout_values.specs.declared.value.Value.{Value}
 use Rattle.layout_values.specs.declared.value.Made.the-variants.{Laid, Rule}
 
@@ -64,30 +64,30 @@ scalar-atomic f64 h k = absurd (omega arith)
 
 -- ---- the entry
 
-module _ (t : Ty) (l : Value) (is : l ≡ valueOf (l .reference) t) (e : TypeEntry) where
-  pub atomic-used : unused (e .columns ∷ e .rows ∷ e .count ∷ []) ≡ false → madeOf (e .reference) (atomicMade (some t) e) ≡ Rule
+module _ (t : Ty) (l : Value) (is : l ≡ valueOf (l .stride) (l .reference) t) (e : TypeEntry) (long : ℕ) where
+  pub atomic-used : unused (e .columns ∷ e .rows ∷ e .count ∷ []) ≡ false → madeOf long (e .reference) (atomicMade (some t) e) ≡ Rule
   unfolding atomicMade
-  atomic-used h = made-used _ _ h
+  atomic-used h = made-used _ _ _ h
 
-  other-scalar : ((s : Scalar) → scalarKind s ≡ l .kind → isAtomicScalar s ≡ false) → madeOf (e .reference) (atomicMade (some t) e) ≡ Rule
+  other-scalar : ((s : Scalar) → scalarKind s ≡ l .kind → isAtomicScalar s ≡ false) → madeOf long (e .reference) (atomicMade (some t) e) ≡ Rule
   unfolding atomicMade andThen isAllowed
-  other-scalar h = made-rule _ _ (scalarIn t) atomic (λ s f. h s (scalar-kind t l s is f .0))
+  other-scalar h = made-rule _ _ _ (scalarIn t) atomic (λ s f. h s (scalar-kind t l s is f .0))
 
   -- "reference to i32 or u32"
-  pub atomic-low : l .kind < 1 → madeOf (e .reference) (atomicMade (some t) e) ≡ Rule
+  pub atomic-low : l .kind < 1 → madeOf long (e .reference) (atomicMade (some t) e) ≡ Rule
   atomic-low h = other-scalar (λ s k. scalar-low s (omega arith))
 
-  pub atomic-high : 2 < l .kind → madeOf (e .reference) (atomicMade (some t) e) ≡ Rule
+  pub atomic-high : 2 < l .kind → madeOf long (e .reference) (atomicMade (some t) e) ≡ Rule
   atomic-high h = other-scalar (λ s k. scalar-high s (omega arith))
 
-  pub atomic-laid : unused (e .columns ∷ e .rows ∷ e .count ∷ []) ≡ true → 1 ≤ l .kind → l .kind ≤ 2 → madeOf (e .reference) (atomicMade (some t) e) ≡ Laid (record { kind = 11; narrow = 4; reference = e .reference; count = 1; unit = 1; stride = 4; size = 4; align = 4 })
-  unfolding atomicMade andThen isAllowed givenFits sizeOf alignOf minSizeOf innerNumbersOf kindOf narrowOf partsOf present isPresent isOpen wordsFor up
+  pub atomic-laid : unused (e .columns ∷ e .rows ∷ e .count ∷ []) ≡ true → 1 ≤ l .kind → l .kind ≤ 2 → madeOf long (e .reference) (atomicMade (some t) e) ≡ Laid (record { kind = 11; narrow = 4; reference = e .reference; count = 1; unit = 1; stride = 4; size = 4; align = 4 })
+  unfolding atomicMade andThen isAllowed givenFits sizeOf alignOf minSizeOf innerNumbersOf kindOf narrowOf partsOf strideIn present isPresent isOpen wordsFor up
   atomic-laid zeros low high =
       let x = scalar-known t l is (low-scalar _ (omega arith)) in
       let s = x .scalar in
       let k = x .kind-is in
       let (allowed, narrow, width) = scalar-atomic s (omega arith) (omega arith) in
       let laid = layout-closed (atomic s) refl refl refl in
-      made-over _ atomic zeros (x .found)
-      ∙ verdict-laid (atomic s) _ allowed refl (fits-small (atomic s) refl (omega arith) (omega arith) refl)
-      (value-is (atomic s) _ refl (sym narrow) refl (rw (laid, width)) (sym width) refl refl)
+      made-over _ _ atomic zeros (x .found)
+      ∙ verdict-laid long (atomic s) _ allowed refl (fits-small (atomic s) refl (omega arith) (omega arith) refl)
+      (value-is long (atomic s) _ refl (sym narrow) refl (rw (laid, width)) (sym width) refl refl)

@@ -20,7 +20,7 @@ use Rattle.wgsl.proofs.ScalarRank.{kind-same}
 use Rattle.layout_values.proofs.VerdictOn.{present-positive, fits-small, layout-closed, layout-none, value-is, unit-laid, verdict-laid, made-used, made-rule, made-over}
 use Rattle.layout_values.proofs.ScalarMade.{scalar-known, scalar-kind}
 use Rattle.layout_values.proofs.VectorAlign.{times-present, align-absent, width-there}
-use Rattle.layout_values.specs.Value.{storedWidth, scalarWords, narrowOf, partsOf, valueOf, madeOf}
+use Rattle.layout_values.specs.Value.{storedWidth, scalarWords, narrowOf, partsOf, valueOf, madeOf, strideIn}
 use Rattle.layout_values.specs.declared.value.Value.{Value}
 use Rattle.layout_values.specs.declared.value.Made.the-variants.{Laid, Rule}
 
@@ -59,42 +59,42 @@ times-there n none h = h
 
 -- ---- the entry
 
-module _ (t : Ty) (l : Value) (is : l ≡ valueOf (l .reference) t) (e : TypeEntry) where
-  pub matrix-used : unused (e .count ∷ []) ≡ false → madeOf (e .reference) (matrixMade (some t) e) ≡ Rule
+module _ (t : Ty) (l : Value) (is : l ≡ valueOf (l .stride) (l .reference) t) (e : TypeEntry) (long : ℕ) where
+  pub matrix-used : unused (e .count ∷ []) ≡ false → madeOf long (e .reference) (matrixMade (some t) e) ≡ Rule
   unfolding matrixMade
-  matrix-used h = made-used _ _ h
+  matrix-used h = made-used _ _ _ h
 
   -- "reference to f32, f16 or abstract float"
-  pub matrix-over : ((s : Scalar) → scalarKind s ≡ l .kind → isMatrixScalar s ≡ false) → madeOf (e .reference) (matrixMade (some t) e) ≡ Rule
+  pub matrix-over : ((s : Scalar) → scalarKind s ≡ l .kind → isMatrixScalar s ≡ false) → madeOf long (e .reference) (matrixMade (some t) e) ≡ Rule
   unfolding matrixMade andThen isAllowed
   matrix-over h =
-      made-rule _ _ (scalarIn t) (matrix (e .columns) (e .rows))
+      made-rule _ _ _ (scalarIn t) (matrix (e .columns) (e .rows))
       (λ s f. rw (h s (scalar-kind t l s is f .0)) (and-false (between 2 4 (e .columns) && between 2 4 (e .rows))))
 
   -- "columns 2-4"
-  pub columns-low : e .columns < 2 → madeOf (e .reference) (matrixMade (some t) e) ≡ Rule
+  pub columns-low : e .columns < 2 → madeOf long (e .reference) (matrixMade (some t) e) ≡ Rule
   unfolding matrixMade andThen isAllowed between
   columns-low h =
-      made-rule _ _ (scalarIn t) (matrix (e .columns) (e .rows)) (λ s f. rw (lt-leb 2 (e .columns) h))
+      made-rule _ _ _ (scalarIn t) (matrix (e .columns) (e .rows)) (λ s f. rw (lt-leb 2 (e .columns) h))
 
-  pub columns-high : 4 < e .columns → madeOf (e .reference) (matrixMade (some t) e) ≡ Rule
+  pub columns-high : 4 < e .columns → madeOf long (e .reference) (matrixMade (some t) e) ≡ Rule
   unfolding matrixMade andThen isAllowed between
   columns-high h =
-      made-rule _ _ (scalarIn t) (matrix (e .columns) (e .rows))
+      made-rule _ _ _ (scalarIn t) (matrix (e .columns) (e .rows))
       (λ s f. rw (le-leb 2 (e .columns) (omega arith), lt-leb (e .columns) 4 h))
 
   module _ (left : 2 ≤ e .columns) (right : e .columns ≤ 4) where
     -- "rows 2-4"
-    pub rows-low : e .rows < 2 → madeOf (e .reference) (matrixMade (some t) e) ≡ Rule
+    pub rows-low : e .rows < 2 → madeOf long (e .reference) (matrixMade (some t) e) ≡ Rule
     unfolding matrixMade andThen isAllowed between
     rows-low h =
-        made-rule _ _ (scalarIn t) (matrix (e .columns) (e .rows))
+        made-rule _ _ _ (scalarIn t) (matrix (e .columns) (e .rows))
         (λ s f. rw (le-leb 2 (e .columns) left, le-leb (e .columns) 4 right, lt-leb 2 (e .rows) h))
 
-    pub rows-high : 4 < e .rows → madeOf (e .reference) (matrixMade (some t) e) ≡ Rule
+    pub rows-high : 4 < e .rows → madeOf long (e .reference) (matrixMade (some t) e) ≡ Rule
     unfolding matrixMade andThen isAllowed between
     rows-high h =
-        made-rule _ _ (scalarIn t) (matrix (e .columns) (e .rows))
+        made-rule _ _ _ (scalarIn t) (matrix (e .columns) (e .rows))
         (λ s f. rw (
           le-leb 2 (e .columns) left,
           le-leb (e .columns) 4 right,
@@ -107,16 +107,16 @@ module _ (t : Ty) (l : Value) (is : l ≡ valueOf (l .reference) t) (e : TypeEnt
       size-is : (s : Scalar) → scalarKind s ≡ l .kind → present (both _*_ (some (e .columns)) (vectorAlign (e .rows) s)) ≡ e .columns * a
       size-is s k = rw (align s k) (times-present (e .columns) (vectorAlign (e .rows) s))
 
-      matrix-verdict : (v : Value) → v .reference ≡ e .reference → ((s : Scalar) → scalarKind s ≡ l .kind → l .narrow ≡ storedWidth s → v ≡ valueOf (v .reference) (matrix (e .columns) (e .rows) s)) → madeOf (e .reference) (matrixMade (some t) e) ≡ Laid v
+      matrix-verdict : (v : Value) → v .reference ≡ e .reference → ((s : Scalar) → scalarKind s ≡ l .kind → l .narrow ≡ storedWidth s → v ≡ valueOf long (v .reference) (matrix (e .columns) (e .rows) s)) → madeOf long (e .reference) (matrixMade (some t) e) ≡ Laid v
       unfolding matrixMade andThen isAllowed between givenFits sizeOf alignOf minSizeOf innerNumbersOf
       matrix-verdict v q h =
           let x = scalar-known t l is scalars in
           let s = x .scalar in
           let k = x .kind-is in
           let size : e .columns * a ≤ 128 = mul-le-mul right narrow in
-          made-over _ (matrix (e .columns) (e .rows)) zeros (x .found)
+          made-over _ _ (matrix (e .columns) (e .rows)) zeros (x .found)
           ∙ rw (← q)
-          (verdict-laid (matrix (e .columns) (e .rows) s) v
+          (verdict-laid long (matrix (e .columns) (e .rows) s) v
           (rw (le-leb 2 (e .columns) left, le-leb (e .columns) 4 right, le-leb 2 (e .rows) top, le-leb (e .rows) 4 bottom)
           (float s k))
           refl
@@ -124,11 +124,11 @@ module _ (t : Ty) (l : Value) (is : l ≡ valueOf (l .reference) t) (e : TypeEnt
           (h s k (x .narrow-is)))
 
       -- The layout of a matrix: one with no alignment has no words.
-      pub matrix-laid : (u : ℕ) → u ≡ cond (eqb a 0) 0 (e .rows) → madeOf (e .reference) (matrixMade (some t) e) ≡ Laid (record { kind = 8; narrow = l .narrow; reference = e .reference; count = e .columns; unit = u; stride = a; size = e .columns * a; align = a })
-      unfolding kindOf narrowOf partsOf sizeOf alignOf isOpen
+      pub matrix-laid : (u : ℕ) → u ≡ cond (eqb a 0) 0 (e .rows) → madeOf long (e .reference) (matrixMade (some t) e) ≡ Laid (record { kind = 8; narrow = l .narrow; reference = e .reference; count = e .columns; unit = u; stride = a; size = e .columns * a; align = a })
+      unfolding kindOf narrowOf partsOf strideIn sizeOf alignOf isOpen
       matrix-laid u unit =
           matrix-verdict _ refl
-          (λ s k b. value-is (matrix (e .columns) (e .rows) s) _ refl b refl (unit ∙ units s a k (align s k)) (align s k)
+          (λ s k b. value-is long (matrix (e .columns) (e .rows) s) _ refl b refl (unit ∙ units s a k (align s k)) (align s k)
           (sym (size-is s k)) (align s k))
         where
           units : (s : Scalar) (a : ℕ) → scalarKind s ≡ l .kind → a ≡ present (vectorAlign (e .rows) s) → cond {A = ℕ} (eqb a 0) 0 (e .rows) ≡ cond (hasLayout (matrix (e .columns) (e .rows) s)) (e .rows * scalarWords s) 0

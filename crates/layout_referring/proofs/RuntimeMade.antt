@@ -15,39 +15,39 @@ use Rattle.wgsl.specs.File.{TypeEntry}
 use Rattle.wgsl.specs.Rule.{when, andThen, unused, runtimeMade, isAllowed, givenFits}
 use Rattle.layout_values.proofs.ValueOf.{Element, align-within}
 use Rattle.layout_values.proofs.StrideOf.{element-stride}
-use Rattle.layout_values.specs.Value.{narrowOf, partsOf, fixedWords, wordsIn, valueOf, verdictOn, madeOf}
+use Rattle.layout_values.specs.Value.{narrowOf, partsOf, fixedWords, wordsIn, valueOf, verdictOn, madeOf, strideIn}
 use Rattle.layout_values.specs.declared.value.Value.{Value}
 use Rattle.layout_values.specs.declared.value.Made.the-variants.{Laid, Rule, Large}
 
-module _ (e : TypeEntry) (t : Ty) where
+module _ (e : TypeEntry) (t : Ty) (long : ℕ) where
   -- ---- the fields
 
   -- "Fields a kind doesn't use are zero."
-  pub runtime-used : unused (e .columns ∷ e .rows ∷ e .count ∷ []) ≡ false → madeOf (e .reference) (runtimeMade (some t) e) ≡ Rule
+  pub runtime-used : unused (e .columns ∷ e .rows ∷ e .count ∷ []) ≡ false → madeOf long (e .reference) (runtimeMade (some t) e) ≡ Rule
   unfolding madeOf runtimeMade when
   runtime-used h = rw h
 
   module _ (free : unused (e .columns ∷ e .rows ∷ e .count ∷ []) ≡ true) where
-    runtime-made : madeOf (e .reference) (runtimeMade (some t) e) ≡ verdictOn (e .reference) (runtime t)
+    runtime-made : madeOf long (e .reference) (runtimeMade (some t) e) ≡ verdictOn long (e .reference) (runtime t)
     unfolding madeOf runtimeMade when andThen
     runtime-made = rw free
 
     -- ---- the rules
 
     -- "An array's element isn't open"
-    pub runtime-open : isOpen t ≡ true → madeOf (e .reference) (runtimeMade (some t) e) ≡ Rule
+    pub runtime-open : isOpen t ≡ true → madeOf long (e .reference) (runtimeMade (some t) e) ≡ Rule
     unfolding verdictOn isAllowed
     runtime-open h = runtime-made ∙ rw h
 
     -- "a runtime array's element also has size and alignment"
-    pub runtime-unaligned : alignOf t ≡ none → madeOf (e .reference) (runtimeMade (some t) e) ≡ Rule
+    pub runtime-unaligned : alignOf t ≡ none → madeOf long (e .reference) (runtimeMade (some t) e) ≡ Rule
     unfolding verdictOn isAllowed isPresent
     runtime-unaligned h = runtime-made ∙ rw (h, and-false)
 
     -- ---- an element that has an alignment
 
     module _ (l : Value) (x : Element t l) where
-      runtime-allowed : madeOf (e .reference) (runtimeMade (some t) e) ≡ cond (fitsLimit (runtime t)) (Laid (valueOf (e .reference) (runtime t))) Large
+      runtime-allowed : madeOf long (e .reference) (runtimeMade (some t) e) ≡ cond (fitsLimit (runtime t)) (Laid (valueOf long (e .reference) (runtime t))) Large
       unfolding verdictOn isAllowed givenFits isPresent
       runtime-allowed = runtime-made ∙ rw (x .closed, x .align-is, x .size-is)
 
@@ -61,8 +61,8 @@ module _ (e : TypeEntry) (t : Ty) where
         fits =
             simp (x .align-is, x .size-is, number .0, le-leb _ _ (number .1), le-leb _ _ (align-within t l x))
 
-        pub runtime-laid : madeOf (e .reference) (runtimeMade (some t) e) ≡ Laid (record { kind = 10; narrow = l .narrow; reference = e .reference; count = 0; unit = wordsIn l; stride = stride; size = 0; align = l .align })
-        unfolding valueOf kindOf narrowOf partsOf present fixedWords hasLayout isPresent isOpen sizeOf alignOf strideOf both
+        pub runtime-laid : madeOf long (e .reference) (runtimeMade (some t) e) ≡ Laid (record { kind = 10; narrow = l .narrow; reference = e .reference; count = 0; unit = wordsIn l; stride = stride; size = 0; align = l .align })
+        unfolding valueOf kindOf narrowOf partsOf strideIn present fixedWords hasLayout isPresent isOpen sizeOf alignOf strideOf both
         runtime-laid =
             runtime-allowed
             ∙ rw (

@@ -24,6 +24,7 @@ use layout_values::value::words_of;
 use numbers::limit::Limited;
 use numbers::limit::product;
 ghost use mathlib.Core.Path.{_≡_};
+ghost use Prim.Native.Nat.{ℕ};
 ghost use mathlib.Core.Option.{some};
 ghost use mathlib.Core.Bool.{true};
 ghost use Rattle.wgsl.specs.Types.{Scalar, Ty, scalarKind, isScalarKind, everywhere};
@@ -34,7 +35,7 @@ ghost use Rattle.layout_values.specs.Value.{madeOf, Known, valueOf};
 // "7 vector: rows 2-4, reference to a kind 0-6", or 13-15
 pub fn vector(e: TypeEntry, l: Value) -> Made
     requires { ⌜ Known l ⌝ }
-    ensures { λ r. ⌜ ((t : Ty) → l ≡ valueOf (l .reference) t → r ≡ madeOf (e .reference) (vectorMade (some t) (entryIs e))) ⌝ }
+    ensures { λ r. ⌜ ((long : ℕ) (t : Ty) → l ≡ valueOf (l .stride) (l .reference) t → r ≡ madeOf long (e .reference) (vectorMade (some t) (entryIs e))) ⌝ }
 {
     let rows = e.rows;
     let kind = l.kind;
@@ -81,7 +82,7 @@ fn suits_matrix(kind: u32) -> bool
 // "8 matrix: columns 2-4, rows 2-4, reference to f32, f16 or abstract float"
 pub fn matrix(e: TypeEntry, l: Value) -> Made
     requires { ⌜ Known l ⌝ }
-    ensures { λ r. ⌜ ((t : Ty) → l ≡ valueOf (l .reference) t → r ≡ madeOf (e .reference) (matrixMade (some t) (entryIs e))) ⌝ }
+    ensures { λ r. ⌜ ((long : ℕ) (t : Ty) → l ≡ valueOf (l .stride) (l .reference) t → r ≡ madeOf long (e .reference) (matrixMade (some t) (entryIs e))) ⌝ }
 {
     let columns = e.columns;
     let rows = e.rows;
@@ -121,7 +122,7 @@ pub fn matrix(e: TypeEntry, l: Value) -> Made
 // "9 array: reference, count at least 1"; an array's element isn't open. Where it has no stride, neither has the array a size.
 pub fn array(e: TypeEntry, l: Value) -> Made
     requires { ⌜ Known l ⌝ }
-    ensures { λ r. ⌜ ((t : Ty) → l ≡ valueOf (l .reference) t → everywhere isWellFormed t ≡ true → r ≡ madeOf (e .reference) (arrayMade (some t) (entryIs e))) ⌝ }
+    ensures { λ r. ⌜ ((long : ℕ) (t : Ty) → l ≡ valueOf (l .stride) (l .reference) t → everywhere isWellFormed t ≡ true → r ≡ madeOf long (e .reference) (arrayMade (some t) (entryIs e))) ⌝ }
 {
     let count = e.count;
     if !zeros(e.columns, e.rows, 0, 0) {
@@ -152,7 +153,7 @@ pub fn array(e: TypeEntry, l: Value) -> Made
 // "10 runtime array: reference"; its element isn't open, and has size and alignment.
 pub fn runtime(e: TypeEntry, l: Value) -> Made
     requires { ⌜ Known l ⌝ }
-    ensures { λ r. ⌜ ((t : Ty) → l ≡ valueOf (l .reference) t → everywhere isWellFormed t ≡ true → r ≡ madeOf (e .reference) (runtimeMade (some t) (entryIs e))) ⌝ }
+    ensures { λ r. ⌜ ((long : ℕ) (t : Ty) → l ≡ valueOf (l .stride) (l .reference) t → everywhere isWellFormed t ≡ true → r ≡ madeOf long (e .reference) (runtimeMade (some t) (entryIs e))) ⌝ }
 {
     if !zeros(e.columns, e.rows, e.count, 0) {
         return Made::Rule;
@@ -179,7 +180,7 @@ pub fn runtime(e: TypeEntry, l: Value) -> Made
 // "11 atomic: reference to i32 or u32"
 pub fn atomic(e: TypeEntry, l: Value) -> Made
     requires { ⌜ Known l ⌝ }
-    ensures { λ r. ⌜ ((t : Ty) → l ≡ valueOf (l .reference) t → r ≡ madeOf (e .reference) (atomicMade (some t) (entryIs e))) ⌝ }
+    ensures { λ r. ⌜ ((long : ℕ) (t : Ty) → l ≡ valueOf (l .stride) (l .reference) t → r ≡ madeOf long (e .reference) (atomicMade (some t) (entryIs e))) ⌝ }
 {
     let kind = l.kind;
     if !zeros(e.columns, e.rows, e.count, 0) {
@@ -206,7 +207,7 @@ pub fn atomic(e: TypeEntry, l: Value) -> Made
 // An entry of a kind 7 to 11.
 pub fn over_entry(e: TypeEntry, l: Value) -> Made
     requires { ⌜ Known l ⌝ }
-    ensures { λ r. ⌜ ((t : Ty) → l ≡ valueOf (l .reference) t → everywhere isWellFormed t ≡ true → r ≡ madeOf (e .reference) (overMade (some t) (entryIs e))) ⌝ }
+    ensures { λ r. ⌜ ((long : ℕ) (t : Ty) → l ≡ valueOf (l .stride) (l .reference) t → everywhere isWellFormed t ≡ true → r ≡ madeOf long (e .reference) (overMade (some t) (entryIs e))) ⌝ }
 {
     let kind = e.kind;
     if kind == VECTOR {

@@ -22,7 +22,7 @@ use Rattle.wgsl.proofs.Count.{membersWords, wordCount-struct}
 use Rattle.numbers.specs.Limit.{limited}
 use Rattle.numbers.specs.declared.limit.Limited.the-variants.{Is, TooLarge}
 use Rattle.layout_values.specs.declared.value.Made.the-variants.{Laid, Given, Large}
-use Rattle.layout_values.specs.Value.{narrowOf, partsOf, fixedWords, valueOf, verdictOn}
+use Rattle.layout_values.specs.Value.{narrowOf, partsOf, fixedWords, valueOf, verdictOn, strideIn}
 use Rattle.layout_values.proofs.VerdictOn.{value-is, verdict-laid}
 use Rattle.layout_structs.specs.declared.Ends.{Ends}
 use Rattle.layout_structs.specs.declared.SoFar.{SoFar}
@@ -39,13 +39,13 @@ complete-allowed k ms c =
     rw (le-leb 1 (countOf ms) (c .some-there), le-leb (countOf ms) 1024 (c .few)) (c .allowed)
 
 -- past 5, the rest decides
-judged : (r k : ℕ) (ms : Members) → Complete ms → verdictOn r (struct k ms) ≡ cond (membersGivenFit ms) (cond (fitsLimit (struct k ms)) (Laid (valueOf r (struct k ms))) Large) Given
+judged : (n r k : ℕ) (ms : Members) → Complete ms → verdictOn n r (struct k ms) ≡ cond (membersGivenFit ms) (cond (fitsLimit (struct k ms)) (Laid (valueOf n r (struct k ms))) Large) Given
 unfolding verdictOn givenFits
-judged r k ms c = rw (complete-allowed k ms c)
+judged n r k ms c = rw (complete-allowed k ms c)
 
 -- past 6, the limit does
-large : (r k : ℕ) (ms : Members) → Complete ms → membersGivenFit ms ≡ true → fitsLimit (struct k ms) ≡ false → verdictOn r (struct k ms) ≡ Large
-large r k ms c g f = judged r k ms c ∙ rw (g, f)
+large : (n r k : ℕ) (ms : Members) → Complete ms → membersGivenFit ms ≡ true → fitsLimit (struct k ms) ≡ false → verdictOn n r (struct k ms) ≡ Large
+large n r k ms c g f = judged n r k ms c ∙ rw (g, f)
 
 -- ---- the words
 
@@ -66,11 +66,11 @@ struct-words k p ms d =
 -- ---- its layout
 
 -- A struct that is within the limit is laid out.
-laid : (k : ℕ) (e : TypeEntry) (p : Ends) (ms : Members) (size : ℕ) → Ended p ms → countOf ms ≡ e .count → hasLayout (struct k ms) ≡ true → size ≡ present (sizeOf (struct k ms)) → fitsLimit (struct k ms) ≡ true → verdictOn (e .reference) (struct k ms) ≡ Laid (structOf e p size)
-unfolding structOf endsOf kindOf narrowOf partsOf present alignOf givenFits
-laid k e p ms size d count has z fits =
-    verdict-laid (struct k ms) (structOf e p size) (complete-allowed k ms (d .complete)) (d .given) fits
-    (value-is (struct k ms) (structOf e p size) refl (ap (λ (x : Ends). x .narrow) (d .ends)) (sym count)
+laid : (long k : ℕ) (e : TypeEntry) (p : Ends) (ms : Members) (size : ℕ) → Ended p ms → countOf ms ≡ e .count → hasLayout (struct k ms) ≡ true → size ≡ present (sizeOf (struct k ms)) → fitsLimit (struct k ms) ≡ true → verdictOn long (e .reference) (struct k ms) ≡ Laid (structOf long e p size)
+unfolding structOf endsOf kindOf narrowOf partsOf strideIn present alignOf givenFits
+laid long k e p ms size d count has z fits =
+    verdict-laid long (struct k ms) (structOf long e p size) (complete-allowed k ms (d .complete)) (d .given) fits
+    (value-is long (struct k ms) (structOf long e p size) refl (ap (λ (x : Ends). x .narrow) (d .ends)) (sym count)
     (rw has (struct-words k p ms d)) refl z (ap (λ (x : Ends). x .align) (d .ends)))
 
 -- ---- an open struct
@@ -83,15 +83,15 @@ open-has : (k : ℕ) (ms : Members) (a : ℕ) → membersAlign ms ≡ some a →
 unfolding hasLayout alignOf isOpen isPresent
 open-has k ms a e o = rw (e, o)
 
-pub ended-opens : (k : ℕ) (e : TypeEntry) (p : Ends) (ms : Members) → Ended p ms → countOf ms ≡ e .count → p .opens ≡ true → verdictOn (e .reference) (struct k ms) ≡ Laid (structOf e p 0)
+pub ended-opens : (long k : ℕ) (e : TypeEntry) (p : Ends) (ms : Members) → Ended p ms → countOf ms ≡ e .count → p .opens ≡ true → verdictOn long (e .reference) (struct k ms) ≡ Laid (structOf long e p 0)
 unfolding endsOf membersFit sizeOf present
-ended-opens k e p ms d count q =
+ended-opens long k e p ms d count q =
     let o : endsInRuntime false ms ≡ true = ap (λ (x : Ends). x .opens) (sym (d .ends)) ∙ q in
     let a = members-aligned ms (d .complete .well-formed) (d .complete .allowed) (d .given) in
     let n = ended-open p ms d o in
     let fits : fitsLimit (struct k ms) ≡ true =
     struct-fits k ms (a .align) none (a .is) n ∙ open-fits (a .align) (offsetsOf (some 0) ms) (a .within) (rw n at (d .fits)) in
-    laid k e p ms 0 d count (open-has k ms (a .align) (a .is) o) (rw (n, both-none up (membersAlign ms))) fits
+    laid long k e p ms 0 d count (open-has k ms (a .align) (a .is) o) (rw (n, both-none up (membersAlign ms))) fits
 
 -- ---- a struct that is not open
 
@@ -120,21 +120,21 @@ closed-limit : (k : ℕ) (p : Ends) (ms : Members) → Closed p ms → fitsLimit
 closed-limit k p ms c = struct-fits k ms (p .align) (some (p .end)) (c .align-is) (c .end-is)
 
 -- A struct that is not open has the size that its members' end rounds up to, if that is within the limit.
-pub ended-closes : (k : ℕ) (e : TypeEntry) (p : Ends) (ms : Members) (size : ℕ) → Ended p ms → countOf ms ≡ e .count → p .opens ≡ false → Is size ≡ limited (up (p .align) (p .end)) → verdictOn (e .reference) (struct k ms) ≡ Laid (structOf e p size)
+pub ended-closes : (long k : ℕ) (e : TypeEntry) (p : Ends) (ms : Members) (size : ℕ) → Ended p ms → countOf ms ≡ e .count → p .opens ≡ false → Is size ≡ limited (up (p .align) (p .end)) → verdictOn long (e .reference) (struct k ms) ≡ Laid (structOf long e p size)
 unfolding membersFit sizeOf both present
-ended-closes k e p ms size d count q h =
+ended-closes long k e p ms size d count q h =
     let c = ended-closed p ms d q in
     let l = limited-is (up (p .align) (p .end)) size (sym h) in
     let fits : fitsLimit (struct k ms) ≡ true =
     closed-limit k p ms c
     ∙ closed-fits (p .align) (p .end) (offsetsOf (some 0) ms) (c .align-within) (l .0) (rw (c .end-is) at (d .fits)) in
-    laid k e p ms size d count (closed-has k ms (p .align) (p .end) (c .align-is) (c .end-is))
+    laid long k e p ms size d count (closed-has k ms (p .align) (p .end) (c .align-is) (c .end-is))
     (rw (c .align-is, c .end-is) (sym (l .1))) fits
 
-pub ended-past : (r k : ℕ) (p : Ends) (ms : Members) → Ended p ms → p .opens ≡ false → TooLarge ≡ limited (up (p .align) (p .end)) → verdictOn r (struct k ms) ≡ Large
-ended-past r k p ms e q h =
+pub ended-past : (n r k : ℕ) (p : Ends) (ms : Members) → Ended p ms → p .opens ≡ false → TooLarge ≡ limited (up (p .align) (p .end)) → verdictOn n r (struct k ms) ≡ Large
+ended-past n r k p ms e q h =
     let c = ended-closed p ms e q in
-    large r k ms (e .complete) (e .given)
+    large n r k ms (e .complete) (e .given)
     (closed-limit k p ms c
     ∙ closed-past (p .align) (p .end) (offsetsOf (some 0) ms) (limited-large (up (p .align) (p .end)) (sym h)))
 
@@ -164,19 +164,19 @@ closes-placed p ms c =
     (λ h g f. no-verdict cc) (λ h g. no-verdict cc)
 
 -- Where a given size or align does not fit, that is refusal 6.
-pub closes-unfit : (r k : ℕ) (ms : Members) → Closes so-far.Unfit ms → verdictOn r (struct k ms) ≡ Given
-closes-unfit r k ms c =
-    verdicts so-far.Unfit ms (c .verdict) (λ h g f. no-verdict cc) (λ h g f. no-verdict cc) (λ h g. judged r k ms (c .complete) ∙ rw g)
+pub closes-unfit : (n r k : ℕ) (ms : Members) → Closes so-far.Unfit ms → verdictOn n r (struct k ms) ≡ Given
+closes-unfit n r k ms c =
+    verdicts so-far.Unfit ms (c .verdict) (λ h g f. no-verdict cc) (λ h g f. no-verdict cc) (λ h g. judged n r k ms (c .complete) ∙ rw g)
 
 -- Where an offset or the end of the members is past the limit, that is refusal 7.
-pub closes-past : (r k : ℕ) (ms : Members) → Closes so-far.TooLarge ms → verdictOn r (struct k ms) ≡ Large
+pub closes-past : (n r k : ℕ) (ms : Members) → Closes so-far.TooLarge ms → verdictOn n r (struct k ms) ≡ Large
 unfolding membersFit
-closes-past r k ms c =
+closes-past n r k ms c =
     verdicts so-far.TooLarge ms (c .verdict) (λ h g f. no-verdict cc)
     (λ h g f.
     let w = c .complete .well-formed in
     let a = members-aligned ms w (c .complete .allowed) g in
-    large r k ms (c .complete) g
+    large n r k ms (c .complete) g
     (struct-fits k ms (a .align) (membersEnd (some 0) ms) (a .is) refl
     ∙ past-members (a .align) (membersEnd (some 0) ms) (offsetsOf (some 0) ms) (aligned-positive ms (a .align) w g (a .is)) f))
     (λ h g. no-verdict cc)

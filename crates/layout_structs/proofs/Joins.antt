@@ -130,7 +130,7 @@ module _ (p : Ends) (l : Value) (m : MemberEntry) (ms : Members) (t : Ty) (j : J
   new-narrow = after-narrow t (givenSize m) (givenAlign m) ms ∙ rw (j .ends, j .layout)
 
   own-words : wordsIn l ≡ fixedWords t
-  own-words = ap wordsIn (j .layout) ∙ value-words (l .reference) t
+  own-words = ap wordsIn (j .layout) ∙ value-words (l .stride) (l .reference) t
 
   new-words : wordsOfMembers (followed ms t m) ≡ p .words + wordsIn l
   unfolding endsOf

@@ -2,6 +2,7 @@
 --
 -- In order: one member more; members that rule 5 refuses, and so the struct.
 -- Assumes nothing.
+use Rattle.file.specs.Members.{memberLength}
 use Prim.Native.Nat.{ℕ, zero, suc, _+_, _*_, _<_, _≤_}
 use mathlib.Core.Bool.{Bool, true, false, _&&_, and-assoc, and-true, and-false}
 use mathlib.Core.List.{List}
@@ -13,7 +14,7 @@ use native.Mathlib.Nat.{eq-or-lt-of-le}
 use borrow.Author.Tests.{eq-eqb, ne-eqb}
 use lib.Dec.{eqb}
 use Rattle.wgsl.specs.Types.{Ty, struct, Members, no-more, member}
-use Rattle.wgsl.specs.File.{between, MemberEntry, memberEntryFrom, givenSize, givenAlign, restIsZero, memberEntryLength}
+use Rattle.wgsl.specs.File.{between, MemberEntry, memberEntryFrom, givenSize, givenAlign, restIsZero}
 use Rattle.wgsl.specs.Rule.{andThen, lower, countOf, isLast, memberAllowed, membersAllowed, isAllowed}
 use Rattle.wgsl.proofs.Said.{when-some, andThen-some}
 use Rattle.layout_values.specs.declared.value.Made.the-variants.{Rule}
@@ -44,9 +45,9 @@ allowed-after false (member u s a ms) t size align =
 
 -- ---- members that rule 5 refuses
 
-not-allowed : (r k : ℕ) (ms : Members) → membersAllowed ms ≡ false → verdictOn r (struct k ms) ≡ Rule
+not-allowed : (long r k : ℕ) (ms : Members) → membersAllowed ms ≡ false → verdictOn long r (struct k ms) ≡ Rule
 unfolding verdictOn isAllowed
-not-allowed r k ms e = rw (e, and-false (between 1 1024 (countOf ms)))
+not-allowed long r k ms e = rw (e, and-false (between 1 1024 (countOf ms)))
 
 joined-some : (ts : List Ty) (e : MemberEntry) (ms xs : Members) → joined ts e ms ≡ some xs → (t : Ty) × (xs ≡ followed ms t e)
 unfolding joined
@@ -62,9 +63,9 @@ module _ (f : List ℕ) (ts : List Ty) (at : ℕ) where
   unsized-more : (i : ℕ) → Unsized i → (last : Bool) (ms : Members) → membersAt f ts at (suc i) ≡ some ms → allowedSo last ms ≡ false
   unfolding membersAt
   unsized-more i h last ms e =
-      let a = andThen-some (membersAt f ts at i) (joined ts (memberEntryFrom f (at + memberEntryLength 1 * i))) e in
-      let j = joined-some ts (memberEntryFrom f (at + memberEntryLength 1 * i)) (a .value) ms (a .after) in
-      rw (j .1, allowed-after last (a .value) (j .0) (givenSize (memberEntryFrom f (at + memberEntryLength 1 * i))) (givenAlign (memberEntryFrom f (at + memberEntryLength 1 * i))), h (a .value) (a .first))
+      let a = andThen-some (membersAt f ts at i) (joined ts (memberEntryFrom f (at + memberLength f * i))) e in
+      let j = joined-some ts (memberEntryFrom f (at + memberLength f * i)) (a .value) ms (a .after) in
+      rw (j .1, allowed-after last (a .value) (j .0) (givenSize (memberEntryFrom f (at + memberLength f * i))) (givenAlign (memberEntryFrom f (at + memberLength f * i))), h (a .value) (a .first))
 
   unsized-stays : (i n : ℕ) → i ≤ n → Unsized i → Unsized n
   unfolding allowedSo
@@ -89,10 +90,10 @@ module _ (f : List ℕ) (ts : List Ty) (at : ℕ) where
       (eq-or-lt-of-le m)
 
   -- Where the members up to i are refused, the struct is.
-  pub refused-members : (r i n k : ℕ) → i < n → ((ms : Members) → membersAt f ts at (suc i) ≡ some ms → allowedSo (eqb (i + 1) n) ms ≡ false) → madeOf r (andThen (membersAt f ts at n) (λ ms. some (struct k ms))) ≡ Rule
+  pub refused-members : (long r i n k : ℕ) → i < n → ((ms : Members) → membersAt f ts at (suc i) ≡ some ms → allowedSo (eqb (i + 1) n) ms ≡ false) → madeOf long r (andThen (membersAt f ts at n) (λ ms. some (struct k ms))) ≡ Rule
   unfolding andThen madeOf
-  refused-members r i n k l h = go (membersAt f ts at n) (refused-stays i n l h)
+  refused-members long r i n k l h = go (membersAt f ts at n) (refused-stays i n l h)
     where
-      go : (o : Option Members) → ((ms : Members) → o ≡ some ms → membersAllowed ms ≡ false) → madeOf r (andThen o (λ ms. some (struct k ms))) ≡ Rule
+      go : (o : Option Members) → ((ms : Members) → o ≡ some ms → membersAllowed ms ≡ false) → madeOf long r (andThen o (λ ms. some (struct k ms))) ≡ Rule
       go none q = refl
-      go (some ms) q = not-allowed r k ms (q ms refl)
+      go (some ms) q = not-allowed long r k ms (q ms refl)

@@ -2,6 +2,7 @@
 --
 -- In order: before the first; the next member (`Coming`), and a turn that goes on or that rule 5 ends; past the last.
 -- Assumes nothing.
+use Rattle.file.specs.Members.{memberLength}
 use Prim.Native.Nat.{ℕ, suc, _+_, _*_, _<_, _≤_}
 use mathlib.Core.Bool.{Bool, true, false, cond, _&&_, and-false}
 use mathlib.Core.List.{List}
@@ -14,7 +15,7 @@ use lib.Dec.{eqb}
 use Rattle.wgsl.specs.Types.{Ty, struct, Members, no-more, endsInRuntime, everywhere, everyMember}
 use Rattle.wgsl.specs.Size.{present, membersAlign, membersEnd, offsetsOf, withinLimits}
 use Rattle.wgsl.specs.Round.{withinLimit}
-use Rattle.wgsl.specs.File.{MemberEntry, memberEntryFrom, givenSize, givenAlign, restIsZero, memberEntryLength}
+use Rattle.wgsl.specs.File.{MemberEntry, memberEntryFrom, givenSize, givenAlign, restIsZero}
 use Rattle.wgsl.specs.Rule.{when, andThen, lower, countOf, memberAllowed, membersAllowed, isWellFormed, membersGivenFit}
 use Rattle.wgsl.proofs.Absent.{both-hold, hold-both, some-not-none}
 use Rattle.wgsl.proofs.Said.{when-some}
@@ -71,13 +72,13 @@ rule-told last ms t e h = go (restIsZero e && memberAllowed last t) h
 -- member i of n: its entry, of a lower type, whose layout is l
 pub record Coming (f : List ℕ) (ts : List Ty) (at i n : ℕ) (e : MemberEntry) (l : Value) : Type 0 where
   pub before : i < n
-  pub entry : e ≡ memberEntryFrom f (at + memberEntryLength 1 * i)
+  pub entry : e ≡ memberEntryFrom f (at + memberLength f * i)
   pub type : Ty
   pub type-is : lower ts (e .type) ≡ some type
-  pub layout : l ≡ valueOf (l .reference) type
+  pub layout : l ≡ valueOf (l .stride) (l .reference) type
   pub well-formed : everywhere isWellFormed type ≡ true
 
-pub coming : {f : List ℕ} {ts : List Ty} {at i n : ℕ} {e : MemberEntry} (table : List (List ℕ)) (k r : ℕ) → Lower f table k ts → i < n → e ≡ memberEntryFrom f (at + memberEntryLength 1 * i) → r ≡ e .type → r < k → Coming f ts at i n e (valueAt table r)
+pub coming : {f : List ℕ} {ts : List Ty} {at i n : ℕ} {e : MemberEntry} (table : List (List ℕ)) (k r : ℕ) → Lower f table k ts → i < n → e ≡ memberEntryFrom f (at + memberLength f * i) → r ≡ e .type → r < k → Coming f ts at i n e (valueAt table r)
 coming {f} {ts} table k r low h e q l =
     let x = lower-found f table k ts r low l in
     record {
@@ -130,9 +131,9 @@ module _ {f : List ℕ} {ts : List Ty} {at i n : ℕ} {e : MemberEntry} {l : Val
       }
 
   -- A step that rule 5 refuses refuses the struct.
-  pub reached-rule : (r k : ℕ) → stepped.Rule ≡ steppedTo (eqb (i + 1) n) (d .members) (m .type) e → madeOf r (andThen (membersAt f ts at n) (λ ms. some (struct k ms))) ≡ Rule
-  reached-rule r k h =
-      refused-members f ts at r i n k (m .before)
+  pub reached-rule : (long r k : ℕ) → stepped.Rule ≡ steppedTo (eqb (i + 1) n) (d .members) (m .type) e → madeOf long r (andThen (membersAt f ts at n) (λ ms. some (struct k ms))) ≡ Rule
+  reached-rule long r k h =
+      refused-members f ts at long r i n k (m .before)
       (λ ms x.
       let w = when-some (restIsZero e) (some (followed (d .members) (m .type) e)) (sym more-read ∙ x) in
       let q : ms ≡ followed (d .members) (m .type) e = cc (w .1) in
@@ -141,10 +142,10 @@ module _ {f : List ℕ} {ts : List Ty} {at i n : ℕ} {e : MemberEntry} {l : Val
       ∙ rw no (and-false (allSized (d .members))))
 
 -- A member whose type is not lower refuses the struct.
-pub reached-past : {f : List ℕ} {ts : List Ty} {at i n : ℕ} {e : MemberEntry} (table : List (List ℕ)) (r k : ℕ) (run : SoFar) → Reached f ts at i n run → Lower f table k ts → i < n → e ≡ memberEntryFrom f (at + memberEntryLength 1 * i) → k ≤ e .type → madeOf r (andThen (membersAt f ts at n) (λ ms. some (struct k ms))) ≡ Rule
+pub reached-past : {f : List ℕ} {ts : List Ty} {at i n : ℕ} {e : MemberEntry} (table : List (List ℕ)) (long r k : ℕ) (run : SoFar) → Reached f ts at i n run → Lower f table k ts → i < n → e ≡ memberEntryFrom f (at + memberLength f * i) → k ≤ e .type → madeOf long r (andThen (membersAt f ts at n) (λ ms. some (struct k ms))) ≡ Rule
 unfolding membersAt andThen joined when
-reached-past {f} {ts} {at} {i} {n} {e} table r k run d low l h past =
-    refused-members f ts at r i n k l
+reached-past {f} {ts} {at} {i} {n} {e} table long r k run d low l h past =
+    refused-members f ts at long r i n k l
     (λ ms x. some-not-none x (rw (d .read, ← h, lower-past f table k ts (e .type) low past) (none-when (restIsZero e))))
   where
     none-when : (b : Bool) → when {A = Members} b none ≡ none
@@ -166,6 +167,6 @@ reached-closes run d e low high =
           };
     }
 
-pub reached-made : {f : List ℕ} {ts : List Ty} {at i n : ℕ} (run : SoFar) (d : Reached f ts at i n run) (r k : ℕ) → i ≡ n → madeOf r (andThen (membersAt f ts at n) (λ ms. some (struct k ms))) ≡ verdictOn r (struct k (d .members))
+pub reached-made : {f : List ℕ} {ts : List Ty} {at i n : ℕ} (run : SoFar) (d : Reached f ts at i n run) (long r k : ℕ) → i ≡ n → madeOf long r (andThen (membersAt f ts at n) (λ ms. some (struct k ms))) ≡ verdictOn long r (struct k (d .members))
 unfolding andThen madeOf
-reached-made run d r k e = rw (← e, d .read)
+reached-made run d long r k e = rw (← e, d .read)

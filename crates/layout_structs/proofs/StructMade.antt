@@ -11,9 +11,9 @@ use native.Mathlib.Omega.{arith}
 use borrow.Author.Tests.{le-leb, lt-leb}
 use lib.Dec.{leb}
 use Rattle.wgsl.specs.Types.{Ty, struct, no-more}
-use Rattle.wgsl.specs.File.{TypeEntry, trailerOf, between, memberEntryLength}
+use Rattle.wgsl.specs.File.{TypeEntry, trailerOf, between}
 use Rattle.wgsl.specs.Rule.{when, andThen, unused, membersFrom, structMade, countOf, isAllowed}
-use Rattle.file.specs.Members.{membersStart}
+use Rattle.file.specs.Members.{membersStart, memberLength}
 use Rattle.layout_values.specs.declared.value.Made.{Made}
 use Rattle.layout_values.specs.declared.value.Made.the-variants.{Rule}
 use Rattle.layout_values.specs.Value.{verdictOn, madeOf}
@@ -24,38 +24,38 @@ two-unused : (a b : ℕ) → unused (a ∷ b ∷ []) ≡ unused (a ∷ b ∷ 0 �
 unfolding unused
 two-unused a b = refl
 
-no-members : (r k : ℕ) → verdictOn r (struct k no-more) ≡ Rule
+no-members : (n r k : ℕ) → verdictOn n r (struct k no-more) ≡ Rule
 unfolding verdictOn isAllowed countOf between
-no-members r k = refl
+no-members n r k = refl
 
-module _ (f : List ℕ) (ts : List Ty) (k : ℕ) (e : TypeEntry) where
+module _ (long : ℕ) (f : List ℕ) (ts : List Ty) (k : ℕ) (e : TypeEntry) where
   -- A field that is used but should not be refuses the struct.
-  pub struct-used : unused (e .columns ∷ e .rows ∷ 0 ∷ 0 ∷ []) ≡ false → Rule ≡ madeOf (e .reference) (structMade f ts k e)
+  pub struct-used : unused (e .columns ∷ e .rows ∷ 0 ∷ 0 ∷ []) ≡ false → Rule ≡ madeOf long (e .reference) (structMade f ts k e)
   unfolding structMade when madeOf
   struct-used h = rw (two-unused (e .columns) (e .rows), h)
 
   -- So does a member past M.
-  pub struct-past : trailerOf f .members < e .reference + e .count → Rule ≡ madeOf (e .reference) (structMade f ts k e)
+  pub struct-past : trailerOf f .members < e .reference + e .count → Rule ≡ madeOf long (e .reference) (structMade f ts k e)
   unfolding structMade when madeOf
   struct-past h =
       rw (lt-leb (e .reference + e .count) (trailerOf f .members) h, and-false (unused (e .columns ∷ e .rows ∷ [])))
 
   -- So do no members.
-  pub struct-empty : e .count < 1 → Rule ≡ madeOf (e .reference) (structMade f ts k e)
+  pub struct-empty : e .count < 1 → Rule ≡ madeOf long (e .reference) (structMade f ts k e)
   unfolding structMade when madeOf membersFrom andThen
   struct-empty h = let z : e .count ≡ 0 = omega arith in rw z (go (unused (e .columns ∷ e .rows ∷ []) && leb (e .reference + 0) (trailerOf f .members)))
     where
-      go : (b : Bool) → Rule ≡ madeOf (e .reference) (when b (some (struct k no-more)))
-      go true = sym (no-members (e .reference) k)
+      go : (b : Bool) → Rule ≡ madeOf long (e .reference) (when b (some (struct k no-more)))
+      go true = sym (no-members long (e .reference) k)
       go false = refl
 
   -- Otherwise the members decide.
-  pub struct-members : (r first count : ℕ) (x : Made) → first ≡ e .reference → count ≡ e .count → unused (e .columns ∷ e .rows ∷ 0 ∷ 0 ∷ []) ≡ true → first + count ≤ trailerOf f .members → x ≡ madeOf r (andThen (membersFrom f ts count first) (λ ms. some (struct k ms))) → x ≡ madeOf r (structMade f ts k e)
+  pub struct-members : (r first count : ℕ) (x : Made) → first ≡ e .reference → count ≡ e .count → unused (e .columns ∷ e .rows ∷ 0 ∷ 0 ∷ []) ≡ true → first + count ≤ trailerOf f .members → x ≡ madeOf long r (andThen (membersFrom f ts count first) (λ ms. some (struct k ms))) → x ≡ madeOf long r (structMade f ts k e)
   unfolding structMade when
   struct-members r first count x p q u h m =
       rw (two-unused (e .columns) (e .rows), u, ← p, ← q, le-leb (first + count) (trailerOf f .members) h) m
 
 -- Where member `first` lies.
-pub place-first : (f : List ℕ) (base first : ℕ) → base ≡ membersStart f → base + memberEntryLength 1 * first ≡ memberPlace f first
+pub place-first : (f : List ℕ) (base first : ℕ) → base ≡ membersStart f → base + memberLength f * first ≡ memberPlace f first
 unfolding membersStart memberPlace
 place-first f base first e = omega arith

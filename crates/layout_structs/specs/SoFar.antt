@@ -4,6 +4,7 @@
 -- that more may follow, one more that joins them, all members of a struct; where member entries lie; the members
 -- that an entry names; the lower entries.
 -- Definitions only. Assumes nothing.
+use Rattle.file.specs.Members.{memberLength}
 use Prim.Native.Nat.{ℕ, _+_, _*_, _≤_}
 use mathlib.Core.Path.{_≡_}
 use mathlib.Core.Bool.{Bool, true, false, cond, _&&_}
@@ -42,16 +43,16 @@ endsOf ms =
       narrow = narrowest ms;
     }
 
--- a struct with the entry e, of so many bytes, whose members end as p says
-unfoldable pub structOf : TypeEntry → Ends → ℕ → Value
-structOf e p size =
+-- a struct with the entry e, of so many bytes, whose members end as p says and have entries of `long` bytes
+unfoldable pub structOf : ℕ → TypeEntry → Ends → ℕ → Value
+structOf long e p size =
     record {
       kind = structKind;
       narrow = p .narrow;
       reference = e .reference;
       count = e .count;
       unit = p .words;
-      stride = memberEntryLength 1;
+      stride = long;
       size = size;
       align = p .align;
     }
@@ -81,7 +82,7 @@ followed ms t m = appended ms t (givenSize m) (givenAlign m)
 -- members that end as p says and passed 6 and 7; and one more of type t, whose value is l, that passes 5 and 6
 pub record Joins (p : Ends) (l : Value) (m : MemberEntry) (ms : Members) (t : Ty) : Type 0 where
   pub ends : p ≡ endsOf ms
-  pub layout : l ≡ valueOf (l .reference) t
+  pub layout : l ≡ valueOf (l .stride) (l .reference) t
   pub going : Going ms
   pub given : membersGivenFit ms ≡ true
   pub fits : membersFit ms ≡ true
@@ -93,7 +94,7 @@ pub record Joins (p : Ends) (l : Value) (m : MemberEntry) (ms : Members) (t : Ty
 -- the verdict on members is `past`, and one more of type t, whose value is l, comes
 pub record Meets (run : SoFar) (l : Value) (ms : Members) (t : Ty) : Type 0 where
   pub verdict : run ≡ soFar ms
-  pub layout : l ≡ valueOf (l .reference) t
+  pub layout : l ≡ valueOf (l .stride) (l .reference) t
   pub going : Going ms
   pub well-formed : everywhere isWellFormed t ≡ true
 
@@ -136,7 +137,7 @@ pub record Named (e : TypeEntry) (first count : ℕ) : Type 0 where
 pub record Spans (members : ℕ) (e : TypeEntry) (first count : ℕ) : Type 0 where
   pub within : first + count ≤ members
   pub named : 1 ≤ count → Named e first count
-  pub empty : e .kind ≡ structKind → count ≡ 0 → (f : List ℕ) (ts : List Ty) (k : ℕ) → members ≡ trailerOf f .members → made.Rule ≡ madeOf (e .reference) (structMade f ts k e)
+  pub empty : e .kind ≡ structKind → count ≡ 0 → (f : List ℕ) (ts : List Ty) (k : ℕ) → members ≡ trailerOf f .members → made.Rule ≡ madeOf (memberLength f) (e .reference) (structMade f ts k e)
 
 -- the first entries of the table hold the values of these types of a file, which its rules leave
 pub record Holds (f : List ℕ) (table : List (List ℕ)) (ts : List Ty) : Type 0 where

@@ -1,5 +1,4 @@
 // A struct: its members one after the other.
-use file::fields::MEMBER_ENTRY_STRIDE;
 use file::fields::MemberEntry;
 use file::fields::TypeEntry;
 use file::kinds::STRUCT;
@@ -128,8 +127,8 @@ pub fn step(past: SoFar, l: Value, m: MemberEntry, last: bool) -> Stepped
 }
 
 // A struct's value. Its stride is how long its member entries are.
-fn struct_of(e: TypeEntry, p: Ends, size: u32) -> Value
-    ensures { λ r. ⌜ r ≡ structOf (entryIs e) p size ⌝ }
+fn struct_of(e: TypeEntry, p: Ends, size: u32, long: u32) -> Value
+    ensures { λ r. ⌜ r ≡ structOf long (entryIs e) p size ⌝ }
 {
     Value {
         kind: STRUCT,
@@ -137,37 +136,37 @@ fn struct_of(e: TypeEntry, p: Ends, size: u32) -> Value
         reference: e.reference,
         count: e.count,
         unit: p.words,
-        stride: MEMBER_ENTRY_STRIDE,
+        stride: long,
         size,
         align: p.align,
     }
 }
 
 // The struct with the entry `e` whose members end as `p` says.
-fn whole(e: TypeEntry, p: Ends) -> Made
+fn whole(e: TypeEntry, p: Ends, long: u32) -> Made
     requires { ⌜ ((ms : Members) × Ended p ms) ⌝ }
-    ensures { λ r. ⌜ ((k : ℕ) (ms : Members) → Ended p ms → countOf ms ≡ e .count → r ≡ verdictOn (e .reference) (struct k ms)) ⌝ }
+    ensures { λ r. ⌜ ((k : ℕ) (ms : Members) → Ended p ms → countOf ms ≡ e .count → r ≡ verdictOn long (e .reference) (struct k ms)) ⌝ }
 {
     if p.opens {
-        return Made::Laid(struct_of(e, p, 0));
+        return Made::Laid(struct_of(e, p, 0, long));
     }
     let Limited::Is(size) = round_up(p.align, p.end) else {
         return Made::Large;
     };
-    Made::Laid(struct_of(e, p, size))
+    Made::Laid(struct_of(e, p, size, long))
 }
 
-// Past the last of `count` members: a struct has one at least.
-pub fn finish(e: TypeEntry, past: SoFar, count: usize) -> Made
+// Past the last of `count` members, whose entries are so long: a struct has one at least.
+pub fn finish(e: TypeEntry, past: SoFar, count: usize, long: u32) -> Made
     requires { ⌜ (1 ≤ count → (ms : Members) × Closes past ms) ⌝ }
     ensures none { λ r. ⌜ (count ≡ 0 → r ≡ Rule) ⌝ }
-    ensures all { λ r. ⌜ (1 ≤ count → (k : ℕ) (ms : Members) → Closes past ms → countOf ms ≡ e .count → r ≡ verdictOn (e .reference) (struct k ms)) ⌝ }
+    ensures all { λ r. ⌜ (1 ≤ count → (k : ℕ) (ms : Members) → Closes past ms → countOf ms ≡ e .count → r ≡ verdictOn long (e .reference) (struct k ms)) ⌝ }
 {
     if count < 1 {
         return Made::Rule;
     }
     match past {
-        SoFar::Good(p) => whole(e, p),
+        SoFar::Good(p) => whole(e, p, long),
         SoFar::Unfit => Made::Given,
         SoFar::TooLarge => Made::Large,
     }

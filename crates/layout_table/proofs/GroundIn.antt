@@ -48,7 +48,7 @@ module _ (f : List ℕ) (t : Trailer) (e : ℕ) (x : Taken f t) where
     type-there : (u : Ty) × (getElem? (x .ts) e ≡ some u)
     type-there = getElem-below (x .ts) e (omega (arith, x .count))
 
-    pub ground-is : {l : Value} {start end : ℕ} (table : List (List ℕ)) → table ≡ valuesOf f (x .ts) → l ≡ valueAt table e → start ≡ t .start + typeEntryLength * t .types → end ≡ start + memberEntryLength 1 * t .members → good (record { ground = record { value = l; start = start; end = end }; table = table }) ≡ groundIn f e
+    pub ground-is : {l : Value} {start end : ℕ} (table : List (List ℕ)) → table ≡ valuesOf f (x .ts) → l ≡ valueAt table e → start ≡ t .start + typeEntryLength * t .types → end ≡ start + memberEntryLength (t .form) * t .members → good (record { ground = record { value = l; start = start; end = end }; table = table }) ≡ groundIn f e
     unfolding groundIn entryOf orRefuse groundOf membersStart
     ground-is table values is p q =
         let u = type-there in

@@ -66,26 +66,26 @@ over-missing e =
     chosen false false false false true = refl
     chosen false false false false false = refl
 
-module _ (f : List ℕ) (ts : List Ty) (k r : ℕ) {e : TypeEntry} (is : e ≡ typeEntryAt f k) where
-  pub entry-used : unused (e .zero3 ∷ e .zero6 ∷ []) ≡ false → Rule ≡ madeOf r (typeOfEntry f ts k)
+module _ (f : List ℕ) (ts : List Ty) (k long r : ℕ) {e : TypeEntry} (is : e ≡ typeEntryAt f k) where
+  pub entry-used : unused (e .zero3 ∷ e .zero6 ∷ []) ≡ false → Rule ≡ madeOf long r (typeOfEntry f ts k)
   unfolding typeOfEntry when madeOf
   entry-used h = rw (← is, h)
 
   module _ (zeros : unused (e .zero3 ∷ e .zero6 ∷ []) ≡ true) where
-    pub entry-scalar : isScalarKind (e .kind) ≡ true → madeOf r (scalarMade e) ≡ madeOf r (typeOfEntry f ts k)
+    pub entry-scalar : isScalarKind (e .kind) ≡ true → madeOf long r (scalarMade e) ≡ madeOf long r (typeOfEntry f ts k)
     unfolding typeOfEntry when typeMade
     entry-scalar h = rw (← is, zeros, h)
 
-    pub entry-struct : e .kind ≡ structKind → madeOf r (structMade f ts k e) ≡ madeOf r (typeOfEntry f ts k)
+    pub entry-struct : e .kind ≡ structKind → madeOf long r (structMade f ts k e) ≡ madeOf long r (typeOfEntry f ts k)
     unfolding typeOfEntry when typeMade
     entry-struct h = rw (← is, zeros, no-scalar (e .kind) (omega arith) (omega arith), h)
 
     module _ (high : isScalarKind (e .kind) ≡ false) (other : e .kind ≡ structKind → ⊥) where
-      pub entry-over : {i : ℕ} (t : Ty) → i ≡ e .reference → lower ts i ≡ some t → madeOf r (overMade (some t) e) ≡ madeOf r (typeOfEntry f ts k)
+      pub entry-over : {i : ℕ} (t : Ty) → i ≡ e .reference → lower ts i ≡ some t → madeOf long r (overMade (some t) e) ≡ madeOf long r (typeOfEntry f ts k)
       unfolding typeOfEntry when typeMade
       entry-over t q h = rw (← is, zeros, high, ne-eqb (e .kind) structKind other, ← q, h)
 
-      pub entry-missing : lower ts (e .reference) ≡ none → Rule ≡ madeOf r (typeOfEntry f ts k)
+      pub entry-missing : lower ts (e .reference) ≡ none → Rule ≡ madeOf long r (typeOfEntry f ts k)
       unfolding typeOfEntry when typeMade madeOf
       entry-missing h =
           rw (← is, zeros, high, ne-eqb (e .kind) structKind other, h, over-missing e)
@@ -100,35 +100,35 @@ says k Given = refused 6 k
 says k Large = refused 7 k
 
 -- an entry's type, as the layout of it
-unfoldable valued : ℕ → Said Ty → Said Value
-valued r (good t) = good (valueOf r t)
-valued r (refused number place) = refused number place
+unfoldable valued : ℕ → ℕ → Said Ty → Said Value
+valued long r (good t) = good (valueOf long r t)
+valued long r (refused number place) = refused number place
 
-steps : (k r : ℕ) (t : Ty) (a b c : Bool) → valued r (_>>_ (refuse 5 k (not a)) (_>>_ (refuse 6 k (not b)) (_>>_ (refuse 7 k (not c)) (good t)))) ≡ says k (cond a (cond b (cond c (Laid (valueOf r t)) Large) Given) Rule)
+steps : (k long r : ℕ) (t : Ty) (a b c : Bool) → valued long r (_>>_ (refuse 5 k (not a)) (_>>_ (refuse 6 k (not b)) (_>>_ (refuse 7 k (not c)) (good t)))) ≡ says k (cond a (cond b (cond c (Laid (valueOf long r t)) Large) Given) Rule)
 unfolding valued says _>>_ refuse
-steps k r t true true true = refl
-steps k r t true true false = refl
-steps k r t true false c = refl
-steps k r t false b c = refl
+steps k long r t true true true = refl
+steps k long r t true true false = refl
+steps k long r t true false c = refl
+steps k long r t false b c = refl
 
 -- "in it 5 before 6 before 7"
-judged-says : (f : List ℕ) (ts : List Ty) (k r : ℕ) → valued r (judged f ts k) ≡ says k (madeOf r (typeOfEntry f ts k))
+judged-says : (f : List ℕ) (ts : List Ty) (k long r : ℕ) → valued long r (judged f ts k) ≡ says k (madeOf long r (typeOfEntry f ts k))
 unfolding judged _>>=_ orRefuse valued says madeOf verdictOn
-judged-says f ts k r = go (typeOfEntry f ts k)
+judged-says f ts k long r = go (typeOfEntry f ts k)
   where
-    go : (o : Option Ty) → valued r (_>>=_ (orRefuse 5 k o) (λ t. _>>_ (refuse 5 k (not (isAllowed t))) (_>>_ (refuse 6 k (not (givenFits t))) (_>>_ (refuse 7 k (not (fitsLimit t))) (good t))))) ≡ says k (madeOf r o)
-    go (some t) = steps k r t (isAllowed t) (givenFits t) (fitsLimit t)
+    go : (o : Option Ty) → valued long r (_>>=_ (orRefuse 5 k o) (λ t. _>>_ (refuse 5 k (not (isAllowed t))) (_>>_ (refuse 6 k (not (givenFits t))) (_>>_ (refuse 7 k (not (fitsLimit t))) (good t))))) ≡ says k (madeOf long r o)
+    go (some t) = steps k long r t (isAllowed t) (givenFits t) (fitsLimit t)
     go none = refl
 
-valued-refused : {number place : ℕ} (r : ℕ) (s : Said Ty) → valued r s ≡ refused number place → s ≡ refused number place
+valued-refused : {number place : ℕ} (long r : ℕ) (s : Said Ty) → valued long r s ≡ refused number place → s ≡ refused number place
 unfolding valued
-valued-refused r (good t) e = good-not-refused refl e
-valued-refused r (refused number place) e = cc
+valued-refused long r (good t) e = good-not-refused refl e
+valued-refused long r (refused number place) e = cc
 
-valued-good : {l : Value} (r : ℕ) (s : Said Ty) → valued r s ≡ good l → (t : Ty) × (s ≡ good t) × (l ≡ valueOf r t)
+valued-good : {l : Value} (long r : ℕ) (s : Said Ty) → valued long r s ≡ good l → (t : Ty) × (s ≡ good t) × (l ≡ valueOf long r t)
 unfolding valued
-valued-good r (good t) e = (t, refl, cc)
-valued-good r (refused number place) e = good-not-refused e refl
+valued-good long r (good t) e = (t, refl, cc)
+valued-good long r (refused number place) e = good-not-refused e refl
 
 -- ---- the entries up to a bad one
 
@@ -142,20 +142,20 @@ refused-more f k zero e = rw (let z : k + 0 ≡ k = omega arith in z) e
 refused-more f k (suc d) e =
     rw (let z : k + suc d ≡ suc (k + d) = omega arith in z) (refused-next f (k + d) (refused-more f k d e))
 
-module _ {ts : List Ty} {m : Made} (f : List ℕ) (k r : ℕ) (below : typesBelow f k ≡ good ts) (made : m ≡ madeOf r (typeOfEntry f ts k)) where
+module _ {ts : List Ty} {m : Made} (f : List ℕ) (k long r : ℕ) (below : typesBelow f k ≡ good ts) (made : m ≡ madeOf long r (typeOfEntry f ts k)) where
   -- The types up to an entry that is refused.
   pub entry-refused : {number place : ℕ} (n : ℕ) → says k m ≡ refused number place → k < n → typesBelow f n ≡ refused number place
   unfolding typesBelow
   entry-refused {number} {place} n e h =
       let bad : judged f ts k ≡ refused number place =
-      valued-refused r (judged f ts k) (judged-says f ts k r ∙ ap (says k) (sym made) ∙ e) in
+      valued-refused long r (judged f ts k) (judged-says f ts k long r ∙ ap (says k) (sym made) ∙ e) in
       let next : typesBelow f (suc k) ≡ refused number place = then-is _ below ∙ then-refused _ bad in
       let z : n ≡ suc k + (n - suc k) = omega arith in
       rw z (refused-more f (suc k) (n - suc k) next)
 
   -- The types up to an entry that has a layout.
-  pub entry-laid : (l : Value) → m ≡ Laid l → (t : Ty) × (typesBelow f (suc k) ≡ good (ts ++ (t ∷ []))) × (l ≡ valueOf r t)
+  pub entry-laid : (l : Value) → m ≡ Laid l → (t : Ty) × (typesBelow f (suc k) ≡ good (ts ++ (t ∷ []))) × (l ≡ valueOf long r t)
   unfolding typesBelow says
   entry-laid l e =
-      let v = valued-good r (judged f ts k) (judged-says f ts k r ∙ ap (says k) (sym made ∙ e)) in
+      let v = valued-good long r (judged f ts k) (judged-says f ts k long r ∙ ap (says k) (sym made ∙ e)) in
       (v .0, then-is _ below ∙ then-is _ (v .1), v .2)

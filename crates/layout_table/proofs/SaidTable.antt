@@ -34,7 +34,7 @@ pub record Taken (f : List ℕ) (t : Trailer) : Type 0 where
   pub start-is : t .start ≡ trailerOf f .start
   pub count : length ts ≡ t .types
   pub few : t .types ≤ 256
-  pub inside : t .start + typeEntryLength * t .types + memberEntryLength 1 * t .members ≤ length f
+  pub inside : t .start + typeEntryLength * t .types + memberEntryLength (t .form) * t .members ≤ length f
 
 taken-so : (f : List ℕ) (t : Trailer) (ts : List Ty) → typesOf f ≡ good ts → trailerIs t ≡ trailerOf f → Taken f t
 unfolding lengthBy
@@ -43,6 +43,8 @@ taken-so f t ts e same =
     let types : t .types ≡ trailerOf f .types = ap (λ (r : wgsl.Trailer). r .types) same in
     let members : t .members ≡ trailerOf f .members = ap (λ (r : wgsl.Trailer). r .members) same in
     let start : t .start ≡ trailerOf f .start = ap (λ (r : wgsl.Trailer). r .start) same in
+    let bytes : memberEntryLength (t .form) * t .members ≡ memberEntryLength (trailerOf f .form) * trailerOf f .members =
+    ap (λ (r : wgsl.Trailer). memberEntryLength (r .form) * r .members) same in
     record {
       ts = ts;
       taken = e;
@@ -50,7 +52,7 @@ taken-so f t ts e same =
       start-is = start;
       count = a .count ∙ sym types;
       few = omega (arith, a .trailer-good .high);
-      inside = omega (arith, a .trailer-good .long);
+      inside = omega (arith, a .trailer-good .long, bytes);
     }
 
 -- A file whose trailer is refused has no types.

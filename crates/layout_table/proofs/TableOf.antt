@@ -2,9 +2,10 @@
 --
 -- In order: a table that is filled up to entry k; what that entry is judged over; one entry more, or a refusal; the whole table.
 -- Assumes nothing.
+use Rattle.file.specs.Members.{memberLength}
 use Prim.Native.Nat.{ℕ, suc, _+_, _-_, _<_, _≤_, _*_}
 use mathlib.Core.List.{List, [], _∷_, _++_}
-use mathlib.Core.Path.{_≡_, refl, sym, ap, _∙_}
+use mathlib.Core.Path.{_≡_, refl, sym, ap, _∙_, ap₂}
 use native.Mathlib.Omega.{arith}
 use native.Mathlib.Numerals.{add-one}
 use lib.ListN.{length, take, drop, set, replicate, length-set, length-replicate, take-append-drop}
@@ -33,7 +34,7 @@ blank = replicate 8 0
 pub record Filled (f : List ℕ) (r : Trailer) (k : ℕ) (table : List (List ℕ)) : Type 0 where
   pub checked : checkTrailer f ≡ good r
   pub trailer : Trailed f r
-  pub long : length f ≡ r .start + (typeEntryLength * r .types + memberEntryLength 1 * r .members) + 10
+  pub long : length f ≡ r .start + (typeEntryLength * r .types + memberEntryLength (r .form) * r .members) + 10
   pub turn : k ≤ r .types
   pub types : List Ty
   pub below : typesBelow f k ≡ good types
@@ -65,15 +66,17 @@ module _ {f : List ℕ} {r : Trailer} {k : ℕ} {table : List (List ℕ)} (t : F
   count = below-length f k (t .types) (t .below)
 
   -- what entry k is judged over
-  pub filled-upward : {e : TypeEntry} {start types members : ℕ} → k < r .types → start ≡ r .start → types ≡ r .types → members ≡ r .members → e ≡ typeEntryFrom f (start + typeEntryLength * k) → Upward f k e (start + typeEntryLength * types) members table (t .types)
-  filled-upward h at n m e =
+  pub filled-upward : {e : TypeEntry} {start types members long : ℕ} → k < r .types → start ≡ r .start → types ≡ r .types → members ≡ r .members → long ≡ memberEntryLength (r .form) → e ≡ typeEntryFrom f (start + typeEntryLength * k) → Upward f k e (start + typeEntryLength * types) members long table (t .types)
+  filled-upward {members = members} {long = long} h at n m p e =
       let few = t .trailer .few in
       let high = t .trailer .high in
-      let long = t .long in
+      let bytes : long * members ≡ memberEntryLength (r .form) * r .members = ap₂ _*_ p m in
+      let whole = t .long in
       record {
         entry-is = entry-is (t .trailer) at k e;
         base-is = base-is (t .trailer) at n;
         members-is = members-are (t .trailer) at m;
+        long-is = p ∙ ap (λ (x : Trailer). memberEntryLength (x .form)) (t .trailer .is);
         inside = omega arith;
         few = omega arith;
         lower =
@@ -88,7 +91,7 @@ module _ {f : List ℕ} {r : Trailer} {k : ℕ} {table : List (List ℕ)} (t : F
 -- ---- one entry more
 
 -- one element more of those that are filled, and one less of those that are not
-first-more : (f : List ℕ) (table : List (List ℕ)) (k : ℕ) (l : Value) (ts : List Ty) (t : Ty) → length ts ≡ k → k < length table → take k table ≡ valuesFrom f 0 ts → l ≡ valueOf (typeEntryAt f k .reference) t → take (k + 1) (set table k (rowOf l)) ≡ valuesFrom f 0 (ts ++ (t ∷ []))
+first-more : (f : List ℕ) (table : List (List ℕ)) (k : ℕ) (l : Value) (ts : List Ty) (t : Ty) → length ts ≡ k → k < length table → take k table ≡ valuesFrom f 0 ts → l ≡ valueOf (memberLength f) (typeEntryAt f k .reference) t → take (k + 1) (set table k (rowOf l)) ≡ valuesFrom f 0 (ts ++ (t ∷ []))
 first-more f table k l ts t n h e q =
     let z : 0 + length ts ≡ k = omega arith in
     rw (add-one k, values-more f 0 ts t, z, ← e, ← q) (take-suc-set table k (rowOf l) h)
@@ -101,9 +104,9 @@ rest-more table k v h e =
     ∙ ap (λ (n : ℕ). drop 1 (replicate n blank)) z
 
 module _ {f : List ℕ} {r : Trailer} {k : ℕ} {table : List (List ℕ)} {e : TypeEntry} (t : Filled f r k table) (h : k < r .types) (is : e ≡ typeEntryAt f k) where
-  pub filled-more : {l : Value} {v : List ℕ} → Laid l ≡ madeOf (e .reference) (typeOfEntry f (t .types) k) → v ≡ rowOf l → Filled f r (k + 1) (set table k v)
+  pub filled-more : {l : Value} {v : List ℕ} → Laid l ≡ madeOf (memberLength f) (e .reference) (typeOfEntry f (t .types) k) → v ≡ rowOf l → Filled f r (k + 1) (set table k v)
   filled-more {l} {v} m q =
-      let x = entry-laid f k (e .reference) (t .below) m l refl in
+      let x = entry-laid f k (memberLength f) (e .reference) (t .below) m l refl in
       let high = t .trailer .high in
       let inside : k < length table = omega (arith, t .whole) in
       record {
@@ -113,15 +116,15 @@ module _ {f : List ℕ} {r : Trailer} {k : ℕ} {table : List (List ℕ)} {e : T
         turn = omega arith;
         types = t .types ++ (x .0 ∷ []);
         below = rw (add-one k) (x .1);
-        first = rw q (first-more f table k l (t .types) (x .0) (count t) inside (t .first) (x .2 ∙ ap (λ (y : TypeEntry). valueOf (y .reference) (x .0)) is));
+        first = rw q (first-more f table k l (t .types) (x .0) (count t) inside (t .first) (x .2 ∙ ap (λ (y : TypeEntry). valueOf (memberLength f) (y .reference) (x .0)) is));
         rest = rest-more table k v (omega arith) (t .rest);
         whole = length-set table k v ∙ t .whole;
       }
 
-  pub filled-refused : {m : Made} {number place : ℕ} → m ≡ madeOf (e .reference) (typeOfEntry f (t .types) k) → says k m ≡ refused number place → refused number place ≡ tableOf f
+  pub filled-refused : {m : Made} {number place : ℕ} → m ≡ madeOf (memberLength f) (e .reference) (typeOfEntry f (t .types) k) → says k m ≡ refused number place → refused number place ≡ tableOf f
   unfolding tableOf
   filled-refused m s =
-      sym (then-refused _ (types-of f r (t .checked) ∙ entry-refused f k (e .reference) (t .below) m (r .types) s h))
+      sym (then-refused _ (types-of f r (t .checked) ∙ entry-refused f k (memberLength f) (e .reference) (t .below) m (r .types) s h))
 
 -- ---- the whole table
 

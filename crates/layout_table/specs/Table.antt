@@ -9,12 +9,12 @@ use lib.ListN.{length}
 use Rattle.wgsl.specs.Types.{Ty}
 use Rattle.wgsl.specs.Said.{Said, good, refused, _>>=_}
 use Rattle.wgsl.specs.File as wgsl
-use Rattle.wgsl.specs.File.{trailerOf, TypeEntry, typeEntryAt, memberEntryLength, mostMembers}
+use Rattle.wgsl.specs.File.{trailerOf, TypeEntry, typeEntryAt, mostMembers}
 use Rattle.wgsl.specs.Rule.{typesOf}
 use Rattle.wgsl.specs.Call.{entryOf}
 use Rattle.said.specs.Refusal.{numberOf, placeOf}
 use Rattle.file.specs.Fields.{trailerIs}
-use Rattle.file.specs.Members.{membersStart}
+use Rattle.file.specs.Members.{membersStart, memberLength}
 use Rattle.layout_values.specs.Value.{valueOf, valuesOf}
 use Rattle.layout_structs.specs.SoFar.{Lower}
 use Rattle.layout_table.specs.declared.Checked.{Checked}
@@ -56,9 +56,9 @@ saidChecked (Refused r) = refused (numberOf r) (placeOf r)
 unfoldable pub groundOf : List ℕ → ℕ → Ty → Ground
 groundOf f e t =
     record {
-      value = valueOf (typeEntryAt f e .reference) t;
+      value = valueOf (memberLength f) (typeEntryAt f e .reference) t;
       start = membersStart f;
-      end = membersStart f + memberEntryLength (trailerOf f .form) * trailerOf f .members;
+      end = membersStart f + memberLength f * trailerOf f .members;
     }
 
 -- an entry, and the table that it stands in
@@ -80,11 +80,13 @@ saidGround (grounded.Refused r) table = refused (numberOf r) (placeOf r)
 -- ---- the lower entries of one that is judged
 
 -- entry k of a file whose trailer is good, with the fields e, over the lower ones, whose types are ts: its M member entries begin at `base`
-pub record Upward (f : List ℕ) (k : ℕ) (e : TypeEntry) (base members : ℕ) (table : List (List ℕ)) (ts : List Ty) : Type 0 where
+-- and are so long
+pub record Upward (f : List ℕ) (k : ℕ) (e : TypeEntry) (base members long : ℕ) (table : List (List ℕ)) (ts : List Ty) : Type 0 where
   pub entry-is : e ≡ typeEntryAt f k
   pub base-is : base ≡ membersStart f
   pub members-is : members ≡ trailerOf f .members
-  pub inside : base + memberEntryLength (trailerOf f .form) * members ≤ length f
+  pub long-is : long ≡ memberLength f
+  pub inside : base + long * members ≤ length f
   pub few : members ≤ mostMembers
   pub lower : Lower f table k ts
   pub table-inside : k < length table

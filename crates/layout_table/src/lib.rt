@@ -1,9 +1,9 @@
 // The table of 256 values, worked out upward from entry 0.
-use file::fields::MEMBER_ENTRY_LENGTH;
 use file::fields::TYPE_ENTRY_LENGTH;
 use file::fields::TypeEntry;
 use file::fields::entry_at;
 use file::fields::member_at;
+use file::fields::member_length;
 use file::kinds::ABSTRACT_FLOAT;
 use file::kinds::STRUCT;
 use file::kinds::is_scalar;
@@ -49,18 +49,20 @@ fn struct_entry(
     k: usize,
     base: usize,
     members: usize,
+    long: u32,
     table: &[Row],
 ) -> Made
-    requires { ⌜ (e .kind ≡ structKind) × ((ts : List Ty) × Upward (now f) k (entryIs e) base members (now table) ts) ⌝ }
-    ensures { λ r. ⌜ ((ts : List Ty) → Upward (now (f .entry)) k (entryIs e) base members (now (table .entry)) ts → r ≡ madeOf (e .reference) (structMade (now (f .entry)) ts k (entryIs e))) ⌝ }
+    requires { ⌜ (e .kind ≡ structKind) × ((ts : List Ty) × Upward (now f) k (entryIs e) base members long (now table) ts) ⌝ }
+    ensures { λ r. ⌜ ((ts : List Ty) → Upward (now (f .entry)) k (entryIs e) base members long (now (table .entry)) ts → r ≡ madeOf long (e .reference) (structMade (now (f .entry)) ts k (entryIs e))) ⌝ }
 {
     let s = span_of(e, members);
     let count = s.count;
-    let at = base + MEMBER_ENTRY_LENGTH * s.first;
+    let length = wide(long);
+    let at = base + length * s.first;
     let mut past = no_members();
     let mut i: usize = 0;
     while i < count {
-        let m = member_at(f, at + MEMBER_ENTRY_LENGTH * i);
+        let m = member_at(f, at + length * i);
         let ty = wide(m.ty);
         if k <= ty {
             return Made::Rule;
@@ -75,13 +77,21 @@ fn struct_entry(
         }
         i += 1;
     }
-    finish(e, past, count)
+    finish(e, past, count, long)
 }
 
 // Entry `k`, with the fields `e`, over the lower entries.
-fn entry_made(f: &[u8], e: TypeEntry, k: usize, base: usize, members: usize, table: &[Row]) -> Made
-    requires { ⌜ ((ts : List Ty) × Upward (now f) k (entryIs e) base members (now table) ts) ⌝ }
-    ensures { λ r. ⌜ ((ts : List Ty) → Upward (now (f .entry)) k (entryIs e) base members (now (table .entry)) ts → r ≡ madeOf (e .reference) (typeOfEntry (now (f .entry)) ts k)) ⌝ }
+fn entry_made(
+    f: &[u8],
+    e: TypeEntry,
+    k: usize,
+    base: usize,
+    members: usize,
+    long: u32,
+    table: &[Row],
+) -> Made
+    requires { ⌜ ((ts : List Ty) × Upward (now f) k (entryIs e) base members long (now table) ts) ⌝ }
+    ensures { λ r. ⌜ ((ts : List Ty) → Upward (now (f .entry)) k (entryIs e) base members long (now (table .entry)) ts → r ≡ madeOf long (e .reference) (typeOfEntry (now (f .entry)) ts k)) ⌝ }
 {
     if !zeros(e.zero3, e.zero6, 0, 0) {
         return Made::Rule;
@@ -91,7 +101,7 @@ fn entry_made(f: &[u8], e: TypeEntry, k: usize, base: usize, members: usize, tab
         return scalar_entry(e);
     }
     if e.kind == STRUCT {
-        return struct_entry(f, e, k, base, members, table);
+        return struct_entry(f, e, k, base, members, long, table);
     }
     if is_scalar(e.kind) {
         return scalar_entry(e);
@@ -113,10 +123,11 @@ pub fn fill(f: &[u8], t: Trailer, table: &mut [Row]) -> Checked
     let members = wide(t.members);
     let start = wide(t.start);
     let base = start + TYPE_ENTRY_LENGTH * types;
+    let long = member_length(t.form);
     let mut k: usize = 0;
     while k < types {
         let e = entry_at(f, start + TYPE_ENTRY_LENGTH * k);
-        match entry_made(f, e, k, base, members, table) {
+        match entry_made(f, e, k, base, members, long, table) {
             Made::Laid(l) => {
                 table[k] = row_of(l);
             }
@@ -173,10 +184,11 @@ pub fn find(f: &[u8], t: Trailer, entry: u32, table: &mut [Row]) -> Grounded
                 return Grounded::Refused(Refusal::Missing);
             }
             let start = wide(t.start) + TYPE_ENTRY_LENGTH * wide(t.types);
+            let end = start + wide(member_length(t.form)) * wide(t.members);
             Grounded::Is(Ground {
                 value: value_at(table, wide(entry)),
                 start,
-                end: start + MEMBER_ENTRY_LENGTH * wide(t.members),
+                end,
             })
         }
     }

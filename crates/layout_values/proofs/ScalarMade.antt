@@ -19,7 +19,7 @@ use Rattle.wgsl.specs.Place.{wordsFor}
 use Rattle.wgsl.proofs.Absent.{some-not-none}
 use Rattle.wgsl.proofs.ScalarKind.{scalar-kind-is, scalar-range, kind-clash}
 use Rattle.layout_values.proofs.VerdictOn.{present-positive, fits-small, layout-closed, layout-none, value-is, verdict-laid, made-used, made-over}
-use Rattle.layout_values.specs.Value.{storedWidth, scalarWords, narrowOf, partsOf, valueOf, madeOf}
+use Rattle.layout_values.specs.Value.{storedWidth, scalarWords, narrowOf, partsOf, valueOf, madeOf, strideIn}
 use Rattle.layout_values.specs.declared.value.Value.{Value}
 use Rattle.layout_values.specs.declared.value.Made.the-variants.{Laid, Rule}
 
@@ -146,7 +146,7 @@ pub record ScalarOf (t : Ty) (l : Value) : Type 0 where
   pub narrow-is : l .narrow ≡ storedWidth scalar
 
 -- A layout of a scalar's kind is a scalar's,
-pub scalar-known : (t : Ty) (l : Value) → l ≡ valueOf (l .reference) t → isScalarKind (l .kind) ≡ true → ScalarOf t l
+pub scalar-known : (t : Ty) (l : Value) → l ≡ valueOf (l .stride) (l .reference) t → isScalarKind (l .kind) ≡ true → ScalarOf t l
 unfolding valueOf kindOf narrowOf scalarIn
 scalar-known (scalar s) l e h =
     record { scalar = s; found = refl; kind-is = rw e; narrow-is = rw e }
@@ -158,7 +158,7 @@ scalar-known (atomic s) l e h = absurd (kind-clash (l .kind) 11 h (rw e) (omega 
 scalar-known (struct n ms) l e h = absurd (kind-clash (l .kind) 12 h (rw e) (omega arith) (omega arith))
 
 -- and a scalar's is of the scalar's own kind.
-pub scalar-kind : (t : Ty) (l : Value) (s : Scalar) → l ≡ valueOf (l .reference) t → scalarIn t ≡ some s → (scalarKind s ≡ l .kind) × (isScalarKind (l .kind) ≡ true)
+pub scalar-kind : (t : Ty) (l : Value) (s : Scalar) → l ≡ valueOf (l .stride) (l .reference) t → scalarIn t ≡ some s → (scalarKind s ≡ l .kind) × (isScalarKind (l .kind) ≡ true)
 unfolding valueOf kindOf scalarIn
 scalar-kind (scalar x) l s e h =
     let same : x ≡ s = cc in
@@ -203,27 +203,27 @@ no-bytes : wordsFor 0 ≡ 0
 unfolding wordsFor up
 no-bytes = refl
 
-module _ (e : TypeEntry) where
-  pub scalar-used : unused (e .columns ∷ e .rows ∷ e .reference ∷ e .count ∷ []) ≡ false → madeOf (e .reference) (scalarMade e) ≡ Rule
+module _ (e : TypeEntry) (long : ℕ) where
+  pub scalar-used : unused (e .columns ∷ e .rows ∷ e .reference ∷ e .count ∷ []) ≡ false → madeOf long (e .reference) (scalarMade e) ≡ Rule
   unfolding scalarMade
-  scalar-used h = made-used _ _ h
+  scalar-used h = made-used _ _ _ h
 
   module _ (zeros : unused (e .columns ∷ e .rows ∷ e .reference ∷ e .count ∷ []) ≡ true) (scalars : isScalarKind (e .kind) ≡ true) where
-    scalar-verdict : (l : Value) → l .reference ≡ e .reference → ((s : Scalar) → scalarKind s ≡ e .kind → l ≡ valueOf (l .reference) (scalar s)) → madeOf (e .reference) (scalarMade e) ≡ Laid l
+    scalar-verdict : (l : Value) → l .reference ≡ e .reference → ((s : Scalar) → scalarKind s ≡ e .kind → l ≡ valueOf long (l .reference) (scalar s)) → madeOf long (e .reference) (scalarMade e) ≡ Laid l
     unfolding scalarMade isAllowed givenFits sizeOf alignOf minSizeOf innerNumbersOf
     scalar-verdict l q h =
         let (s, k, f) = scalar-of-kind (e .kind) scalars in
         let small = width-bounded s in
-        made-over _ scalar zeros f
-        ∙ rw (← q) (verdict-laid (scalar s) l refl refl (fits-small (scalar s) refl (omega arith) (omega arith) refl) (h s k))
+        made-over _ _ scalar zeros f
+        ∙ rw (← q) (verdict-laid long (scalar s) l refl refl (fits-small (scalar s) refl (omega arith) (omega arith) refl) (h s k))
 
     -- The layout of a scalar.
-    pub scalar-laid : (w n : ℕ) → ((s : Scalar) → scalarKind s ≡ e .kind → w ≡ present (widthOf s)) → ((s : Scalar) → scalarKind s ≡ e .kind → n ≡ storedWidth s) → (u : ℕ) → u ≡ wordsFor w → madeOf (e .reference) (scalarMade e) ≡ Laid (record { kind = e .kind; narrow = n; reference = e .reference; count = 1; unit = u; stride = w; size = w; align = w })
-    unfolding kindOf narrowOf partsOf sizeOf alignOf isOpen
+    pub scalar-laid : (w n : ℕ) → ((s : Scalar) → scalarKind s ≡ e .kind → w ≡ present (widthOf s)) → ((s : Scalar) → scalarKind s ≡ e .kind → n ≡ storedWidth s) → (u : ℕ) → u ≡ wordsFor w → madeOf long (e .reference) (scalarMade e) ≡ Laid (record { kind = e .kind; narrow = n; reference = e .reference; count = 1; unit = u; stride = w; size = w; align = w })
+    unfolding kindOf narrowOf partsOf strideIn sizeOf alignOf isOpen
     scalar-laid w n width narrow u unit =
         scalar-verdict _ refl
         (λ s k. let size = width s k in
-        value-is (scalar s) _ (sym k) (narrow s k) refl (unit ∙ units s w size) size size size)
+        value-is long (scalar s) _ (sym k) (narrow s k) refl (unit ∙ units s w size) size size size)
       where
         units : (s : Scalar) (w : ℕ) → w ≡ present (widthOf s) → wordsFor w ≡ cond (hasLayout (scalar s)) (scalarWords s) 0
         units s zero size = rw (layout-none (scalar s) (width-absent s (sym size))) no-bytes

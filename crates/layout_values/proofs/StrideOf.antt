@@ -16,19 +16,19 @@ use Rattle.wgsl.proofs.Absent.{present-is}
 use Rattle.wgsl.proofs.ScalarKind.{no-scalar-kind}
 use Rattle.wgsl.proofs.Tail.{closed-not-runtime}
 use Rattle.wgsl.proofs.Stride.{stride-is, runtime-stride, up-larger, stride-limit}
-use Rattle.layout_values.specs.Value.{partsOf, valueOf}
+use Rattle.layout_values.specs.Value.{partsOf, valueOf, strideIn}
 use Rattle.layout_values.specs.declared.value.Value.{Value}
 use Rattle.layout_values.proofs.ValueOf.{unaligned, unsized, aligned, sized, Element}
 
-of-runtime : (t : Ty) → everywhere isWellFormed t ≡ true → kindOf t ≡ 10 → present (partsOf t .stride) ≡ present (ownStrideOf t)
-unfolding kindOf partsOf ownStrideOf
-of-runtime (scalar s) w h = absurd (no-scalar-kind s 10 (omega arith) (omega arith) h)
-of-runtime (vector n s) w h = absurd (omega arith)
-of-runtime (matrix c r s) w h = absurd (omega arith)
-of-runtime (array n t) w h = absurd (omega arith)
-of-runtime (runtime t) w h = ap present (sym (runtime-stride t w .array-stride))
-of-runtime (atomic s) w h = absurd (omega arith)
-of-runtime (struct k ms) w h = absurd (omega arith)
+of-runtime : (long : ℕ) (t : Ty) → everywhere isWellFormed t ≡ true → kindOf t ≡ 10 → present (strideIn long t) ≡ present (ownStrideOf t)
+unfolding kindOf partsOf strideIn ownStrideOf
+of-runtime long (scalar s) w h = absurd (no-scalar-kind s 10 (omega arith) (omega arith) h)
+of-runtime long (vector n s) w h = absurd (omega arith)
+of-runtime long (matrix c r s) w h = absurd (omega arith)
+of-runtime long (array n t) w h = absurd (omega arith)
+of-runtime long (runtime t) w h = ap present (sym (runtime-stride t w .array-stride))
+of-runtime long (atomic s) w h = absurd (omega arith)
+of-runtime long (struct k ms) w h = absurd (omega arith)
 
 no-runtime : (t : Ty) → (kindOf t ≡ 10 → ⊥) → isRuntime t ≡ false
 unfolding kindOf isRuntime
@@ -40,7 +40,7 @@ no-runtime (runtime t) h = absurd (h refl)
 no-runtime (atomic s) h = refl
 no-runtime (struct k ms) h = refl
 
-module _ (t : Ty) (l : Value) (is : l ≡ valueOf (l .reference) t) (w : everywhere isWellFormed t ≡ true) where
+module _ (t : Ty) (l : Value) (is : l ≡ valueOf (l .stride) (l .reference) t) (w : everywhere isWellFormed t ≡ true) where
   kind-is : l .kind ≡ kindOf t
   unfolding valueOf
   kind-is = ap (λ (x : Value). x .kind) is
@@ -48,7 +48,7 @@ module _ (t : Ty) (l : Value) (is : l ≡ valueOf (l .reference) t) (w : everywh
   -- "for a runtime array, its element's stride"
   pub stride-runtime : l .kind ≡ 10 → l .stride ≡ present (ownStrideOf t)
   unfolding valueOf
-  stride-runtime h = ap (λ (x : Value). x .stride) is ∙ of-runtime t w (sym kind-is ∙ h)
+  stride-runtime h = ap (λ (x : Value). x .stride) is ∙ of-runtime (l .stride) t w (sym kind-is ∙ h)
 
   module _ (other : l .kind ≡ 10 → ⊥) where
     absent : (alignOf t ≡ none) ⊎ (sizeOf t ≡ none) → 0 ≡ present (ownStrideOf t)

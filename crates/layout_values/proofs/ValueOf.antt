@@ -31,7 +31,7 @@ unfolding present
 there (some n) h = refl
 there none h = absurd (omega arith)
 
-module _ (t : Ty) (l : Value) (is : l ≡ valueOf (l .reference) t) (w : everywhere isWellFormed t ≡ true) where
+module _ (t : Ty) (l : Value) (is : l ≡ valueOf (l .stride) (l .reference) t) (w : everywhere isWellFormed t ≡ true) where
   size-is : l .size ≡ present (sizeOf t)
   unfolding valueOf
   size-is = ap (λ (x : Value). x .size) is
@@ -111,7 +111,7 @@ pub record Element (t : Ty) (l : Value) : Type 0 where
   pub narrow-is : narrowOf t ≡ l .narrow
 
 -- A type that is not open, and whose layout has an alignment above 0, is one.
-pub element : (t : Ty) (l : Value) → l ≡ valueOf (l .reference) t → everywhere isWellFormed t ≡ true → isOpen t ≡ false → 0 < l .align → Element t l
+pub element : (t : Ty) (l : Value) → l ≡ valueOf (l .stride) (l .reference) t → everywhere isWellFormed t ≡ true → isOpen t ≡ false → 0 < l .align → Element t l
 unfolding valueOf
 element t l is w closed h =
     let align : alignOf t ≡ some (l .align) = there (alignOf t) (omega (arith, align-is t l is w)) ∙ ap some (sym (align-is t l is w)) in
@@ -121,7 +121,7 @@ element t l is w closed h =
       closed = closed;
       align-is = align;
       size-is = z .1 ∙ ap some (sym (size-is t l is w ∙ ap present (z .1) ∙ present-is (z .0)));
-      words-is = sym (ap wordsIn is ∙ value-words (l .reference) t ∙ words-there t (l .align) (z .0) align (z .1));
+      words-is = sym (ap wordsIn is ∙ value-words (l .stride) (l .reference) t ∙ words-there t (l .align) (z .0) align (z .1));
       narrow-is = sym (ap (λ (x : Value). x .narrow) is);
     }
 
@@ -143,6 +143,6 @@ words-within t l x =
     )
 
 -- A type with no alignment has no words.
-pub no-words : (t : Ty) (l : Value) → l ≡ valueOf (l .reference) t → everywhere isWellFormed t ≡ true → l .align ≡ 0 → wordsIn l ≡ 0
+pub no-words : (t : Ty) (l : Value) → l ≡ valueOf (l .stride) (l .reference) t → everywhere isWellFormed t ≡ true → l .align ≡ 0 → wordsIn l ≡ 0
 unfolding fixedWords hasLayout isPresent
-no-words t l is w e = ap wordsIn is ∙ value-words (l .reference) t ∙ rw (unaligned t l is w e)
+no-words t l is w e = ap wordsIn is ∙ value-words (l .stride) (l .reference) t ∙ rw (unaligned t l is w e)

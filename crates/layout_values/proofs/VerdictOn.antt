@@ -15,7 +15,7 @@ use Rattle.wgsl.specs.Types.{Scalar, Ty, isOpen, kindOf}
 use Rattle.wgsl.specs.Size.{isPresent, present, sizeOf, alignOf, minSizeOf, innerNumbersOf, numbersOf, withinLimits, fitsLimit, hasLayout}
 use Rattle.wgsl.specs.Round.{withinLimit}
 use Rattle.wgsl.specs.Rule.{when, andThen, isAllowed, givenFits}
-use Rattle.layout_values.specs.Value.{narrowOf, partsOf, valueOf, verdictOn, madeOf}
+use Rattle.layout_values.specs.Value.{narrowOf, partsOf, valueOf, verdictOn, madeOf, strideIn}
 use Rattle.layout_values.specs.declared.value.Value.{Value}
 use Rattle.layout_values.specs.declared.value.Made.the-variants.{Laid, Rule}
 
@@ -56,9 +56,9 @@ layout-none t a = rw a
 
 -- ---- a layout's fields
 
-pub value-is : (t : Ty) (l : Value) → l .kind ≡ kindOf t → l .narrow ≡ narrowOf t → l .count ≡ partsOf t .count → l .unit ≡ cond (hasLayout t) (partsOf t .words) 0 → l .stride ≡ present (partsOf t .stride) → l .size ≡ present (sizeOf t) → l .align ≡ present (alignOf t) → l ≡ valueOf (l .reference) t
+pub value-is : (long : ℕ) (t : Ty) (l : Value) → l .kind ≡ kindOf t → l .narrow ≡ narrowOf t → l .count ≡ partsOf t .count → l .unit ≡ cond (hasLayout t) (partsOf t .words) 0 → l .stride ≡ present (strideIn long t) → l .size ≡ present (sizeOf t) → l .align ≡ present (alignOf t) → l ≡ valueOf long (l .reference) t
 unfolding valueOf
-value-is t l kind narrow count unit stride size align =
+value-is long t l kind narrow count unit stride size align =
     rw (← kind, ← narrow, ← count, ← unit, ← stride, ← size, ← align)
 
 -- The words of a part, if there is an alignment, are those of a type that has a layout.
@@ -70,28 +70,28 @@ unit-none t a w h z = rw (h, z)
 
 -- ---- the verdict
 
-verdict-rule : (r : ℕ) (t : Ty) → isAllowed t ≡ false → verdictOn r t ≡ Rule
+verdict-rule : (n r : ℕ) (t : Ty) → isAllowed t ≡ false → verdictOn n r t ≡ Rule
 unfolding verdictOn
-verdict-rule r t h = rw h
+verdict-rule n r t h = rw h
 
-pub verdict-laid : (t : Ty) (l : Value) → isAllowed t ≡ true → givenFits t ≡ true → fitsLimit t ≡ true → l ≡ valueOf (l .reference) t → verdictOn (l .reference) t ≡ Laid l
+pub verdict-laid : (long : ℕ) (t : Ty) (l : Value) → isAllowed t ≡ true → givenFits t ≡ true → fitsLimit t ≡ true → l ≡ valueOf long (l .reference) t → verdictOn long (l .reference) t ≡ Laid l
 unfolding verdictOn
-verdict-laid t l a g f e = rw (a, g, f, ← e)
+verdict-laid long t l a g f e = rw (a, g, f, ← e)
 
 -- ---- types that are made over a scalar
 
 -- A field that is not zero is refusal 5.
-pub made-used : (r : ℕ) {b : Bool} (x : Option Ty) → b ≡ false → madeOf r (when b x) ≡ Rule
+pub made-used : (n r : ℕ) {b : Bool} (x : Option Ty) → b ≡ false → madeOf n r (when b x) ≡ Rule
 unfolding when madeOf
-made-used r x h = rw h
+made-used n r x h = rw h
 
 -- So is a type that is not allowed over the scalar, if there is one.
-pub made-rule : (r : ℕ) (b : Bool) (o : Option Scalar) (f : Scalar → Ty) → ((s : Scalar) → o ≡ some s → isAllowed (f s) ≡ false) → madeOf r (when b (andThen o (λ s. some (f s)))) ≡ Rule
+pub made-rule : (n r : ℕ) (b : Bool) (o : Option Scalar) (f : Scalar → Ty) → ((s : Scalar) → o ≡ some s → isAllowed (f s) ≡ false) → madeOf n r (when b (andThen o (λ s. some (f s)))) ≡ Rule
 unfolding when andThen madeOf
-made-rule r true (some s) f h = verdict-rule r (f s) (h s refl)
-made-rule r true none f h = refl
-made-rule r false o f h = refl
+made-rule n r true (some s) f h = verdict-rule n r (f s) (h s refl)
+made-rule n r true none f h = refl
+made-rule n r false o f h = refl
 
-pub made-over : (r : ℕ) {b : Bool} {o : Option Scalar} (f : Scalar → Ty) {s : Scalar} → b ≡ true → o ≡ some s → madeOf r (when b (andThen o (λ s. some (f s)))) ≡ verdictOn r (f s)
+pub made-over : (n r : ℕ) {b : Bool} {o : Option Scalar} (f : Scalar → Ty) {s : Scalar} → b ≡ true → o ≡ some s → madeOf n r (when b (andThen o (λ s. some (f s)))) ≡ verdictOn n r (f s)
 unfolding when andThen madeOf
-made-over r f h e = rw (h, e)
+made-over n r f h e = rw (h, e)

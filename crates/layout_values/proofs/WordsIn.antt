@@ -38,23 +38,23 @@ times-cond true n u w h = h refl
 times-cond false n u w h = mul-zero n
 
 -- The words of a value are those of its type.
-pub value-words : (r : ℕ) (t : Ty) → wordsIn (valueOf r t) ≡ fixedWords t
+pub value-words : (long r : ℕ) (t : Ty) → wordsIn (valueOf long r t) ≡ fixedWords t
 unfolding wordsIn valueOf kindOf partsOf fixedWords
-value-words r (scalar s) =
+value-words long r (scalar s) =
     rw (ne-eqb (scalarKind s) 12 (no-scalar-kind s 12 (omega arith) (omega arith)))
     (times-cond (hasLayout (scalar s)) 1 (scalarWords s) (wordCount 0 (scalar s)) (λ h. one-mul _ ∙ sym (wordCount-scalar 0 s)))
-value-words r (vector n s) =
+value-words long r (vector n s) =
     times-cond (hasLayout (vector n s)) n (scalarWords s) (wordCount 0 (vector n s)) (λ h. sym (wordCount-vector 0 n s))
-value-words r (matrix c m s) =
+value-words long r (matrix c m s) =
     times-cond (hasLayout (matrix c m s)) c (m * scalarWords s) (wordCount 0 (matrix c m s)) (λ h. sym (wordCount-matrix 0 c m s))
-value-words r (array n t) =
+value-words long r (array n t) =
     times-cond (hasLayout (array n t)) n (fixedWords t) (wordCount 0 (array n t))
     (λ h. rw (words-fixed t (array-layout n t h)) (sym (wordCount-array 0 n t)))
-value-words r (runtime t) =
+value-words long r (runtime t) =
     times-cond (hasLayout (runtime t)) 0 (fixedWords t) (wordCount 0 (runtime t)) (λ h. omega (arith, wordCount-runtime 0 t))
-value-words r (atomic s) =
+value-words long r (atomic s) =
     times-cond (hasLayout (atomic s)) 1 (scalarWords s) (wordCount 0 (atomic s)) (λ h. one-mul _ ∙ sym (wordCount-atomic 0 s))
-value-words r (struct k ms) = refl
+value-words long r (struct k ms) = refl
 
 -- and one with an alignment and a size has a layout.
 pub words-there : (t : Ty) (a z : ℕ) → alignOf t ≡ some a → sizeOf t ≡ some z → fixedWords t ≡ wordCount 0 t

@@ -12,7 +12,8 @@ use lib.Dec.{eqb}
 use lib.ListN.{length, getD, replicate}
 use Rattle.wgsl.specs.Types.{Scalar, Ty, scalar, vector, matrix, array, runtime, atomic, struct, Members, no-more, member, everywhere, kindOf, structKind}
 use Rattle.wgsl.specs.Size.{present, widthOf, vectorAlign, sizeOf, alignOf, strideOf, fitsLimit, hasLayout, isStored}
-use Rattle.wgsl.specs.File.{memberEntryLength, typeEntryAt, mostTypes}
+use Rattle.wgsl.specs.File.{typeEntryAt, mostTypes}
+use Rattle.file.specs.Members.{memberLength}
 use Rattle.wgsl.specs.Rule.{countOf, isAllowed, givenFits, isWellFormed}
 use Rattle.wgsl.specs.Place.{wordsFor, wordCount}
 use Rattle.layout_values.specs.declared.value.Value.{Value}
@@ -54,7 +55,7 @@ pub record Part : Type 0 where
   pub count : ℕ
   -- the words of one; of a struct all its words
   pub words : ℕ
-  -- from one to the next; of a struct, from one member entry to the next
+  -- from one to the next; of a struct, none
   pub stride : Option ℕ
 
 unfoldable pub partsOf : Ty → Part
@@ -64,20 +65,30 @@ partsOf (matrix c r s) = record { count = c; words = r * scalarWords s; stride =
 partsOf (array n t) = record { count = n; words = fixedWords t; stride = strideOf t }
 partsOf (runtime t) = record { count = 0; words = fixedWords t; stride = strideOf t }
 partsOf (atomic s) = record { count = 1; words = scalarWords s; stride = widthOf s }
-partsOf (struct k ms) = record { count = countOf ms; words = wordCount 0 (struct k ms); stride = some (memberEntryLength 1) }
+partsOf (struct k ms) = record { count = countOf ms; words = wordCount 0 (struct k ms); stride = none }
+
+-- the same of a struct: from one member entry to the next, which are so long
+unfoldable pub strideIn : ℕ → Ty → Option ℕ
+strideIn long (scalar s) = partsOf (scalar s) .stride
+strideIn long (vector n s) = partsOf (vector n s) .stride
+strideIn long (matrix c r s) = partsOf (matrix c r s) .stride
+strideIn long (array n t) = partsOf (array n t) .stride
+strideIn long (runtime t) = partsOf (runtime t) .stride
+strideIn long (atomic s) = partsOf (atomic s) .stride
+strideIn long (struct k ms) = some long
 
 -- ---- its value
 
--- the value of a type whose entry has this reference
-unfoldable pub valueOf : ℕ → Ty → Value
-valueOf reference t =
+-- the value of a type whose entry has this reference, in a file whose member entries are so long
+unfoldable pub valueOf : ℕ → ℕ → Ty → Value
+valueOf long reference t =
     record {
       kind = kindOf t;
       narrow = narrowOf t;
       reference = reference;
       count = partsOf t .count;
       unit = cond (hasLayout t) (partsOf t .words) 0;
-      stride = present (partsOf t .stride);
+      stride = present (strideIn long t);
       size = present (sizeOf t);
       align = present (alignOf t);
     }
@@ -116,7 +127,7 @@ blankTable = replicate mostTypes (replicate 8 0)
 -- the values of types whose entries are those of a file from entry k on
 unfoldable pub valuesFrom : List ℕ → ℕ → List Ty → List (List ℕ)
 valuesFrom f k [] = []
-valuesFrom f k (t ∷ ts) = rowOf (valueOf (typeEntryAt f k .reference) t) ∷ valuesFrom f (suc k) ts
+valuesFrom f k (t ∷ ts) = rowOf (valueOf (memberLength f) (typeEntryAt f k .reference) t) ∷ valuesFrom f (suc k) ts
 
 -- the table of a file with these types: their values, and blanks past them
 unfoldable pub valuesOf : List ℕ → List Ty → List (List ℕ)
@@ -125,19 +136,19 @@ valuesOf f ts = valuesFrom f 0 ts ++ replicate (mostTypes - length ts) (replicat
 -- ---- the verdict on an entry's type
 
 -- 5, 6 or 7, or the value
-unfoldable pub verdictOn : ℕ → Ty → Made
-verdictOn reference t =
-    cond (isAllowed t) (cond (givenFits t) (cond (fitsLimit t) (Laid (valueOf reference t)) Large) Given) Rule
+unfoldable pub verdictOn : ℕ → ℕ → Ty → Made
+verdictOn long reference t =
+    cond (isAllowed t) (cond (givenFits t) (cond (fitsLimit t) (Laid (valueOf long reference t)) Large) Given) Rule
 
 -- the same of an entry with this reference whose fields make a type, or none
-unfoldable pub madeOf : ℕ → Option Ty → Made
-madeOf reference (some t) = verdictOn reference t
-madeOf reference none = Rule
+unfoldable pub madeOf : ℕ → ℕ → Option Ty → Made
+madeOf long reference (some t) = verdictOn long reference t
+madeOf long reference none = Rule
 
 -- ---- values that are some type's
 
 -- a value in the table: that of a type that the file's rules leave
 pub record Known (l : Value) : Type 0 where
   pub type : Ty
-  pub is : l ≡ valueOf (l .reference) type
+  pub is : l ≡ valueOf (l .stride) (l .reference) type
   pub well-formed : everywhere isWellFormed type ≡ true

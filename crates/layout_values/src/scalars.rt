@@ -10,7 +10,7 @@ use numbers::order::smaller;
 ghost use mathlib.Core.Path.{_≡_};
 ghost use mathlib.Core.Bool.{true, cond};
 ghost use mathlib.Core.List.{[], _∷_};
-ghost use Prim.Native.Nat.{_≤_};
+ghost use Prim.Native.Nat.{ℕ, _≤_};
 ghost use lib.Dec.{eqb};
 ghost use Rattle.wgsl.specs.Types.{Scalar, scalarKind, isScalarKind};
 ghost use Rattle.wgsl.specs.Size.{present, widthOf, vectorAlign};
@@ -94,7 +94,7 @@ pub fn unless_absent(align: u32, unit: u32) -> u32
 // A scalar's entry: kinds 0 to 6, and 13 to 15.
 pub fn scalar_entry(e: TypeEntry) -> Made
     requires { ⌜ isScalarKind (e .kind) ≡ true ⌝ }
-    ensures { λ r. ⌜ r ≡ madeOf (e .reference) (scalarMade (entryIs e)) ⌝ }
+    ensures { λ r. ⌜ ((long : ℕ) → r ≡ madeOf long (e .reference) (scalarMade (entryIs e))) ⌝ }
 {
     let kind = e.kind;
     if !zeros(e.columns, e.rows, e.reference, e.count) {

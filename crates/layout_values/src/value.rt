@@ -98,7 +98,7 @@ pub fn value_at(table: &[Row], e: usize) -> Value
 
 // Whether a type is open: what has an alignment is open or has a size.
 pub fn opens(l: Value) -> bool
-    ensures { λ r. ⌜ ((t : Ty) → l ≡ valueOf (l .reference) t → everywhere isWellFormed t ≡ true → r ≡ isOpen t) ⌝ }
+    ensures { λ r. ⌜ ((t : Ty) → l ≡ valueOf (l .stride) (l .reference) t → everywhere isWellFormed t ≡ true → r ≡ isOpen t) ⌝ }
 {
     if l.size != 0 {
         return false;
@@ -109,7 +109,7 @@ pub fn opens(l: Value) -> bool
 // The stride of a type: its size rounded up to its alignment, of a runtime array its element's; 0 where it has none. Nothing is rounded:
 // every size is a multiple of the alignment, but for that of a vector of three, which is below it.
 pub fn stride_of(l: Value) -> u32
-    ensures { λ r. ⌜ ((t : Ty) → l ≡ valueOf (l .reference) t → everywhere isWellFormed t ≡ true → r ≡ present (ownStrideOf t)) ⌝ }
+    ensures { λ r. ⌜ ((t : Ty) → l ≡ valueOf (l .stride) (l .reference) t → everywhere isWellFormed t ≡ true → r ≡ present (ownStrideOf t)) ⌝ }
 {
     if l.kind == RUNTIME {
         return l.stride;

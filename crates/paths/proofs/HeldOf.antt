@@ -35,7 +35,7 @@ use Rattle.paths.specs.Locate.{heldOf, Viewable, Opening}
 -- ---- an entry
 
 module _ {f ms : List ℕ} {table : List (List ℕ)} {e : ℕ} {l : Value} {t : Ty} (x : Viewable f ms table e l t) where
-  pub viewable-value : l ≡ valueOf (l .reference) t
+  pub viewable-value : l ≡ valueOf (l .stride) (l .reference) t
   viewable-value = rw (x .layout-is) (layout-value (x .basis) e t (x .there))
 
   pub viewable-well-formed : everywhere isWellFormed t ≡ true

@@ -19,7 +19,7 @@ either-way t true true = refl
 either-way t true false = refl
 either-way t false opens = refl
 
-module _ (t : Ty) (l : Value) (is : l ≡ valueOf (l .reference) t) (w : everywhere isWellFormed t ≡ true) where
+module _ (t : Ty) (l : Value) (is : l ≡ valueOf (l .stride) (l .reference) t) (w : everywhere isWellFormed t ≡ true) where
   -- What has no size has no layout or is open.
   pub no-size : l .size ≡ 0 → mayLive t ≡ refused 9 0
   unfolding mayLive hasLayout isPresent

@@ -7,17 +7,18 @@ use mathlib.Core.Bool.{false}
 use mathlib.Core.List.{List, [], _∷_}
 use mathlib.Core.Option.{some}
 use mathlib.Core.Path.{_≡_, refl, sym, ap, _∙_}
+use native.Mathlib.Nat.{suc-mul}
 use native.Mathlib.Omega.{arith}
 use lib.ListN.{take, getElem?}
 use Rattle.wgsl.specs.Types.{Ty, scalar, vector, matrix, array, runtime, atomic, struct, Members, scalarKind, isScalarKind, kindOf, structKind}
-use Rattle.wgsl.specs.File.{trailerOf, MemberEntry, memberEntryAt, typeEntryAt, memberEntryLength}
+use Rattle.wgsl.specs.File.{trailerOf, MemberEntry, memberEntryAt, typeEntryAt}
 use Rattle.wgsl.specs.Rule.{membersFrom}
 use Rattle.wgsl.specs.Uniform.{memberTypes, refersTo}
 use Rattle.wgsl.proofs.Absent.{true-not-false}
 use Rattle.wgsl.proofs.Said.{when-some, andThen-some}
 use Rattle.wgsl.proofs.AtEntry.{Refers, to-none, to-vector, to-matrix, to-array, to-runtime, to-atomic, to-members}
 use Rattle.wgsl.proofs.Reach.{linksOf, links}
-use Rattle.file.specs.Members.{memberBytes}
+use Rattle.file.specs.Members.{memberBytes, memberLength}
 use Rattle.layout_values.specs.declared.value.Value.{Value}
 use Rattle.layout_values.specs.Value.{valueOf, valueAt}
 use Rattle.wgsl.proofs.ScalarKind.{scalar-kind-is, no-scalar, no-scalar-kind}
@@ -30,30 +31,30 @@ use Rattle.uniform.specs.Lowest.{typesAt, TypesInside, refersBy, RefersI
 
 -- ---- the types of a struct's members
 
-types-at : (f : List ℕ) (c m : ℕ) → m + c ≤ trailerOf f .members → typesAt (memberBytes f) 12 c (m * memberEntryLength 1) ≡ memberTypes f c m
+types-at : (f : List ℕ) (c m : ℕ) → m + c ≤ trailerOf f .members → typesAt (memberBytes f) (memberLength f) c (m * memberLength f) ≡ memberTypes f c m
 unfolding typesAt memberTypes
 types-at f zero m h = refl
 types-at f (suc c) m h =
-    let byte : m * memberEntryLength 1 + 12 ≡ suc m * memberEntryLength 1 = omega arith in
+    let byte : m * memberLength f + memberLength f ≡ suc m * memberLength f = sym (suc-mul m (memberLength f)) in
     let first = memberBytes-at f m (omega arith) in
     rw (byte, ap (λ (x : MemberEntry). x .type) first, types-at f c (suc m) (omega arith))
 
 module _ {f : List ℕ} {ts : List Ty} {ms : List ℕ} {table : List (List ℕ)} (basis : Basis f ts ms table) (e : ℕ) where
   -- they are lower than the struct
-  types-inside : (told c m : ℕ) (ns : Members) → e ≤ told → membersFrom f (take e ts) c m ≡ some ns → m + c ≤ trailerOf f .members → TypesInside (memberBytes f) told 12 c (m * memberEntryLength 1)
+  types-inside : (told c m : ℕ) (ns : Members) → e ≤ told → membersFrom f (take e ts) c m ≡ some ns → m + c ≤ trailerOf f .members → TypesInside (memberBytes f) told (memberLength f) c (m * memberLength f)
   unfolding membersFrom TypesInside
   types-inside told zero m ns few are within = tt
   types-inside told (suc c) m ns few are within =
       let t = andThen-some _ _ (when-some _ _ are .1) in
       let rest = andThen-some _ _ (t .after) in
       let r = read basis {e = e} m (t .value) (omega arith) (t .first) in
-      let byte : m * memberEntryLength 1 + 12 ≡ suc m * memberEntryLength 1 = omega arith in
+      let byte : m * memberLength f + memberLength f ≡ suc m * memberLength f = sym (suc-mul m (memberLength f)) in
       (r .inside, omega (arith, r .lower-is), rw byte (types-inside told c (suc m) (rest .value) few (rest .first) (omega arith)))
 
   -- ---- every entry
 
   -- a struct's fields, as its value has them
-  struct-fields : {members : Members} → getElem? ts e ≡ some (struct e members) → membersFrom f (take e ts) (typeEntryAt f e .count) (typeEntryAt f e .reference) ≡ some members → (valueAt table e .stride ≡ 12) × (valueAt table e .count ≡ typeEntryAt f e .count) × (valueAt table e .reference ≡ typeEntryAt f e .reference)
+  struct-fields : {members : Members} → getElem? ts e ≡ some (struct e members) → membersFrom f (take e ts) (typeEntryAt f e .count) (typeEntryAt f e .reference) ≡ some members → (valueAt table e .stride ≡ memberLength f) × (valueAt table e .count ≡ typeEntryAt f e .count) × (valueAt table e .reference ≡ typeEntryAt f e .reference)
   struct-fields {members} there are =
       let x = struct-says basis e there in
       (x .0, x .1 ∙ count-from f (take e ts) _ _ members are, x .2)

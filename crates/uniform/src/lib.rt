@@ -103,7 +103,7 @@ fn lowest_broken(members: &[u8], table: &[Row], e: usize) -> u32
 
 // 9, for open types too, and 10; `l` is the value of the entry's type.
 fn may_live(l: Value) -> Allowed
-    ensures { λ r. ⌜ ((t : Ty) → l ≡ valueOf (l .reference) t → everywhere isWellFormed t ≡ true → saidAllowed r ≡ mayLive t) ⌝ }
+    ensures { λ r. ⌜ ((t : Ty) → l ≡ valueOf (l .stride) (l .reference) t → everywhere isWellFormed t ≡ true → saidAllowed r ≡ mayLive t) ⌝ }
 {
     if l.size == 0 {
         return Allowed::Refused(Refusal::Absent);

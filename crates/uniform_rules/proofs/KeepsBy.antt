@@ -8,6 +8,7 @@ use mathlib.Core.List.{List}
 use mathlib.Core.Logic.{⊎-elim}
 use mathlib.Core.Option.{Option, some, Option·some-injective}
 use mathlib.Core.Path.{_≡_, refl, sym, ap, _∙_}
+use native.Mathlib.Nat.{suc-mul}
 use native.Mathlib.Omega.{arith}
 use borrow.Author.Tests.{ne-eqb}
 use lib.Dec.{leb}
@@ -15,7 +16,7 @@ use lib.ListN.{take, getElem?}
 use Rattle.wgsl.specs.Round.{up}
 use Rattle.wgsl.specs.Types.{Ty, scalar, vector, matrix, array, runtime, atomic, struct, Members, no-more, member, isRuntime, everywhere, scalarKind, kindOf, structKind}
 use Rattle.wgsl.specs.Size.{isPresent, present, givenOr, sizeOf, alignOf, memberStart, memberEnd}
-use Rattle.wgsl.specs.File.{trailerOf, memberEntryAt, givenSize, givenAlign, typeEntryAt, memberEntryLength}
+use Rattle.wgsl.specs.File.{trailerOf, memberEntryAt, givenSize, givenAlign, typeEntryAt}
 use Rattle.wgsl.specs.Rule.{isLast, countOf, membersFrom, isMultiple, isWellFormed, givenAlignFits}
 use Rattle.wgsl.specs.Uniform.{uniformAlign, earliestAfter, membersKeep, keepsUniform}
 use Rattle.wgsl.proofs.Round.{up-multiple}
@@ -25,9 +26,9 @@ use Rattle.wgsl.proofs.Shape.{multiple-trans}
 use Rattle.wgsl.proofs.Members.{start-is as member-start}
 use Rattle.wgsl.proofs.Said.{when-some, andThen-some}
 use Rattle.wgsl.proofs.AtEntry.{Refers, to-none, to-vector, to-matrix, to-array, to-runtime, to-atomic, to-members}
-use Rattle.file.specs.Members.{memberBytes}
+use Rattle.file.specs.Members.{memberBytes, memberLength}
 use Rattle.layout_values.specs.declared.value.Value.{Value}
-use Rattle.layout_values.specs.Value.{partsOf, valueOf, valueAt}
+use Rattle.layout_values.specs.Value.{partsOf, strideIn, valueOf, valueAt}
 use Rattle.wgsl.proofs.ScalarKind.{no-scalar-kind}
 use Rattle.walk_trees.specs.Slot.{memberValue, slotAt}
 use Rattle.walk_shapes.specs.Basis.{Basis}
@@ -50,18 +51,18 @@ own-multiple lo t align own w is fits =
 
 -- members, where the one before them ended at lo, as the table says them
 pub record Kept (f : List ℕ) (table : List (List ℕ)) (c m lo : ℕ) (ns : Members) : Type 0 where
-  pub slots-all : SlotsAll (memberBytes f) table 12 c (m * memberEntryLength 1) lo
-  pub keeps-is : (earliest : ℕ) → slotsKeep (memberBytes f) table 12 c (m * memberEntryLength 1) lo earliest ≡ membersKeep earliest (some lo) ns
+  pub slots-all : SlotsAll (memberBytes f) table (memberLength f) c (m * memberLength f) lo
+  pub keeps-is : (earliest : ℕ) → slotsKeep (memberBytes f) table (memberLength f) c (m * memberLength f) lo earliest ≡ membersKeep earliest (some lo) ns
 
 module _ {f : List ℕ} {ts : List Ty} {ms : List ℕ} {table : List (List ℕ)} (basis : Basis f ts ms table) (e : ℕ) where
   -- those after a member
   rest-kept : (c m lo : ℕ) (t : Ty) (ns : Members) → Read f ts table e m t → membersFrom f (take e ts) c (suc m) ≡ some ns → Ruled (some lo) (member t (givenSize (memberEntryAt f m)) (givenAlign (memberEntryAt f m)) ns) → ((lo′ : ℕ) → Ruled (some lo′) ns → Kept f table c (suc m) lo′ ns) →
-      SlotsAll (memberBytes f) table 12 c (m * memberEntryLength 1 + 12) (slotAt (memberBytes f) table (m * memberEntryLength 1) lo .end)
-      × ((earliest : ℕ) → slotsKeep (memberBytes f) table 12 c (m * memberEntryLength 1 + 12) (slotAt (memberBytes f) table (m * memberEntryLength 1) lo .end) earliest ≡ membersKeep earliest (memberEnd (some lo) (givenAlign (memberEntryAt f m)) (alignOf t) (givenSize (memberEntryAt f m)) (sizeOf t)) ns)
+      SlotsAll (memberBytes f) table (memberLength f) c (m * memberLength f + memberLength f) (slotAt (memberBytes f) table (m * memberLength f) lo .end)
+      × ((earliest : ℕ) → slotsKeep (memberBytes f) table (memberLength f) c (m * memberLength f + memberLength f) (slotAt (memberBytes f) table (m * memberLength f) lo .end) earliest ≡ membersKeep earliest (memberEnd (some lo) (givenAlign (memberEntryAt f m)) (alignOf t) (givenSize (memberEntryAt f m)) (sizeOf t)) ns)
   unfolding SlotsAll slotsKeep membersKeep
   rest-kept c m lo t ns r are x more =
-      let end = slotAt (memberBytes f) table (m * memberEntryLength 1) lo .end in
-      let byte : m * memberEntryLength 1 + 12 ≡ suc m * memberEntryLength 1 = omega arith in
+      let end = slotAt (memberBytes f) table (m * memberLength f) lo .end in
+      let byte : m * memberLength f + memberLength f ≡ suc m * memberLength f = sym (suc-mul m (memberLength f)) in
       ⊎-elim
       (λ (p : isPresent (sizeOf t) ≡ true).
       let next = first-end r x p in
@@ -77,14 +78,14 @@ module _ {f : List ℕ} {ts : List Ty} {ms : List ℕ} {table : List (List ℕ)}
   unfolding SlotsAll slotsKeep membersKeep
   more-kept c m lo t ns r are x more =
       let align = givenAlign (memberEntryAt f m) in
-      let s = slotAt (memberBytes f) table (m * memberEntryLength 1) lo in
+      let s = slotAt (memberBytes f) table (m * memberLength f) lo in
       let start : ℕ = present (memberStart (some lo) align (alignOf t)) in
       let own = first-ruled x in
       let multiple = own-multiple lo t align (own .own) (own .well) (own .own-is) (own .align-fits) in
-      let here : (earliest : ℕ) → startKeeps (memberValue (memberBytes f) table (m * memberEntryLength 1)) earliest (s .start) ≡ (isMultiple (uniformAlign t) start && leb earliest start) =
-      λ earliest. rw (first-start r x, r .layout-is) (start-is _ t (own .own) start earliest (own .well) (own .own-is) multiple) in
-      let next : (earliest : ℕ) → earliestBy (memberValue (memberBytes f) table (m * memberEntryLength 1)) earliest (s .start) ≡ max earliest (earliestAfter start t) =
-      λ earliest. rw (first-start r x, r .layout-is) (earliest-is _ t start earliest) in
+      let here : (earliest : ℕ) → startKeeps (memberValue (memberBytes f) table (m * memberLength f)) earliest (s .start) ≡ (isMultiple (uniformAlign t) start && leb earliest start) =
+      λ earliest. rw (first-start r x, r .layout-is) (start-is _ _ t (own .own) start earliest (own .well) (own .own-is) multiple) in
+      let next : (earliest : ℕ) → earliestBy (memberValue (memberBytes f) table (m * memberLength f)) earliest (s .start) ≡ max earliest (earliestAfter start t) =
+      λ earliest. rw (first-start r x, r .layout-is) (earliest-is _ _ t start earliest) in
       let after = rest-kept c m lo t ns r are x more in
       record {
         slots-all = (first-placeable r x, after .0);
@@ -113,7 +114,7 @@ module _ {f : List ℕ} {ts : List Ty} {ms : List ℕ} {table : List (List ℕ)}
       (kept basis e _ _ 0 members are within (struct-ruled e members (basis-well-formed basis e (struct e members) there)))
 
   is-kept : {t : Ty} → Refers f ts e (typeEntryAt f e) t → getElem? ts e ≡ some t → keepsBy ms table (valueAt table e) ≡ keepsUniform t
-  unfolding keepsBy isRaised keepsUniform valueOf kindOf partsOf isMultiple
+  unfolding keepsBy isRaised keepsUniform valueOf kindOf strideIn partsOf isMultiple
   is-kept (to-none s) there =
       rw (
         basis-layout basis e _ there,

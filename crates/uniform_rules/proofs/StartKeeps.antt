@@ -80,29 +80,29 @@ not-raised : (l : Value) (earliest start : ℕ) → isRaised (l .kind) ≡ false
 unfolding startKeeps
 not-raised l earliest start h = rw h (and-swap (leb earliest start) true)
 
-pub start-is : (r : ℕ) (t : Ty) (a start earliest : ℕ) → everywhere isWellFormed t ≡ true → alignOf t ≡ some a → start % a ≡ 0 → startKeeps (valueOf r t) earliest start ≡ (isMultiple (uniformAlign t) start && leb earliest start)
+pub start-is : (long r : ℕ) (t : Ty) (a start earliest : ℕ) → everywhere isWellFormed t ≡ true → alignOf t ≡ some a → start % a ≡ 0 → startKeeps (valueOf long r t) earliest start ≡ (isMultiple (uniformAlign t) start && leb earliest start)
 unfolding startKeeps isRaised valueOf kindOf uniformAlign
-start-is r (scalar s) a start earliest w is m =
-    not-raised (valueOf r (scalar s)) earliest start (scalar-not-raised s) ∙ rw (own-kept (scalar s) a start w is m)
-start-is r (vector n s) a start earliest w is m = rw (own-kept (vector n s) a start w is m) (and-swap (leb earliest start) true)
-start-is r (matrix c n s) a start earliest w is m = rw (own-kept (matrix c n s) a start w is m) (and-swap (leb earliest start) true)
-start-is r (array n t) a start earliest w is m = rw (raised-kept (array n t) a start w is m) (and-swap (leb earliest start) (eqb (start % 16) 0))
-start-is r (runtime t) a start earliest w is m = rw (raised-kept (runtime t) a start w is m) (and-swap (leb earliest start) (eqb (start % 16) 0))
-start-is r (atomic s) a start earliest w is m = rw (own-kept (atomic s) a start w is m) (and-swap (leb earliest start) true)
-start-is r (struct k ms) a start earliest w is m = rw (raised-kept (struct k ms) a start w is m) (and-swap (leb earliest start) (eqb (start % 16) 0))
+start-is long r (scalar s) a start earliest w is m =
+    not-raised (valueOf long r (scalar s)) earliest start (scalar-not-raised s) ∙ rw (own-kept (scalar s) a start w is m)
+start-is long r (vector n s) a start earliest w is m = rw (own-kept (vector n s) a start w is m) (and-swap (leb earliest start) true)
+start-is long r (matrix c n s) a start earliest w is m = rw (own-kept (matrix c n s) a start w is m) (and-swap (leb earliest start) true)
+start-is long r (array n t) a start earliest w is m = rw (raised-kept (array n t) a start w is m) (and-swap (leb earliest start) (eqb (start % 16) 0))
+start-is long r (runtime t) a start earliest w is m = rw (raised-kept (runtime t) a start w is m) (and-swap (leb earliest start) (eqb (start % 16) 0))
+start-is long r (atomic s) a start earliest w is m = rw (own-kept (atomic s) a start w is m) (and-swap (leb earliest start) true)
+start-is long r (struct k ms) a start earliest w is m = rw (raised-kept (struct k ms) a start w is m) (and-swap (leb earliest start) (eqb (start % 16) 0))
 
 -- ---- where those after it may
 
 no-more-than : (n : ℕ) → n ≡ max n 0
 no-more-than n = omega arith
 
-pub earliest-is : (r : ℕ) (t : Ty) (start earliest : ℕ) → earliestBy (valueOf r t) earliest start ≡ max earliest (earliestAfter start t)
+pub earliest-is : (long r : ℕ) (t : Ty) (start earliest : ℕ) → earliestBy (valueOf long r t) earliest start ≡ max earliest (earliestAfter start t)
 unfolding earliestBy valueOf kindOf earliestAfter
-earliest-is r (scalar s) start earliest =
+earliest-is long r (scalar s) start earliest =
     rw (ne-eqb (scalarKind s) 12 (no-scalar-kind s 12 (omega arith) (omega arith))) (no-more-than earliest)
-earliest-is r (vector n s) start earliest = no-more-than earliest
-earliest-is r (matrix c n s) start earliest = no-more-than earliest
-earliest-is r (array n t) start earliest = no-more-than earliest
-earliest-is r (runtime t) start earliest = no-more-than earliest
-earliest-is r (atomic s) start earliest = no-more-than earliest
-earliest-is r (struct k ms) start earliest = refl
+earliest-is long r (vector n s) start earliest = no-more-than earliest
+earliest-is long r (matrix c n s) start earliest = no-more-than earliest
+earliest-is long r (array n t) start earliest = no-more-than earliest
+earliest-is long r (runtime t) start earliest = no-more-than earliest
+earliest-is long r (atomic s) start earliest = no-more-than earliest
+earliest-is long r (struct k ms) start earliest = refl

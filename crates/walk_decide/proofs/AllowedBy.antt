@@ -22,7 +22,7 @@ pub too-long : (stored : Bool) (t : Ty) (bytes : ℕ) → limit < bytes → allo
 unfolding allowed withinLimit _>>_ refuse
 too-long stored t bytes h = rw (lt-leb bytes limit h) refl
 
-module _ (t : Ty) (l : Value) (is : l ≡ valueOf (l .reference) t) (w : everywhere isWellFormed t ≡ true) where
+module _ (t : Ty) (l : Value) (is : l ≡ valueOf (l .stride) (l .reference) t) (w : everywhere isWellFormed t ≡ true) where
   there : (o : Option ℕ) → 0 < present o → isPresent o ≡ true
   unfolding present isPresent
   there (some n) h = refl

@@ -12,12 +12,12 @@ use native.Mathlib.Nat.{add-sub-cancel-left}
 use lib.ListN.{length, getElem?}
 use Rattle.wgsl.specs.Types.{Ty, everywhere}
 use Rattle.wgsl.specs.Said.{good, refused}
-use Rattle.wgsl.specs.File.{trailerOf, memberEntryLength, lengthBy, checkTrailer}
+use Rattle.wgsl.specs.File.{trailerOf, lengthBy, checkTrailer}
 use Rattle.wgsl.specs.Rule.{isWellFormed, typesOf}
 use Rattle.wgsl.specs.Call.{entryOf}
 use Rattle.wgsl.proofs.Said.{good-not-refused, then-good, then-cases, then-is, then-refused, orRefuse-good}
 use Rattle.wgsl.proofs.Accepted.{accepted}
-use Rattle.file.specs.Members.{membersStart, memberBytes}
+use Rattle.file.specs.Members.{membersStart, memberBytes, memberLength}
 use Rattle.layout_values.specs.Value.{valueOf, valueAt, valuesOf}
 use Rattle.layout_table.specs.declared.Ground.{Ground}
 use Rattle.layout_table.specs.Table.{InTable, groundOf, groundIn}
@@ -31,7 +31,7 @@ use Rattle.walk_decide.proofs.Tailed.{layout-value}
 members-part : (f : List ℕ) (e : ℕ) (t : Ty) {g : Ground} → g ≡ groundOf f e t → membersPart f g ≡ memberBytes f
 unfolding groundOf memberBytes
 members-part f e t q =
-    rw (q, add-sub-cancel-left (membersStart f) (memberEntryLength (trailerOf f .form) * trailerOf f .members)) refl
+    rw (q, add-sub-cancel-left (membersStart f) (memberLength f * trailerOf f .members)) refl
 
 -- It lies inside the file.
 members-inside : (f : List ℕ) (ts : List Ty) (e : ℕ) (t : Ty) → typesOf f ≡ good ts → (groundOf f e t .start ≤ groundOf f e t .end) × (groundOf f e t .end ≤ length f)
@@ -74,7 +74,7 @@ module _ {f : List ℕ} {e : ℕ} {g : Ground} {table : List (List ℕ)} {t : Ty
   entry-layout = ap (λ (y : Ground). y .value) (x .ground-is) ∙ sym (basis-layout (x .basis) e t (x .there))
 
   -- and is its type's value.
-  pub entry-value : g .value ≡ valueOf (g .value .reference) t
+  pub entry-value : g .value ≡ valueOf (g .value .stride) (g .value .reference) t
   entry-value = rw entry-layout (layout-value (x .basis) e t (x .there))
 
   pub entry-well-formed : everywhere isWellFormed t ≡ true

@@ -21,10 +21,10 @@ use Rattle.wgsl.proofs.Passed.{runtime-passed}
 use Rattle.wgsl.proofs.AtEntry.{Refers, to-none, to-vector, to-matrix, to-array, to-runtime, to-atomic, to-members}
 use Rattle.wgsl.proofs.Count.{count-words, words-positive, wordCount-runtime}
 use Rattle.wgsl.proofs.Opened.{lastOf, runtime-opened, struct-opened}
-use Rattle.file.specs.Members.{memberBytes}
+use Rattle.file.specs.Members.{memberBytes, memberLength}
 use Rattle.layout_values.specs.declared.value.Value.{Value}
 use Rattle.layout_values.proofs.ValuesOf.{own-reference}
-use Rattle.layout_values.specs.Value.{partsOf, fixedWords, valueOf, valueAt}
+use Rattle.layout_values.specs.Value.{partsOf, strideIn, fixedWords, valueOf, valueAt}
 use Rattle.walk_trees.specs.Slot.{slotIn}
 use Rattle.walk_shapes.specs.Basis.{Basis}
 use Rattle.walk_shapes.proofs.Basis.{basis-inside, basis-layout, basis-well-formed, basis-refers}
@@ -48,8 +48,8 @@ module _ {f : List ℕ} {ts : List Ty} {ms : List ℕ} {table : List (List ℕ)}
   -- ---- a storable entry
 
   -- The layout of an entry is its type's value.
-  pub layout-value : (t : Ty) → getElem? ts e ≡ some t → valueAt table e ≡ valueOf (valueAt table e .reference) t
-  layout-value t there = own-reference (typeEntryAt f e .reference) t (basis-layout basis e t there)
+  pub layout-value : (t : Ty) → getElem? ts e ≡ some t → valueAt table e ≡ valueOf (valueAt table e .stride) (valueAt table e .reference) t
+  layout-value t there = own-reference (memberLength f) (typeEntryAt f e .reference) t (basis-layout basis e t there)
 
   pub ready-at : (t : Ty) → getElem? ts e ≡ some t → isStorable t ≡ true → Ready ms table e (valueAt table e) t
   unfolding places
@@ -79,7 +79,7 @@ module _ {f : List ℕ} {ts : List Ty} {ms : List ℕ} {table : List (List ℕ)}
     pub storable : isStorable t ≡ true → isStorable (runtime u) ≡ true
 
   stride-is : {t u : Ty} {i : ℕ} → TailFound t i u → restFrom ms table (valueAt table e) .value .stride ≡ present (strideOf u)
-  unfolding valueOf partsOf
+  unfolding valueOf strideIn partsOf
   stride-is {u = u} {i = i} x =
       ap (λ (l : Value). l .stride) (x .layout-is ∙ basis-layout basis i (runtime u) (x .there))
 
@@ -138,8 +138,8 @@ module _ {f : List ℕ} {ts : List Ty} {ms : List ℕ} {table : List (List ℕ)}
   unfolding restFrom
   tail-last h = rw (ne-eqb (valueAt table e .kind) 10 h)
 
-  struct-numbers : (ns : Members) → getElem? ts e ≡ some (struct e ns) → (valueAt table e .stride ≡ 12) × (valueAt table e .count ≡ countOf ns) × (valueAt table e .reference ≡ typeEntryAt f e .reference)
-  unfolding valueOf partsOf present
+  struct-numbers : (ns : Members) → getElem? ts e ≡ some (struct e ns) → (valueAt table e .stride ≡ memberLength f) × (valueAt table e .count ≡ countOf ns) × (valueAt table e .reference ≡ typeEntryAt f e .reference)
+  unfolding valueOf strideIn partsOf present
   struct-numbers ns there =
       let is = basis-layout basis e (struct e ns) there in
       (ap (λ (l : Value). l .stride) is, ap (λ (l : Value). l .count) is, ap (λ (l : Value). l .reference) is)
@@ -177,7 +177,7 @@ module _ {f : List ℕ} {ts : List Ty} {ms : List ℕ} {table : List (List ℕ)}
       let numbers = struct-numbers ns there in
       let counted : countOf ns ≡ suc n = count-from f (take e ts) (suc n) (typeEntryAt f e .reference) ns are in
       let less : valueAt table e .count - 1 ≡ n = omega (arith, numbers) in
-      let placed : lastSlot ms table (valueAt table e) ≡ slotIn (memberBytes f) table 12 (typeEntryAt f e .reference * 12) 0 n =
+      let placed : lastSlot ms table (valueAt table e) ≡ slotIn (memberBytes f) table (memberLength f) (typeEntryAt f e .reference * memberLength f) 0 n =
       rw (basis .members-are, less, numbers .0, numbers .2) in
       let not-ten = struct-kind ns there in
       let found = tail-last not-ten in

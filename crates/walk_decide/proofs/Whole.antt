@@ -49,7 +49,7 @@ module _ {ms : List ℕ} {table : List (List ℕ)} {e : ℕ} {l : Value} {t : Ty
 
   -- Its layout counts its fixed words.
   pub ready-words : wordCount 0 t ≡ wordsIn l
-  ready-words = sym (ap wordsIn (r .layout-is) ∙ value-words (l .reference) t ∙ words-fixed t has-layout)
+  ready-words = sym (ap wordsIn (r .layout-is) ∙ value-words (l .stride) (l .reference) t ∙ words-fixed t has-layout)
 
   -- ---- a type of fixed size
 

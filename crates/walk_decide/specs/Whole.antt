@@ -30,7 +30,7 @@ pub record Covered (t : Ty) (n : ℕ) : Type 0 where
 
 -- entry e, of the storable type t and the value l
 pub record Ready (ms : List ℕ) (table : List (List ℕ)) (e : ℕ) (l : Value) (t : Ty) : Type 0 where
-  pub layout-is : l ≡ valueOf (l .reference) t
+  pub layout-is : l ≡ valueOf (l .stride) (l .reference) t
   pub well-formed : everywhere isWellFormed t ≡ true
   pub storable : isStorable t ≡ true
   pub counted : Counted l

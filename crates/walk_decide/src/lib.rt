@@ -29,7 +29,7 @@ pub enum Allowed {
 
 // 17 and 9, and 10 too for an entry that is to be stored: for an entry of the value `l` and a buffer of so many bytes.
 pub fn allow(l: Value, bytes: usize, stored: bool) -> Allowed
-    ensures { λ r. ⌜ ((t : Ty) → l ≡ valueOf (l .reference) t → everywhere isWellFormed t ≡ true → saidAllowed r ≡ allowed stored t bytes) ⌝ }
+    ensures { λ r. ⌜ ((t : Ty) → l ≡ valueOf (l .stride) (l .reference) t → everywhere isWellFormed t ≡ true → saidAllowed r ≡ allowed stored t bytes) ⌝ }
 {
     if LIMIT < bytes {
         return Allowed::Refused(Refusal::Long);

@@ -22,8 +22,9 @@ use Rattle.wgsl.proofs.Passed.{matrix-passed, runtime-passed}
 use Rattle.wgsl.proofs.Align.{width-power, vector-align}
 use Rattle.wgsl.proofs.Count.{matrix-word}
 use Rattle.wgsl.proofs.AtEntry.{Refers, to-none, to-vector, to-matrix, to-array, to-runtime, to-atomic, to-members}
+use Rattle.file.specs.Members.{memberLength}
 use Rattle.layout_values.specs.declared.value.Value.{Value}
-use Rattle.layout_values.specs.Value.{partsOf, valueOf, valueAt}
+use Rattle.layout_values.specs.Value.{partsOf, strideIn, valueOf, valueAt}
 use Rattle.wgsl.proofs.ScalarKind.{scalar-kind-is}
 use Rattle.walk_shapes.specs.Basis.{Basis}
 use Rattle.walk_shapes.proofs.Basis.{basis-inside, basis-layout, basis-well-formed, basis-refers}
@@ -109,7 +110,7 @@ module _ {f : List ℕ} {ts : List Ty} {ms : List ℕ} {table : List (List ℕ)}
     unfolding valueOf
     unit h = ap (λ (l : Value). l .unit) (basis-layout basis e t there) ∙ rw h
 
-    stride : valueAt table e .stride ≡ present (partsOf t .stride)
+    stride : valueAt table e .stride ≡ present (strideIn (memberLength f) t)
     unfolding valueOf
     stride = ap (λ (l : Value). l .stride) (basis-layout basis e t there)
 
@@ -156,7 +157,7 @@ module _ {f : List ℕ} {ts : List Ty} {ms : List ℕ} {table : List (List ℕ)}
 
   -- An entry with a layout is a scalar, an atomic, has parts, or is a struct.
   pub found : {t : Ty} → getElem? ts e ≡ some t → hasLayout t ≡ true → EntryFound ts table n e (shapeOf n t)
-  unfolding kindOf partsOf shapeOf column
+  unfolding kindOf strideIn partsOf shapeOf column
   found {t} there h = go (basis-refers basis e t there) there h
     where
       go : {t : Ty} → Refers f ts e (typeEntryAt f e) t → getElem? ts e ≡ some t → hasLayout t ≡ true → EntryFound ts table n e (shapeOf n t)

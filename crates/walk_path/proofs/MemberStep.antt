@@ -9,6 +9,7 @@ use mathlib.Core.List.{List}
 use mathlib.Core.Logic.{_⊎_, inl, inr, ⊎-elim}
 use mathlib.Core.Option.{Option, some, Option·some-injective}
 use mathlib.Core.Path.{_≡_, refl, ap, _∙_, sym}
+use native.Mathlib.Nat.{suc-mul}
 use native.Mathlib.Omega.{arith}
 use lib.ListN.{length, take, getElem?}
 use Rattle.wgsl.specs.Round.{limit}
@@ -16,7 +17,7 @@ use Rattle.wgsl.specs.Types.{Ty, scalar, vector, matrix, array, runtime, atomic
 use Rattle.wgsl.specs.Types as types
 use Rattle.wgsl.specs.Size.{isPresent, present, sizeOf, alignOf, hasLayout}
 use Rattle.wgsl.specs.Said.{good, refused}
-use Rattle.wgsl.specs.File.{trailerOf, memberEntryAt, givenSize, givenAlign, typeEntryAt, memberEntryLength}
+use Rattle.wgsl.specs.File.{trailerOf, memberEntryAt, givenSize, givenAlign, typeEntryAt}
 use Rattle.wgsl.specs.Rule.{isLast, countOf, membersFrom}
 use Rattle.wgsl.specs.Place.{Shape, field, extentOf, shapeOf, column, fieldsOf, spanOf}
 use Rattle.wgsl.specs.Path.{member, enter}
@@ -24,7 +25,7 @@ use Rattle.wgsl.proofs.Absent.{hold-both, some-present}
 use Rattle.wgsl.proofs.Said.{when-some, andThen-some}
 use Rattle.wgsl.proofs.Members.{member-has}
 use Rattle.wgsl.proofs.AtEntry.{Refers, to-none, to-vector, to-matrix, to-array, to-runtime, to-atomic, to-members}
-use Rattle.file.specs.Members.{memberBytes}
+use Rattle.file.specs.Members.{memberBytes, memberLength}
 use Rattle.layout_values.specs.declared.value.Value.{Value}
 use Rattle.layout_values.specs.Value.{valueAt}
 use Rattle.wgsl.proofs.ScalarKind.{no-scalar-kind}
@@ -53,7 +54,7 @@ pub record MemberFound (ts : List Ty) (ms : List ℕ) (table : List (List ℕ)) 
 module _ {f : List ℕ} {ts : List Ty} {ms : List ℕ} {table : List (List ℕ)} (basis : Basis f ts ms table) (n e : ℕ) where
   -- ---- a member that is there
 
-  first-found : {m lo : ℕ} {t : Ty} {others : Members} (z : ℕ) → Read f ts table e m t → Ruled (some lo) (types.member t (givenSize (memberEntryAt f m)) (givenAlign (memberEntryAt f m)) others) → MemberFound ts (memberBytes f) table n 12 (m * memberEntryLength 1) lo 0 (fieldsOf n z (some lo) (types.member t (givenSize (memberEntryAt f m)) (givenAlign (memberEntryAt f m)) others))
+  first-found : {m lo : ℕ} {t : Ty} {others : Members} (z : ℕ) → Read f ts table e m t → Ruled (some lo) (types.member t (givenSize (memberEntryAt f m)) (givenAlign (memberEntryAt f m)) others) → MemberFound ts (memberBytes f) table n (memberLength f) (m * memberLength f) lo 0 (fieldsOf n z (some lo) (types.member t (givenSize (memberEntryAt f m)) (givenAlign (memberEntryAt f m)) others))
   unfolding SlotsAsk slotIn slotAt hasLayout fieldsOf enter
   first-found {m} {lo} {t} {others} z r x =
       let v = first-ruled x in
@@ -68,11 +69,11 @@ module _ {f : List ℕ} {ts : List Ty} {ms : List ℕ} {table : List (List ℕ)}
         enters = λ j. rw (first-start r x);
       }
 
-  later-found : (m end : ℕ) {i : ℕ} {offset : ℕ} {y rest : Shape} → SlotAsks (memberBytes f) table (m * memberEntryLength 1) end → MemberFound ts (memberBytes f) table n 12 (suc m * memberEntryLength 1) (slotAt (memberBytes f) table (m * memberEntryLength 1) end .end) i rest → MemberFound ts (memberBytes f) table n 12 (m * memberEntryLength 1) end (suc i) (field offset y rest)
+  later-found : (m end : ℕ) {i : ℕ} {offset : ℕ} {y rest : Shape} → SlotAsks (memberBytes f) table (m * memberLength f) end → MemberFound ts (memberBytes f) table n (memberLength f) (suc m * memberLength f) (slotAt (memberBytes f) table (m * memberLength f) end .end) i rest → MemberFound ts (memberBytes f) table n (memberLength f) (m * memberLength f) end (suc i) (field offset y rest)
   unfolding SlotsAsk slotIn enter
   later-found m end {i} {rest = rest} p x =
-      let next : suc m * memberEntryLength 1 ≡ m * memberEntryLength 1 + 12 = omega arith in
-      let on : MemberFound ts (memberBytes f) table n 12 (m * memberEntryLength 1 + 12) (slotAt (memberBytes f) table (m * memberEntryLength 1) end .end) i rest = rw next at x in
+      let next : suc m * memberLength f ≡ m * memberLength f + memberLength f = suc-mul m (memberLength f) in
+      let on : MemberFound ts (memberBytes f) table n (memberLength f) (m * memberLength f + memberLength f) (slotAt (memberBytes f) table (m * memberLength f) end .end) i rest = rw next at x in
       record {
         slots-ask = (p, on .slots-ask);
         type = on .type;
@@ -83,7 +84,7 @@ module _ {f : List ℕ} {ts : List Ty} {ms : List ℕ} {table : List (List ℕ)}
       }
 
   -- one member, in front of those after it
-  more-found : (c m lo z i : ℕ) (t : Ty) (others : Members) → Read f ts table e m t → membersFrom f (take e ts) c (suc m) ≡ some others → Ruled (some lo) (types.member t (givenSize (memberEntryAt f m)) (givenAlign (memberEntryAt f m)) others) → i < suc c → ((lo′ i′ : ℕ) → Ruled (some lo′) others → i′ < c → MemberFound ts (memberBytes f) table n 12 (suc m * memberEntryLength 1) lo′ i′ (fieldsOf n z (some lo′) others)) → MemberFound ts (memberBytes f) table n 12 (m * memberEntryLength 1) lo i (fieldsOf n z (some lo) (types.member t (givenSize (memberEntryAt f m)) (givenAlign (memberEntryAt f m)) others))
+  more-found : (c m lo z i : ℕ) (t : Ty) (others : Members) → Read f ts table e m t → membersFrom f (take e ts) c (suc m) ≡ some others → Ruled (some lo) (types.member t (givenSize (memberEntryAt f m)) (givenAlign (memberEntryAt f m)) others) → i < suc c → ((lo′ i′ : ℕ) → Ruled (some lo′) others → i′ < c → MemberFound ts (memberBytes f) table n (memberLength f) (suc m * memberLength f) lo′ i′ (fieldsOf n z (some lo′) others)) → MemberFound ts (memberBytes f) table n (memberLength f) (m * memberLength f) lo i (fieldsOf n z (some lo) (types.member t (givenSize (memberEntryAt f m)) (givenAlign (memberEntryAt f m)) others))
   unfolding fieldsOf
   more-found c m lo z zero t others r are x h later = first-found z r x
   more-found c m lo z (suc i) t others r are x h later =
@@ -91,12 +92,12 @@ module _ {f : List ℕ} {ts : List Ty} {ms : List ℕ} {table : List (List ℕ)}
       (λ (p : isPresent (sizeOf t) ≡ true).
       let next = first-end r x p in
       later-found m lo (first-placeable r x)
-      (rw next (later (slotAt (memberBytes f) table (m * memberEntryLength 1) lo .end) i (rw next at (rest-ruled x)) (omega arith))))
+      (rw next (later (slotAt (memberBytes f) table (m * memberLength f) lo .end) i (rw next at (rest-ruled x)) (omega arith))))
       (λ (p : (isLast others ≡ true) × (isRuntime t ≡ true)).
       absurd (omega (arith, last-none f (take e ts) c (suc m) others are (p .0) .0)))
       (first-ruled x .sized-or-last)
 
-  found : (c m lo z i : ℕ) (members : Members) → membersFrom f (take e ts) c m ≡ some members → m + c ≤ trailerOf f .members → Ruled (some lo) members → i < c → MemberFound ts (memberBytes f) table n 12 (m * memberEntryLength 1) lo i (fieldsOf n z (some lo) members)
+  found : (c m lo z i : ℕ) (members : Members) → membersFrom f (take e ts) c m ≡ some members → m + c ≤ trailerOf f .members → Ruled (some lo) members → i < c → MemberFound ts (memberBytes f) table n (memberLength f) (m * memberLength f) lo i (fieldsOf n z (some lo) members)
   unfolding membersFrom
   found zero m lo z i members are within x h = absurd (omega arith)
   found (suc c) m lo z i members are within x h =

@@ -24,7 +24,7 @@ use Rattle.wgsl.proofs.Path.{target, target-inside}
 use Rattle.wgsl.proofs.Tail.{runtime-unsized, sized-takes}
 use Rattle.wgsl.proofs.Laid.{laid}
 use Rattle.layout_values.specs.declared.value.Value.{Value}
-use Rattle.layout_values.specs.Value.{partsOf, valueOf, valueAt}
+use Rattle.layout_values.specs.Value.{partsOf, strideIn, valueOf, valueAt}
 use Rattle.wgsl.proofs.ScalarKind.{no-scalar-kind}
 use Rattle.walk_shapes.specs.Basis.{Basis}
 use Rattle.walk_shapes.proofs.Basis.{basis-layout, basis-well-formed}
@@ -86,7 +86,7 @@ module _ {f : List ℕ} {ts : List Ty} {ms : List ℕ} {table : List (List ℕ)}
       ∙ sym (sized-takes n t (z .0) (basis-well-formed basis e t there) (z .1)))
 
   runtime-size : (n e : ℕ) (t : Ty) → getElem? ts e ≡ some t → isRuntime t ≡ true → sizeAt table n e ≡ spanOf (shapeOf n t)
-  unfolding sizeAt valueOf partsOf kindOf isRuntime shapeOf spanOf
+  unfolding sizeAt valueOf strideIn partsOf kindOf isRuntime shapeOf spanOf
   runtime-size n e (scalar s) there q = true-not-false q refl
   runtime-size n e (vector c s) there q = true-not-false q refl
   runtime-size n e (matrix c r s) there q = true-not-false q refl

@@ -12,6 +12,7 @@ use Rattle.wgsl.specs.File.{typeEntryAt}
 use Rattle.wgsl.specs.Rule.{isWellFormed}
 use Rattle.wgsl.proofs.Accepted.{accepted, accepted-well-formed}
 use Rattle.wgsl.proofs.AtEntry.{getElem-low, Refers, refers}
+use Rattle.file.specs.Members.{memberLength}
 use Rattle.layout_values.specs.Value.{valueAt, valueOf}
 use Rattle.layout_values.proofs.ValuesOf.{length-table, table-at}
 use Rattle.walk_shapes.specs.Basis.{Basis}
@@ -24,7 +25,7 @@ module _ {f : List ℕ} {ts : List Ty} {ms : List ℕ} {table : List (List ℕ)}
     pub basis-inside : e < length table
     basis-inside = rw (s .table-is, length-table f ts few) (omega (arith, getElem-low ts e there, few))
 
-    pub basis-layout : valueAt table e ≡ valueOf (typeEntryAt f e .reference) t
+    pub basis-layout : valueAt table e ≡ valueOf (memberLength f) (typeEntryAt f e .reference) t
     basis-layout = rw (s .table-is) (table-at f ts e t there)
 
     pub basis-well-formed : everywhere isWellFormed t ≡ true

@@ -8,17 +8,18 @@ use mathlib.Core.List.{List}
 use mathlib.Core.Logic.{⊎-elim}
 use mathlib.Core.Option.{Option, some, Option·some-injective}
 use mathlib.Core.Path.{_≡_, ap, _∙_}
+use native.Mathlib.Nat.{suc-mul}
 use native.Mathlib.Omega.{arith}
 use lib.ListN.{take, getElem?}
 use Rattle.wgsl.specs.Types.{Ty, runtime, Members, no-more, member, isRuntime, everywhere, everyMember}
 use Rattle.wgsl.specs.Size.{isPresent, present, sizeOf, alignOf, strideOf, memberStart}
-use Rattle.wgsl.specs.File.{trailerOf, memberEntryAt, givenSize, givenAlign, memberEntryLength}
+use Rattle.wgsl.specs.File.{trailerOf, memberEntryAt, givenSize, givenAlign}
 use Rattle.wgsl.specs.Rule.{isLast, membersFrom}
 use Rattle.wgsl.specs.Place.{Tail, tailAt, membersTail}
 use Rattle.wgsl.proofs.Absent.{both-hold}
 use Rattle.wgsl.proofs.Said.{when-some, andThen-some}
 use Rattle.wgsl.proofs.Opened.{lastOf}
-use Rattle.file.specs.Members.{memberBytes}
+use Rattle.file.specs.Members.{memberBytes, memberLength}
 use Rattle.walk_trees.specs.Slot.{slotAt, slotIn, SlotsAsk}
 use Rattle.walk_shapes.specs.Basis.{Basis}
 use Rattle.walk_shapes.proofs.MemberRead.{Ruled, first-ruled, rest-ruled, last-none, Read, read, first-placeable, first-start, first-end}
@@ -35,9 +36,9 @@ last-everywhere p before (member t size align ms) b h =
 
 -- member c of those from number m on, the last of ns, is a runtime array of elements of the type u
 pub record Last (f : List ℕ) (ts : List Ty) (table : List (List ℕ)) (c m lo : ℕ) (ns : Members) (u : Ty) : Type 0 where
-  pub slots-ask : SlotsAsk (memberBytes f) table 12 (m * memberEntryLength 1) lo c
-  pub there : getElem? ts (slotIn (memberBytes f) table 12 (m * memberEntryLength 1) lo c .ty) ≡ some (runtime u)
-  pub tail-is : (before : Option Tail) → membersTail before (some lo) ns ≡ some (record { offset = slotIn (memberBytes f) table 12 (m * memberEntryLength 1) lo c .start; stride = present (strideOf u) })
+  pub slots-ask : SlotsAsk (memberBytes f) table (memberLength f) (m * memberLength f) lo c
+  pub there : getElem? ts (slotIn (memberBytes f) table (memberLength f) (m * memberLength f) lo c .ty) ≡ some (runtime u)
+  pub tail-is : (before : Option Tail) → membersTail before (some lo) ns ≡ some (record { offset = slotIn (memberBytes f) table (memberLength f) (m * memberLength f) lo c .start; stride = present (strideOf u) })
 
 module _ {f : List ℕ} {ts : List Ty} {ms : List ℕ} {table : List (List ℕ)} (basis : Basis f ts ms table) (e : ℕ) where
   tail-at : (start : Option ℕ) (t u : Ty) (a : ℕ) → t ≡ runtime u → a ≡ present start → tailAt start t ≡ some (record { offset = a; stride = present (strideOf u) })
@@ -57,10 +58,10 @@ module _ {f : List ℕ} {ts : List Ty} {ms : List ℕ} {table : List (List ℕ)}
   last-more : (c m lo : ℕ) (t u : Ty) (ns : Members) → Read f ts table e m t → isPresent (sizeOf t) ≡ true → Ruled (some lo) (member t (givenSize (memberEntryAt f m)) (givenAlign (memberEntryAt f m)) ns) → ((lo′ : ℕ) → Ruled (some lo′) ns → Last f ts table c (suc m) lo′ ns u) → Last f ts table (suc c) m lo (member t (givenSize (memberEntryAt f m)) (givenAlign (memberEntryAt f m)) ns) u
   unfolding SlotsAsk slotIn membersTail
   last-more c m lo t u ns r sized x more =
-      let end : ℕ = slotAt (memberBytes f) table (m * memberEntryLength 1) lo .end in
+      let end : ℕ = slotAt (memberBytes f) table (m * memberLength f) lo .end in
       let next = first-end r x sized in
       let y = more end (rw next at (rest-ruled x)) in
-      let byte : suc m * memberEntryLength 1 ≡ m * memberEntryLength 1 + 12 = omega arith in
+      let byte : suc m * memberLength f ≡ m * memberLength f + memberLength f = suc-mul m (memberLength f) in
       record {
         slots-ask = (first-placeable r x, rw byte at (y .slots-ask));
         there = rw byte at (y .there);

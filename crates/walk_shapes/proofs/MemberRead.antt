@@ -8,7 +8,6 @@ use mathlib.Core.Bool.{true}
 use mathlib.Core.List.{List, _∷_}
 use mathlib.Core.Option.{Option, none, some, Option·some-injective}
 use mathlib.Core.Path.{_≡_, refl, sym, ap, _∙_}
-use native.Mathlib.Omega.{arith}
 use borrow.Author.Tests.{leb-true}
 use lib.Dec.{leb}
 use lib.ListN.{length, take, getElem?}
@@ -16,7 +15,7 @@ use Rattle.layout_members.specs.Given.{orOwn}
 use Rattle.wgsl.specs.Round.{up, limit, withinLimit}
 use Rattle.wgsl.specs.Types.{Ty, struct, Members, no-more, member, everywhere, everyMember}
 use Rattle.wgsl.specs.Size.{both, isPresent, present, givenOr, startAfter, endAfter, sizeOf, alignOf, minSizeOf, offsetsOf, innerNumbersOf, numbersOf, withinLimits, fitsLimit, memberStart, memberEnd}
-use Rattle.wgsl.specs.File.{trailerOf, MemberEntry, memberEntryAt, givenSize, givenAlign, typeEntryAt, memberEntryLength, memberFieldsLength}
+use Rattle.wgsl.specs.File.{trailerOf, MemberEntry, memberEntryAt, givenSize, givenAlign, typeEntryAt, memberFieldsLength}
 use Rattle.wgsl.specs.Rule.{isLast, lower, countOf, membersFrom, membersAllowed, isWellFormed, membersGivenFit}
 use Rattle.wgsl.proofs.Absent.{both-hold, true-not-false, some-present, present-is, present-some, given-present}
 use Rattle.wgsl.proofs.Said.{when-some, andThen-some}
@@ -24,7 +23,7 @@ use Rattle.wgsl.proofs.Passed.{passed, struct-passed}
 use Rattle.wgsl.proofs.Align.{align-power, member-aligned}
 use Rattle.wgsl.proofs.Members.{Member, first-member, start-is}
 use Rattle.wgsl.proofs.AtEntry.{getElem-first}
-use Rattle.file.specs.Members.{memberBytes}
+use Rattle.file.specs.Members.{memberBytes, memberLength}
 use Rattle.layout_values.specs.declared.value.Value.{Value}
 use Rattle.layout_values.specs.Value.{valueOf}
 use Rattle.layout_values.proofs.WordsIn.{value-words}
@@ -32,7 +31,7 @@ use Rattle.walk_trees.specs.Slot.{Counted, memberAt, memberValue, memberAlign, 
 use Rattle.walk_shapes.specs.Basis.{Basis}
 use Rattle.walk_shapes.proofs.Basis.{basis-inside, basis-layout}
 use Rattle.walk_shapes.proofs.Counted.{fixed-counted}
-use Rattle.walk_shapes.proofs.MemberBytes.{length-memberBytes, memberBytes-at}
+use Rattle.walk_shapes.proofs.MemberBytes.{length-memberBytes, memberBytes-at, member-inside}
 
 -- ---- what the rules say of members, where the one before them ended at `end`
 
@@ -112,24 +111,24 @@ or-own given own n e = rw e
 
 -- member m of a struct with the entry e has the type t
 pub record Read (f : List ℕ) (ts : List Ty) (table : List (List ℕ)) (e m : ℕ) (t : Ty) : Type 0 where
-  pub entry-is : memberAt (memberBytes f) (m * memberEntryLength 1) ≡ memberEntryAt f m
-  pub inside : m * memberEntryLength 1 + memberFieldsLength ≤ length (memberBytes f)
-  pub lower-is : memberAt (memberBytes f) (m * memberEntryLength 1) .type < e
-  pub there : getElem? ts (memberAt (memberBytes f) (m * memberEntryLength 1) .type) ≡ some t
-  pub type-inside : memberAt (memberBytes f) (m * memberEntryLength 1) .type < length table
-  pub layout-is : memberValue (memberBytes f) table (m * memberEntryLength 1) ≡ valueOf (typeEntryAt f (memberAt (memberBytes f) (m * memberEntryLength 1) .type) .reference) t
+  pub entry-is : memberAt (memberBytes f) (m * memberLength f) ≡ memberEntryAt f m
+  pub inside : m * memberLength f + memberFieldsLength ≤ length (memberBytes f)
+  pub lower-is : memberAt (memberBytes f) (m * memberLength f) .type < e
+  pub there : getElem? ts (memberAt (memberBytes f) (m * memberLength f) .type) ≡ some t
+  pub type-inside : memberAt (memberBytes f) (m * memberLength f) .type < length table
+  pub layout-is : memberValue (memberBytes f) table (m * memberLength f) ≡ valueOf (memberLength f) (typeEntryAt f (memberAt (memberBytes f) (m * memberLength f) .type) .reference) t
 
 pub read : {f : List ℕ} {ts : List Ty} {ms : List ℕ} {table : List (List ℕ)} → Basis f ts ms table → {e : ℕ} (m : ℕ) (t : Ty) → m < trailerOf f .members → lower (take e ts) (memberEntryAt f m .type) ≡ some t → Read f ts table e m t
 unfolding lower
 read {f} {ts} basis {e} m t h is =
     let same = memberBytes-at f m h in
     let found = getElem-first e ts (memberEntryAt f m .type) is in
-    let type : memberAt (memberBytes f) (m * memberEntryLength 1) .type ≡ memberEntryAt f m .type = ap (λ (x : MemberEntry). x .type) same in
-    let down : memberAt (memberBytes f) (m * memberEntryLength 1) .type < e = rw type (found .0) in
-    let there : getElem? ts (memberAt (memberBytes f) (m * memberEntryLength 1) .type) ≡ some t = rw type (found .1) in
+    let type : memberAt (memberBytes f) (m * memberLength f) .type ≡ memberEntryAt f m .type = ap (λ (x : MemberEntry). x .type) same in
+    let down : memberAt (memberBytes f) (m * memberLength f) .type < e = rw type (found .0) in
+    let there : getElem? ts (memberAt (memberBytes f) (m * memberLength f) .type) ≡ some t = rw type (found .1) in
     record {
       entry-is = same;
-      inside = omega (arith, length-memberBytes f ts (basis .good-file));
+      inside = rw (length-memberBytes f ts (basis .good-file)) (member-inside f m h);
       lower-is = down;
       there = there;
       type-inside = basis-inside basis _ t there;
@@ -139,32 +138,32 @@ read {f} {ts} basis {e} m t h is =
 -- ---- its alignment, size and place
 
 module _ {f : List ℕ} {ts : List Ty} {table : List (List ℕ)} {e m : ℕ} {t : Ty} (r : Read f ts table e m t) where
-  align-is : (own a : ℕ) → alignOf t ≡ some own → givenOr (givenAlign (memberEntryAt f m)) (alignOf t) ≡ some a → memberAlign (memberBytes f) table (m * memberEntryLength 1) ≡ a
+  align-is : (own a : ℕ) → alignOf t ≡ some own → givenOr (givenAlign (memberEntryAt f m)) (alignOf t) ≡ some a → memberAlign (memberBytes f) table (m * memberLength f) ≡ a
   unfolding valueOf
   align-is own a h is =
-      ap (λ (q : Value). orOwn (givenAlign (memberAt (memberBytes f) (m * memberEntryLength 1))) (q .align)) (r .layout-is)
+      ap (λ (q : Value). orOwn (givenAlign (memberAt (memberBytes f) (m * memberLength f))) (q .align)) (r .layout-is)
       ∙ ap (λ (x : MemberEntry). orOwn (givenAlign x) (present (alignOf t))) (r .entry-is)
       ∙ or-own (givenAlign (memberEntryAt f m)) (alignOf t) own h ∙ ap present is ∙ present-is a
 
-  size-is : (own a : ℕ) → sizeOf t ≡ some own → givenOr (givenSize (memberEntryAt f m)) (sizeOf t) ≡ some a → memberSize (memberBytes f) table (m * memberEntryLength 1) ≡ a
+  size-is : (own a : ℕ) → sizeOf t ≡ some own → givenOr (givenSize (memberEntryAt f m)) (sizeOf t) ≡ some a → memberSize (memberBytes f) table (m * memberLength f) ≡ a
   unfolding valueOf
   size-is own a h is =
-      ap (λ (q : Value). orOwn (givenSize (memberAt (memberBytes f) (m * memberEntryLength 1))) (q .size)) (r .layout-is)
+      ap (λ (q : Value). orOwn (givenSize (memberAt (memberBytes f) (m * memberLength f))) (q .size)) (r .layout-is)
       ∙ ap (λ (x : MemberEntry). orOwn (givenSize x) (present (sizeOf t))) (r .entry-is)
       ∙ or-own (givenSize (memberEntryAt f m)) (sizeOf t) own h ∙ ap present is ∙ present-is a
 
   module _ {lo : ℕ} {ms : Members} (x : Ruled (some lo) (member t (givenSize (memberEntryAt f m)) (givenAlign (memberEntryAt f m)) ms)) where
-    aligned : (a : ℕ) × (givenOr (givenAlign (memberEntryAt f m)) (alignOf t) ≡ some a) × (memberAlign (memberBytes f) table (m * memberEntryLength 1) ≡ a)
+    aligned : (a : ℕ) × (givenOr (givenAlign (memberEntryAt f m)) (alignOf t) ≡ some a) × (memberAlign (memberBytes f) table (m * memberLength f) ≡ a)
     aligned =
         let v = first-ruled x in
         let a = given-present (givenAlign (memberEntryAt f m)) (alignOf t) (some-present (v .own-is)) in
         (a .0, a .1, align-is (v .own) (a .0) (v .own-is) (a .1))
 
     -- The words of a member's type are within the limit.
-    member-counted : Counted (memberValue (memberBytes f) table (m * memberEntryLength 1))
-    member-counted = rw (r .layout-is, value-words _ t) (fixed-counted t (first-ruled x .well))
+    member-counted : Counted (memberValue (memberBytes f) table (m * memberLength f))
+    member-counted = rw (r .layout-is, value-words _ _ t) (fixed-counted t (first-ruled x .well))
 
-    pub first-placeable : SlotAsks (memberBytes f) table (m * memberEntryLength 1) lo
+    pub first-placeable : SlotAsks (memberBytes f) table (m * memberLength f) lo
     first-placeable =
         let v = first-ruled x in
         let (a, is, al) = aligned in
@@ -172,7 +171,7 @@ module _ {f : List ℕ} {ts : List Ty} {table : List (List ℕ)} {e m : ℕ} {t 
         record { inside = r .inside; type-inside = r .type-inside; counted = member-counted; power = rw al (p .is-power); low = rw al (start-within x is) }
 
     -- It starts where the rules say,
-    pub first-start : slotAt (memberBytes f) table (m * memberEntryLength 1) lo .start ≡ present (memberStart (some lo) (givenAlign (memberEntryAt f m)) (alignOf t))
+    pub first-start : slotAt (memberBytes f) table (m * memberLength f) lo .start ≡ present (memberStart (some lo) (givenAlign (memberEntryAt f m)) (alignOf t))
     unfolding slotAt memberStart
     first-start =
         let (a, is, al) = aligned in
@@ -180,7 +179,7 @@ module _ {f : List ℕ} {ts : List Ty} {table : List (List ℕ)} {e m : ℕ} {t 
         ap (λ (n : ℕ). up n lo) al ∙ sym (ap present start ∙ present-is (up a lo))
 
     -- and ends there, if it has a size.
-    pub first-end : isPresent (sizeOf t) ≡ true → memberEnd (some lo) (givenAlign (memberEntryAt f m)) (alignOf t) (givenSize (memberEntryAt f m)) (sizeOf t) ≡ some (slotAt (memberBytes f) table (m * memberEntryLength 1) lo .end)
+    pub first-end : isPresent (sizeOf t) ≡ true → memberEnd (some lo) (givenAlign (memberEntryAt f m)) (alignOf t) (givenSize (memberEntryAt f m)) (sizeOf t) ≡ some (slotAt (memberBytes f) table (m * memberLength f) lo .end)
     unfolding slotAt memberEnd endAfter startAfter both
     first-end q =
         let (a, is, al) = aligned in

@@ -12,6 +12,7 @@ use lib.ListN.{getElem?}
 use Rattle.wgsl.specs.Types.{Ty, scalar, vector, matrix, array, runtime, atomic, struct, kindOf}
 use Rattle.wgsl.specs.File.{TypeEntry, typeEntryAt}
 use Rattle.wgsl.proofs.AtEntry.{Refers, to-none, to-vector, to-matrix, to-array, to-runtime, to-atomic, to-members}
+use Rattle.file.specs.Members.{memberLength}
 use Rattle.layout_values.specs.Value.{valueOf, wordsIn, valueAt}
 use Rattle.wgsl.proofs.ScalarKind.{no-scalar-kind}
 use Rattle.layout_values.proofs.WordsIn.{value-words}
@@ -48,18 +49,18 @@ module _ {f : List ℕ} {ts : List Ty} {ms : List ℕ} {table : List (List ℕ)}
   -- The words of an entry's value are within the limit.
   pub element-counted : (r : ℕ) (u : Ty) → getElem? ts r ≡ some u → wordsIn (valueAt table r) ≤ 4294967295
   element-counted r u there =
-      rw (basis-layout basis r u there, value-words (typeEntryAt f r .reference) u) (fixed-counted u (basis-well-formed basis r u there))
+      rw (basis-layout basis r u there, value-words (memberLength f) (typeEntryAt f r .reference) u) (fixed-counted u (basis-well-formed basis r u there))
 
   -- What a value refers to is there.
-  pub value-referring : (e r : ℕ) (t : Ty) → Over ts e r t → Referring table (valueOf r t)
+  pub value-referring : (long e r : ℕ) (t : Ty) → Over ts e r t → Referring table (valueOf long r t)
   unfolding Over valueOf kindOf
-  value-referring e r (scalar s) o =
+  value-referring long e r (scalar s) o =
       record { inside = λ h g. absurd (no-scalar-kind s _ (omega arith) (omega arith) refl); counted = λ h g. absurd (no-scalar-kind s _ (omega arith) (omega arith) refl) }
-  value-referring e r (vector n s) o = record { inside = λ h g. absurd (omega arith); counted = λ h g. absurd (omega arith) }
-  value-referring e r (matrix c m s) o = record { inside = λ h g. absurd (omega arith); counted = λ h g. absurd (omega arith) }
-  value-referring e r (array n u) o =
+  value-referring long e r (vector n s) o = record { inside = λ h g. absurd (omega arith); counted = λ h g. absurd (omega arith) }
+  value-referring long e r (matrix c m s) o = record { inside = λ h g. absurd (omega arith); counted = λ h g. absurd (omega arith) }
+  value-referring long e r (array n u) o =
       record { inside = λ h g. basis-inside basis r u (o .1); counted = λ h g. element-counted r u (o .1) }
-  value-referring e r (runtime u) o =
+  value-referring long e r (runtime u) o =
       record { inside = λ h g. basis-inside basis r u (o .1); counted = λ h g. element-counted r u (o .1) }
-  value-referring e r (atomic s) o = record { inside = λ h g. absurd (omega arith); counted = λ h g. absurd (omega arith) }
-  value-referring e r (struct k ns) o = record { inside = λ h g. absurd (omega arith); counted = λ h g. absurd (omega arith) }
+  value-referring long e r (atomic s) o = record { inside = λ h g. absurd (omega arith); counted = λ h g. absurd (omega arith) }
+  value-referring long e r (struct k ns) o = record { inside = λ h g. absurd (omega arith); counted = λ h g. absurd (omega arith) }

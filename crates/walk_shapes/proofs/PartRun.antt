@@ -39,9 +39,9 @@ use Rattle.walk_shapes.proofs.Kept.{Kept, kept-words, kept-laid, array-
 unfoldable pub packedOf : Ty → ℕ
 packedOf t = cond (eqb (present (sizeOf t)) 0) 0 (touching (present (sizeOf t)) (fixedWords t) (narrowOf t))
 
-pub packed-value : (r : ℕ) (t : Ty) → packedAs (valueOf r t) ≡ packedOf t
+pub packed-value : (long r : ℕ) (t : Ty) → packedAs (valueOf long r t) ≡ packedOf t
 unfolding packedAs packedOf valueOf
-packed-value r t = ap (λ (n : ℕ). cond (eqb (present (sizeOf t)) 0) 0 (touching (present (sizeOf t)) n (narrowOf t))) (value-words r t)
+packed-value long r t = ap (λ (n : ℕ). cond (eqb (present (sizeOf t)) 0) 0 (touching (present (sizeOf t)) n (narrowOf t))) (value-words long r t)
 
 record Packed (t : Ty) : Type 0 where
   width-is : packedOf t ≡ narrowOf t

@@ -16,6 +16,7 @@ use Rattle.wgsl.specs.Size.{present, strideOf, isStorable}
 use Rattle.wgsl.specs.File.{typeEntryAt}
 use Rattle.wgsl.specs.Place.{extentOf, shapeOf, placesOf}
 use Rattle.runs.specs.Run.{runPlaces}
+use Rattle.file.specs.Members.{memberLength}
 use Rattle.layout_values.specs.Value.{narrowOf, fixedWords, partsOf, valueOf, valueAt}
 use Rattle.wgsl.proofs.ScalarKind.{no-scalar-kind}
 use Rattle.walk_trees.specs.Slot.{partWidth, touching, runAt, RunAsks}
@@ -31,7 +32,7 @@ module _ {f : List ℕ} {ts : List Ty} {ms : List ℕ} {table : List (List ℕ)}
   packed-run : (e : ℕ) (t : Ty) → getElem? ts e ≡ some t → (kindOf t ≡ 10 → ⊥) → runAt table e ≡ packedOf t
   unfolding runAt valueOf
   packed-run e t there h =
-      rw (basis-layout basis e t there, ne-eqb (kindOf t) 10 h) (packed-value (typeEntryAt f e .reference) t)
+      rw (basis-layout basis e t there, ne-eqb (kindOf t) 10 h) (packed-value (memberLength f) (typeEntryAt f e .reference) t)
 
   run-ten : (e : ℕ) → valueAt table e .kind ≡ 10 → runAt table e ≡ touching (valueAt table e .stride) (valueAt table e .unit) (partWidth table (valueAt table e))
   unfolding runAt
@@ -74,5 +75,5 @@ module _ {f : List ℕ} {ts : List Ty} {ms : List ℕ} {table : List (List ℕ)}
       record {
         inside = basis-inside basis e t there;
         counted = element-counted basis e t there;
-        referring = rw (basis-layout basis e t there) (value-referring basis e (typeEntryAt f e .reference) t (over-at basis e t there));
+        referring = rw (basis-layout basis e t there) (value-referring basis (memberLength f) e (typeEntryAt f e .reference) t (over-at basis e t there));
       }

@@ -14,12 +14,12 @@ use borrow.Author.Tests.{lt-ltb, le-ltb}
 use lib.ListN.{getElem?}
 use Rattle.wgsl.specs.Types.{Ty, scalar, vector, matrix, array, runtime, atomic, struct, Members, scalarKind, kindOf, structKind}
 use Rattle.wgsl.specs.Size.{present, strideOf, isStorable}
-use Rattle.wgsl.specs.File.{typeEntryAt, memberEntryLength}
+use Rattle.wgsl.specs.File.{typeEntryAt}
 use Rattle.wgsl.specs.Rule.{countOf}
 use Rattle.wgsl.specs.Place.{parts, shapeOf}
-use Rattle.file.specs.Members.{memberBytes}
+use Rattle.file.specs.Members.{memberBytes, memberLength}
 use Rattle.layout_values.specs.declared.value.Value.{Value}
-use Rattle.layout_values.specs.Value.{narrowOf, fixedWords, partsOf, valueOf, valueAt}
+use Rattle.layout_values.specs.Value.{narrowOf, fixedWords, partsOf, strideIn, valueOf, valueAt}
 use Rattle.wgsl.proofs.ScalarKind.{scalar-range, scalar-kind-is}
 use Rattle.walk_trees.specs.Slot.{packedAs, partWidth, Referring}
 use Rattle.walk_trees.specs.Tree.{Runs, Many, runs, each, Tree}
@@ -41,21 +41,21 @@ module _ {f : List ℕ} {ts : List Ty} {ms : List ℕ} {table : List (List ℕ)}
     pub count-is : l .count ≡ partsIn n t
 
   element-packed : (r : ℕ) (u : Ty) → getElem? ts r ≡ some u → packedAs (valueAt table r) ≡ packedOf u
-  element-packed r u there = rw (basis-layout basis r u there) (packed-value (typeEntryAt f r .reference) u)
+  element-packed r u there = rw (basis-layout basis r u there) (packed-value (memberLength f) (typeEntryAt f r .reference) u)
 
-  value-width : (e r : ℕ) (t : Ty) → Over ts e r t → (kindOf t ≡ structKind → ⊥) → partWidth table (valueOf r t) ≡ partRun t
+  value-width : (long e r : ℕ) (t : Ty) → Over ts e r t → (kindOf t ≡ structKind → ⊥) → partWidth table (valueOf long r t) ≡ partRun t
   unfolding Over partWidth valueOf kindOf partRun narrowOf
-  value-width e r (scalar s) o h =
+  value-width long e r (scalar s) o h =
       ⊎-elim (λ (low : scalarKind s ≤ 6). rw (lt-ltb (scalarKind s) 9 (omega arith)))
       (λ (high : (13 ≤ scalarKind s) × (scalarKind s ≤ 15)).
       rw (le-ltb (scalarKind s) 9 (omega (arith, high .0)), lt-ltb 10 (scalarKind s) (omega (arith, high .0))))
       (scalar-range (scalarKind s) (scalar-kind-is s))
-  value-width e r (vector n s) o h = refl
-  value-width e r (matrix c m s) o h = refl
-  value-width e r (array n u) o h = element-packed r u (o .1)
-  value-width e r (runtime u) o h = element-packed r u (o .1)
-  value-width e r (atomic s) o h = refl
-  value-width e r (struct k ns) o h = absurd (h refl)
+  value-width long e r (vector n s) o h = refl
+  value-width long e r (matrix c m s) o h = refl
+  value-width long e r (array n u) o h = element-packed r u (o .1)
+  value-width long e r (runtime u) o h = element-packed r u (o .1)
+  value-width long e r (atomic s) o h = refl
+  value-width long e r (struct k ns) o h = absurd (h refl)
 
   parts-count : (t : Ty) → (kindOf t ≡ structKind → ⊥) → partsOf t .count ≡ partsIn 0 t
   unfolding partsOf partsIn kindOf
@@ -67,15 +67,26 @@ module _ {f : List ℕ} {ts : List Ty} {ms : List ℕ} {table : List (List ℕ)}
   parts-count (atomic s) h = refl
   parts-count (struct k ns) h = absurd (h refl)
 
-  value-says : (e r : ℕ) (t : Ty) → Over ts e r t → (kindOf t ≡ structKind → ⊥) → Kept t → Says (valueOf r t) 0 t
+  -- what is no struct has the stride of its parts
+  parts-stride : (long : ℕ) (t : Ty) → (kindOf t ≡ structKind → ⊥) → strideIn long t ≡ partsOf t .stride
+  unfolding strideIn kindOf
+  parts-stride long (scalar s) h = refl
+  parts-stride long (vector n s) h = refl
+  parts-stride long (matrix c m s) h = refl
+  parts-stride long (array n u) h = refl
+  parts-stride long (runtime u) h = refl
+  parts-stride long (atomic s) h = refl
+  parts-stride long (struct k ns) h = absurd (h refl)
+
+  value-says : (long e r : ℕ) (t : Ty) → Over ts e r t → (kindOf t ≡ structKind → ⊥) → Kept t → Says (valueOf long r t) 0 t
   unfolding valueOf
-  value-says e r t o h k =
+  value-says long e r t o h k =
       record {
-        referring = value-referring basis e r t o;
-        width-is = value-width e r t o h;
+        referring = value-referring basis long e r t o;
+        width-is = value-width long e r t o h;
         narrow-is = refl;
         unit-is = rw (kept-layout k);
-        stride-is = refl;
+        stride-is = ap present (parts-stride long t h);
         count-is = parts-count t h;
       }
 
@@ -90,8 +101,8 @@ module _ {f : List ℕ} {ts : List Ty} {ms : List ℕ} {table : List (List ℕ)}
   reference-is e t there = ap (λ (l : Value). l .reference) (basis-layout basis e t there)
 
   -- says of a struct how long its member entries are, how many, and which is the first,
-  pub struct-says : (e : ℕ) {members : Members} → getElem? ts e ≡ some (struct e members) → (valueAt table e .stride ≡ memberEntryLength 1) × (valueAt table e .count ≡ countOf members) × (valueAt table e .reference ≡ typeEntryAt f e .reference)
-  unfolding valueOf partsOf present
+  pub struct-says : (e : ℕ) {members : Members} → getElem? ts e ≡ some (struct e members) → (valueAt table e .stride ≡ memberLength f) × (valueAt table e .count ≡ countOf members) × (valueAt table e .reference ≡ typeEntryAt f e .reference)
+  unfolding valueOf strideIn partsOf present
   struct-says e {members} there =
       let l = basis-layout basis e (struct e members) there in
       (ap (λ (v : Value). v .stride) l, ap (λ (v : Value). v .count) l, ap (λ (v : Value). v .reference) l)
@@ -99,7 +110,7 @@ module _ {f : List ℕ} {ts : List Ty} {ms : List ℕ} {table : List (List ℕ)}
   -- and says the parts of its type, unless that is a struct.
   pub says-at : (e : ℕ) (t : Ty) → getElem? ts e ≡ some t → (kindOf t ≡ structKind → ⊥) → Kept t → Says (valueAt table e) 0 t
   says-at e t there plain x =
-      rw (basis-layout basis e t there) (value-says e (typeEntryAt f e .reference) t (over-at basis e t there) plain x)
+      rw (basis-layout basis e t there) (value-says (memberLength f) e (typeEntryAt f e .reference) t (over-at basis e t there) plain x)
 
   -- parts that are runs
   pub runs-say : {l : Value} {n : ℕ} {t : Ty} → Says l n t → Kept t → 0 < partRun t → Runs table l (shapeOf n t)

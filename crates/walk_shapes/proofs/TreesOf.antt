@@ -18,9 +18,9 @@ use Rattle.wgsl.specs.Rule.{countOf}
 use Rattle.wgsl.specs.Place.{parts, extentOf, shapeOf, spanOf}
 use Rattle.wgsl.proofs.AtEntry.{Refers, to-none, to-vector, to-matrix, to-array, to-runtime, to-atomic, to-members}
 use Rattle.runs.specs.Run.{runPlaces}
-use Rattle.file.specs.Members.{memberBytes}
+use Rattle.file.specs.Members.{memberBytes, memberLength}
 use Rattle.layout_values.specs.declared.value.Value.{Value}
-use Rattle.layout_values.specs.Value.{narrowOf, fixedWords, partsOf, valueOf, wordsIn, valueAt}
+use Rattle.layout_values.specs.Value.{narrowOf, fixedWords, partsOf, strideIn, valueOf, wordsIn, valueAt}
 use Rattle.wgsl.proofs.ScalarKind.{no-scalar-kind}
 use Rattle.layout_values.proofs.WordsIn.{value-words}
 use Rattle.walk_trees.specs.Slot.{packedAs, partWidth, withCount}
@@ -43,9 +43,9 @@ module _ {f : List ℕ} {ts : List Ty} {ms : List ℕ} {table : List (List ℕ)}
   unfolding valueOf
   valued e t there x =
       let r = typeEntryAt f e .reference in
-      let layout : valueAt table e ≡ valueOf r t = basis-layout basis e t there in
-      let count : wordsIn (valueAt table e) ≡ fixedWords t = rw layout (value-words r t) in
-      let packed : packedAs (valueAt table e) ≡ packedOf t = rw layout (packed-value r t) in
+      let layout : valueAt table e ≡ valueOf (memberLength f) r t = basis-layout basis e t there in
+      let count : wordsIn (valueAt table e) ≡ fixedWords t = rw layout (value-words (memberLength f) r t) in
+      let packed : packedAs (valueAt table e) ≡ packedOf t = rw layout (packed-value (memberLength f) r t) in
       record {
         inside = basis-inside basis e t there;
         words-are = sym (count ∙ kept-words x);
@@ -86,8 +86,8 @@ module _ {f : List ℕ} {ts : List Ty} {ms : List ℕ} {table : List (List ℕ)}
     scalar-positive t x q =
         ⊎-elim (λ (h : narrowOf t ≡ 2). omega arith) (λ (h : narrowOf t ≡ 4). omega arith) (narrow-width t (x .plain))
 
-    struct-stride : (j : ℕ) (ns : Members) → getElem? ts e ≡ some (struct j ns) → valueAt table e .stride ≡ 12
-    unfolding valueOf partsOf present
+    struct-stride : (j : ℕ) (ns : Members) → getElem? ts e ≡ some (struct j ns) → valueAt table e .stride ≡ memberLength f
+    unfolding valueOf strideIn present
     struct-stride j ns there = ap (λ (l : Value). l .stride) (basis-layout basis e (struct j ns) there)
 
     struct-count : (j : ℕ) (ns : Members) → getElem? ts e ≡ some (struct j ns) → valueAt table e .count ≡ countOf ns

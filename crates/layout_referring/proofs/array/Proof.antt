@@ -17,27 +17,27 @@ free : (c : tie.Else1) → let e = c .before .before .args .e in unused (e .colu
 free c = granted (unused-two _ _ (c .before .zeros .ensures)) (c .if1 .left)
 
 -- the element is not open
-closed : (c : tie.Else3) (t : Ty) → let l = c .before .before .before .before .before .args .l in l ≡ valueOf (l .reference) t → everywhere isWellFormed t ≡ true → isOpen t ≡ false
+closed : (c : tie.Else3) (t : Ty) → let l = c .before .before .before .before .before .args .l in l ≡ valueOf (l .stride) (l .reference) t → everywhere isWellFormed t ≡ true → isOpen t ≡ false
 closed c t is w = sym (c .before .opens .ensures t is w) ∙ c .if3 .left
 
 returns : tie.Need-returns
-returns c t is w =
-    sym (array-used _ t (denied (unused-two _ _ (c .before .zeros .ensures)) (c .if1 .taken)))
+returns c long t is w =
+    sym (array-used _ t long (denied (unused-two _ _ (c .before .zeros .ensures)) (c .if1 .taken)))
 
 returns-2 : tie.Need-returns-2
-returns-2 c t is w = sym (array-empty _ t (free (c .before)) (omega arith))
+returns-2 c long t is w = sym (array-empty _ t long (free (c .before)) (omega arith))
 
 returns-3 : tie.Need-returns-3
-returns-3 c t is w =
+returns-3 c long t is w =
     let o = c .before in
-    sym (array-open _ t (free (o .before .before)) (omega arith) (sym (o .opens .ensures t is w) ∙ c .if3 .taken))
+    sym (array-open _ t long (free (o .before .before)) (omega arith) (sym (o .opens .ensures t is w) ∙ c .if3 .taken))
 
 returns-4 : tie.Need-returns-4
-returns-4 c t is w =
+returns-4 c long t is w =
     let p = c .before .before in
     let s = p .before in
     let o = s .before in
-    sym (array-large _ t (free (o .before .before .before)) (omega arith) _ is w (closed o t is w) _
+    sym (array-large _ t long (free (o .before .before .before)) (omega arith) _ is w (closed o t is w) _
     (s .stride-of .ensures t is w) (sym (p .product .ensures) ∙ c .enum-told .given .1))
 
 words-of-requires : tie.Need-words-of-requires
@@ -47,13 +47,13 @@ words-of-requires c κs =
     array-words (k .type) _ (k .is) (k .well-formed) (closed o (k .type) (k .is) (k .well-formed))
 
 returns-5 : tie.Need-returns-5
-returns-5 c t is w =
+returns-5 c long t is w =
     let m = c .before .before in
     let p = m .before .before in
     let s = p .before in
     let o = s .before in
     rw (c .words-of .ensures)
-    (sym (array-laid _ t (free (o .before .before .before)) (omega arith) _ is w (closed o t is w) _
+    (sym (array-laid _ t long (free (o .before .before .before)) (omega arith) _ is w (closed o t is w) _
     (s .stride-of .ensures t is w) _ (sym (p .product .ensures) ∙ m .size .given .1)))
 
 pub array-spec : {M : Type 1} → statement M

@@ -8,18 +8,18 @@ use Rattle.layout_referring.proofs.atomic.Statement.{statement}
 use Rattle.layout_referring.proofs.atomic.Tie as tie
 
 returns : tie.Need-returns
-returns c t is = sym (atomic-used t _ is _ (denied (unused-three _ _ _ (c .before .zeros .ensures)) (c .if1 .taken)))
+returns c long t is = sym (atomic-used t _ is _ long (denied (unused-three _ _ _ (c .before .zeros .ensures)) (c .if1 .taken)))
 
 returns-2 : tie.Need-returns-2
-returns-2 c t is = sym (atomic-low t _ is _ (omega arith))
+returns-2 c long t is = sym (atomic-low t _ is _ long (omega arith))
 
 returns-3 : tie.Need-returns-3
-returns-3 c t is = sym (atomic-high t _ is _ (omega arith))
+returns-3 c long t is = sym (atomic-high t _ is _ long (omega arith))
 
 returns-4 : tie.Need-returns-4
-returns-4 c t is =
+returns-4 c long t is =
     let z = c .before .before in
-    sym (atomic-laid t _ is _ (granted (unused-three _ _ _ (z .before .zeros .ensures)) (z .if1 .left)) (omega arith)
+    sym (atomic-laid t _ is _ long (granted (unused-three _ _ _ (z .before .zeros .ensures)) (z .if1 .left)) (omega arith)
     (omega arith))
 
 pub atomic-spec : {M : Type 1} → statement M

@@ -28,10 +28,10 @@ returns-2 c = (
 )
 
 returns-3 : tie.Need-returns-3
-returns-3 c = (λ z. absurd (omega arith), λ l k ms e n. sym (closes-unfit _ k ms (is ms (c .enum-told .given .1) e)))
+returns-3 c = (λ z. absurd (omega arith), λ l k ms e n. sym (closes-unfit _ _ k ms (is ms (c .enum-told .given .1) e)))
 
 returns-4 : tie.Need-returns-4
-returns-4 c = (λ z. absurd (omega arith), λ l k ms e n. sym (closes-past _ k ms (is ms (c .enum-told2 .given .1) e)))
+returns-4 c = (λ z. absurd (omega arith), λ l k ms e n. sym (closes-past _ _ k ms (is ms (c .enum-told2 .given .1) e)))
 
 pub finish-spec : {M : Type 1} → statement M
 finish-spec =

@@ -14,7 +14,7 @@ returns-2 c =
     record {
       within = omega arith;
       named = λ l. absurd (omega arith);
-      empty = λ e z f ts k m. struct-used f ts k _ (denied (c .before .zeros .ensures) (c .if2 .taken));
+      empty = λ e z f ts k m. struct-used _ f ts k _ (denied (c .before .zeros .ensures) (c .if2 .taken));
     }
 
 returns-3 : tie.Need-returns-3
@@ -22,7 +22,7 @@ returns-3 c =
     record {
       within = omega arith;
       named = λ l. absurd (omega arith);
-      empty = λ e z f ts k m. struct-past f ts k _ (omega arith);
+      empty = λ e z f ts k m. struct-past _ f ts k _ (omega arith);
     }
 
 returns-4 : tie.Need-returns-4
@@ -38,7 +38,7 @@ returns-4 c =
             first-is = c .before .before .wide .ensures .0;
             count-is = c .before .wide2 .ensures .0;
           };
-      empty = λ e z f ts k m. struct-empty f ts k _ (omega arith);
+      empty = λ e z f ts k m. struct-empty _ f ts k _ (omega arith);
     }
 
 pub span-of-spec : {M : Type 1} → statement M

@@ -17,17 +17,17 @@ rest c = sym (c .before .rest-is-zero .ensures) ∙ not-false _ (c .if1 .left)
 
 allowed : (c : tie.Else2) (t : Ty) →
     let a = c .before .before .before .before .args in
-    a .l ≡ valueOf (a .l .reference) t → everywhere isWellFormed t ≡ true → memberAllowed (a .last) t ≡ true
+    a .l ≡ valueOf (a .l .stride) (a .l .reference) t → everywhere isWellFormed t ≡ true → memberAllowed (a .last) t ≡ true
 allowed c t is w = sym (c .before .is-allowed .ensures t is w) ∙ not-false _ (c .if2 .left)
 
 size-fits : (c : tie.Else3) (t : Ty) →
     let a = c .before .before .before .before .before .before .args in
-    a .l ≡ valueOf (a .l .reference) t → everywhere isWellFormed t ≡ true → givenSizeFits t (givenSize (memberIs (a .m))) ≡ true
+    a .l ≡ valueOf (a .l .stride) (a .l .reference) t → everywhere isWellFormed t ≡ true → givenSizeFits t (givenSize (memberIs (a .m))) ≡ true
 size-fits c t is w = sym (c .before .size-fits .ensures t is w) ∙ not-false _ (c .if3 .left)
 
 align-fits : (c : tie.Else4) (t : Ty) →
     let a = c .before .before .before .before .before .before .before .before .args in
-    a .l ≡ valueOf (a .l .reference) t → everywhere isWellFormed t ≡ true → givenAlignFits t (givenAlign (memberIs (a .m))) ≡ true
+    a .l ≡ valueOf (a .l .stride) (a .l .reference) t → everywhere isWellFormed t ≡ true → givenAlignFits t (givenAlign (memberIs (a .m))) ≡ true
 align-fits c t is w = sym (c .before .align-fits .ensures t is w) ∙ not-false _ (c .if4 .left)
 
 returns : tie.Need-returns

@@ -32,30 +32,30 @@ scalar-entry-requires-2 c κs = told (c .before .is-scalar .ensures) (c .if4 .ta
 returns : tie.Need-returns
 returns c ts u =
     let a = c .before .before .before .args in
-    entry-used (now (a .f)) ts (a .k) (a .e .reference) (u .entry-is)
+    entry-used (now (a .f)) ts (a .k) (a .long) (a .e .reference) (u .entry-is)
     (denied (unused-two _ _ (c .before .zeros .ensures)) (c .if1 .taken))
 
 returns-2 : tie.Need-returns-2
 returns-2 c ts u =
     let z = c .before .before .before in
     let a = z .before .before .before .args in
-    c .scalar-entry .ensures
-    ∙ entry-scalar (now (a .f)) ts (a .k) (a .e .reference) (u .entry-is) (zero-fields z) (low-scalar _ (c .before .if2 .taken))
+    c .scalar-entry .ensures (a .long)
+    ∙ entry-scalar (now (a .f)) ts (a .k) (a .long) (a .e .reference) (u .entry-is) (zero-fields z) (low-scalar _ (c .before .if2 .taken))
 
 returns-3 : tie.Need-returns-3
 returns-3 c ts u =
     let z = c .before .before .before .before .before in
     let a = z .before .before .before .args in
     c .struct-entry .ensures ts u
-    ∙ entry-struct (now (a .f)) ts (a .k) (a .e .reference) (u .entry-is) (zero-fields z) (c .before .if3 .taken)
+    ∙ entry-struct (now (a .f)) ts (a .k) (a .long) (a .e .reference) (u .entry-is) (zero-fields z) (c .before .if3 .taken)
 
 returns-4 : tie.Need-returns-4
 returns-4 c ts u =
     let s = c .before .before in
     let z = s .before .before .before .before .before in
     let a = z .before .before .before .args in
-    c .scalar-entry2 .ensures
-    ∙ entry-scalar (now (a .f)) ts (a .k) (a .e .reference) (u .entry-is) (zero-fields z) (told (s .is-scalar .ensures) (c .before .if4 .taken))
+    c .scalar-entry2 .ensures (a .long)
+    ∙ entry-scalar (now (a .f)) ts (a .k) (a .long) (a .e .reference) (u .entry-is) (zero-fields z) (told (s .is-scalar .ensures) (c .before .if4 .taken))
 
 returns-5 : tie.Need-returns-5
 returns-5 c ts u =
@@ -63,7 +63,7 @@ returns-5 c ts u =
     let s = w .before .before in
     let z = s .before .before .before .before .before in
     let a = z .before .before .before .args in
-    entry-missing (now (a .f)) ts (a .k) (a .e .reference) (u .entry-is) (zero-fields z) (told (s .is-scalar .ensures) (w .before .if4 .left))
+    entry-missing (now (a .f)) ts (a .k) (a .long) (a .e .reference) (u .entry-is) (zero-fields z) (told (s .is-scalar .ensures) (w .before .if4 .left))
     (s .before .if3 .left) (lower-past (now (a .f)) (now (a .table)) (a .k) ts (a .e .reference) (u .lower)
     (omega (arith, w .wide .ensures, c .if5 .taken)))
 
@@ -89,8 +89,8 @@ returns-6 c ts u =
     let z = s .before .before .before .before .before in
     let a = z .before .before .before .args in
     let r = below (l .before) ts (u .lower) in
-    c .over-entry .ensures (r .type) (rw (l .value-at .ensures) (r .layout)) (r .well-formed)
-    ∙ entry-over (now (a .f)) ts (a .k) (a .e .reference) (u .entry-is) (zero-fields z) (told (s .is-scalar .ensures) (w .before .if4 .left))
+    c .over-entry .ensures (a .long) (r .type) (rw (l .value-at .ensures) (r .layout)) (r .well-formed)
+    ∙ entry-over (now (a .f)) ts (a .k) (a .long) (a .e .reference) (u .entry-is) (zero-fields z) (told (s .is-scalar .ensures) (w .before .if4 .left))
     (s .before .if3 .left) (r .type) (w .wide .ensures .0) (r .is)
 
 pub entry-made-spec : {M : Type 1} → statement M

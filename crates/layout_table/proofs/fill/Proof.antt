@@ -7,6 +7,7 @@ use lib.ListN.{length}
 use denote.Ref.{now}
 use Rattle.wgsl.specs.Rule.{typeOfEntry}
 use Rattle.file.specs.Fields.{trailerIs, entryIs}
+use Rattle.file.specs.Members.{memberLength}
 use Rattle.layout_values.specs.Value.{madeOf}
 use Rattle.layout_table.specs.Table.{Upward}
 use Rattle.layout_table.proofs.Judged.{says}
@@ -15,35 +16,36 @@ use Rattle.layout_table.proofs.fill.Statement.{statement}
 use Rattle.layout_table.proofs.fill.Tie as tie
 
 abbrev Inv-loop : tie.InvT-loop
-Inv-loop f t table₀ types members start base k₀ table k = Filled f (trailerIs t) k table
+Inv-loop f t table₀ types members start base long k₀ table k = Filled f (trailerIs t) k table
 
 abbrev μ-loop : tie.MeasureT-loop
-μ-loop f t table₀ types members start base k₀ table k = types - k
+μ-loop f t table₀ types members start base long k₀ table k = types - k
 
 -- the file
 abbrev bytes : tie.At-loop Inv-loop μ-loop → List ℕ
-bytes l = now (l .before .before .before .before .before .args .f)
+bytes l = now (l .before .before .before .before .before .before .args .f)
 
 -- the entry at hand is one of the file's
-low : (c : tie.In-loop Inv-loop μ-loop) → c .before .loop .k < c .before .before .before .before .before .before .args .t .types
+low : (c : tie.In-loop Inv-loop μ-loop) → c .before .loop .k < c .before .before .before .before .before .before .before .args .t .types
 low c = search needs
 
 -- what it is judged over
 upward : (c : tie.After-entry-at Inv-loop μ-loop) →
     let l = c .before .before in
-    Upward (bytes l) (l .loop .k) (entryIs (c .entry-at .result)) (l .before .wide3 .result + 12 * l .before .before .before .wide .result)
-    (l .before .before .wide2 .result) (l .loop .table) (l .loop .inv .types)
+    Upward (bytes l) (l .loop .k) (entryIs (c .entry-at .result)) (l .before .before .wide3 .result + 12 * l .before .before .before .before .wide .result)
+    (l .before .before .before .wide2 .result) (l .before .member-length .result) (l .loop .table) (l .loop .inv .types)
 upward c =
     let l = c .before .before in
-    filled-upward (l .loop .inv) (low (c .before)) (l .before .wide3 .ensures .0) (l .before .before .before .wide .ensures .0)
-    (l .before .before .wide2 .ensures .0) (c .entry-at .ensures)
+    filled-upward (l .loop .inv) (low (c .before)) (l .before .before .wide3 .ensures .0)
+    (l .before .before .before .before .wide .ensures .0) (l .before .before .before .wide2 .ensures .0)
+    (l .before .member-length .ensures .0) (c .entry-at .ensures)
 
 -- the table is as long as it was
-long : (l : tie.At-loop Inv-loop μ-loop) → length (l .loop .table) ≡ length (now (l .before .before .before .before .before .args .table))
-long l = l .loop .inv .whole ∙ sym (ap length (l .before .before .before .before .before .pre .1) ∙ blank-length)
+long : (l : tie.At-loop Inv-loop μ-loop) → length (l .loop .table) ≡ length (now (l .before .before .before .before .before .before .args .table))
+long l = l .loop .inv .whole ∙ sym (ap length (l .before .before .before .before .before .before .pre .1) ∙ blank-length)
 
 loop-holds : tie.Need-loop-holds Inv-loop μ-loop
-loop-holds c = let p = c .before .before .before .before .pre in filled-none (p .0) (p .1)
+loop-holds c = let p = c .before .before .before .before .before .pre in filled-none (p .0) (p .1)
 
 entry-made-requires : tie.Need-entry-made-requires Inv-loop μ-loop
 entry-made-requires c κs = (_, upward (c .before))
@@ -52,8 +54,12 @@ entry-made-requires c κs = (_, upward (c .before))
 made : (c : tie.After-entry-made Inv-loop μ-loop) →
     let x = c .before .before in
     let l = x .before .before in
-    c .entry-made .result ≡ madeOf (x .entry-at .result .reference) (typeOfEntry (bytes l) (l .loop .inv .types) (l .loop .k))
-made c = c .entry-made .ensures _ (upward (c .before .before))
+    c .entry-made .result ≡ madeOf (memberLength (bytes l)) (x .entry-at .result .reference) (typeOfEntry (bytes l) (l .loop .inv .types) (l .loop .k))
+made c =
+    let x = c .before .before in
+    let l = x .before .before in
+    c .entry-made .ensures _ (upward x)
+    ∙ ap (λ (n : ℕ). madeOf n (x .entry-at .result .reference) (typeOfEntry (bytes l) (l .loop .inv .types) (l .loop .k))) (upward x .long-is)
 
 same-length : tie.Need-same-length Inv-loop μ-loop
 same-length c = long (c .before .before .before .before .before .before)
@@ -102,7 +108,7 @@ pub fill-spec : {M : Type 1} → statement M
 fill-spec =
     tie.close (tie.spec
     Inv-loop μ-loop (λ c κs. search needs) (λ c κs. search needs) (λ c κs. search needs) (λ c. search needs)
-    (λ c. search needs) loop-holds (λ c. search needs) (λ c. search needs) (λ c κs. search needs) entry-made-requires
+    (λ c. search needs) (λ c κs. search needs) loop-holds (λ c. search needs) (λ c. search needs) (λ c κs. search needs) entry-made-requires
     (λ c. search needs) (λ c κs. search needs) (λ c. search needs) (λ c. search needs) (λ c. search needs) same-length
     returns (λ c. search needs) same-length-2 returns-2 (λ c. search needs) same-length-3 returns-3 (λ c. search needs)
     (λ c. search needs) loop-again same-length-4 returns-4)

@@ -8,13 +8,13 @@ use Rattle.layout_values.proofs.scalars.scalar_entry.Statement.{stateme
 use Rattle.layout_values.proofs.scalars.scalar_entry.Tie as tie
 
 returns : tie.Need-returns
-returns c = sym (scalar-used _ (denied (c .before .zeros .ensures) (c .if1 .taken)))
+returns c long = sym (scalar-used _ long (denied (c .before .zeros .ensures) (c .if1 .taken)))
 
 returns-2 : tie.Need-returns-2
-returns-2 c =
+returns-2 c long =
     let w = c .before in
     let z = w .before .before in
-    sym (scalar-laid _ (granted (z .before .zeros .ensures) (z .if1 .left)) (z .before .before .pre) _ _
+    sym (scalar-laid _ long (granted (z .before .zeros .ensures) (z .if1 .left)) (z .before .before .pre) _ _
     (w .before .scalar-size .ensures .0) (w .stored-width .ensures) _ (c .scalar-words .ensures .0))
 
 pub scalar-entry-spec : {M : Type 1} → statement M
