@@ -10,13 +10,19 @@ pub mod Judged
 pub mod ScalarKind
 pub mod Made
 pub mod Trailed
+pub mod MemberLength
 pub mod Accepted
 pub mod Fields
 pub mod AtEntry
+pub mod SameEntries
+pub mod Moved
+pub mod Back
 pub mod Reach
 pub mod ReachedTypes
 pub mod Uniform
 pub mod UniformPart
+pub mod SameAnswers
+pub mod MoveCall
 pub mod HoldsBool
 pub mod ScalarWords
 pub mod Shape
@@ -52,6 +58,7 @@ pub mod BoolCase
 pub mod UniformCase
 pub mod Wide
 pub mod WideCase
+pub mod FormCase
 pub mod BitFieldCase
 pub mod Bit
 pub mod FieldAt
@@ -61,3 +68,4 @@ pub mod BitFieldCall
 pub mod Claims
 pub mod Requests
 pub mod Witness
+pub mod FormWitness

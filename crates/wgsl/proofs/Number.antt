@@ -10,8 +10,8 @@ use mathlib.Core.Logic.{⊎-elim}
 use native.Mathlib.Omega.{arith, pow-step}
 use native.Mathlib.Nat.{zero-add, add-zero, suc-add, one-mul, mul-assoc, pow-suc}
 use native.Mathlib.Numerals.{add-one}
-use lib.ListN.{length, getD, set, length-set}
-use lib.Seq.{sets, length-sets, getD-set-same, getD-set-other}
+use lib.ListN.{length, getD, take, drop, set, length-set}
+use lib.Seq.{sets, length-sets, getD-set-same, getD-set-other, drop-cons}
 use Rattle.wgsl.specs.Number.{load, bytesOf, store}
 use Rattle.wgsl.specs.Claim.{Outside}
 
@@ -76,3 +76,14 @@ load-store (suc k) b at n h f =
     let rest : load k (store k b′ (suc at) (n / 256)) (suc at) ≡ n / 256 =
     load-store k b′ (suc at) (n / 256) (simp length-set (omega arith)) (omega (arith, pow-suc 256 k)) in
     rw (add-one at, first, rest) (omega arith)
+
+-- Bytes are those of the number that they hold.
+pub bytes-load : (k : ℕ) (b : List ℕ) (at : ℕ) → at + k ≤ length b → ((i : ℕ) → getD b i 0 < 256) → bytesOf k (load k b at) ≡ take k (drop at b)
+unfolding load bytesOf
+bytes-load zero b at h w = refl
+bytes-load (suc k) b at h w =
+    let x = getD b at 0 in
+    let y = load k b (at + 1) in
+    let low : (x + 256 * y) % 256 ≡ x = omega (arith, w at) in
+    let high : (x + 256 * y) / 256 ≡ y = omega (arith, w at) in
+    rw (low, high, bytes-load k b (at + 1) (omega arith) w, drop-cons b at 0 (omega arith), add-one at) refl

@@ -21,6 +21,7 @@ use Rattle.wgsl.specs.Call.{checkOf, entryOf, sizeCall, alignCall, minSi
 use Rattle.wgsl.specs.Rank.{commonOfAll}
 use Rattle.wgsl.specs.BitFieldCall.{integerOf, integerAt, extractCall, insertCall}
 use Rattle.wgsl.specs.Uniform.{mayLive, uniformCall}
+use Rattle.wgsl.specs.Form.{toForm2, toForm1, formIs, putOut, moveOnCall, moveBackCall}
 use Rattle.wgsl.specs.Claim.{PlaceFits, PlacesFit}
 use Rattle.wgsl.proofs.Said.{good-not-refused, then-cases, refuse-cases, orRefuse-good, orRefuse-refused}
 use Rattle.wgsl.proofs.Accepted.{refused-place}
@@ -160,13 +161,23 @@ fits-uniform f e =
     fits-next _ _ (fits-refuse _ _ _ _ (omega arith) (λ ok. fits-alone _ _ _ (omega arith)))
     (fits-next _ _ (λ number place g. omega (arith, named-low at number place g)) (fits-good _))))
 
+fits-form : (form : ℕ) (f : List ℕ) → PlaceFits (formIs form f)
+unfolding formIs
+fits-form form f =
+    fits-refuse _ _ _ _ (omega arith) (λ ok.
+    fits-refuse _ _ _ _ (omega arith) (λ is. fits-then (typesOf f) _ (fits-types f) (λ ts q. fits-good _)))
+
+fits-out : (new out : List ℕ) → PlaceFits (putOut new out)
+unfolding putOut
+fits-out new out = fits-refuse _ _ _ _ (omega arith) (λ ok. fits-good _)
+
 -- a question about one entry
 fits-asked : {A : Type 0} (f : List ℕ) (e : ℕ) (answer : Ty → Said A) → ((t : Ty) → PlaceFits (answer t)) → PlaceFits (_>>=_ (entryOf f e) answer)
 fits-asked f e answer h = fits-then (entryOf f e) answer (fits-entry f e) (λ t q. h t)
 
 -- The place of every refusal of every call has 32 bits.
 pub places-fit : (f : List ℕ) → PlacesFit f
-unfolding checkOf sizeCall alignCall minSizeCall layoutCall viewCall extractCall insertCall rankCall commonCall
+unfolding checkOf sizeCall alignCall minSizeCall layoutCall viewCall extractCall insertCall rankCall commonCall moveOnCall moveBackCall
 places-fit f =
     let zero-fits : 0 < 2 ^ 32 = omega arith in
     record {
@@ -189,4 +200,6 @@ places-fit f =
           fits-then (typesOf f) _ (fits-types f) (λ ts q.
           fits-then (entriesOf ts es) _ (fits-entries ts es) (λ entries h.
           fits-then (orRefuse 18 0 (commonOfAll entries)) _ (fits-or _ _ _ zero-fits) (λ c g. fits-good _)));
+      to-form-2 = λ out. fits-next (formIs 1 f) _ (fits-form 1 f) (fits-out (toForm2 f) out);
+      to-form-1 = λ out. fits-next (formIs 2 f) _ (fits-form 2 f) (fits-refuse _ _ _ _ zero-fits (λ ok. fits-out (toForm1 f) out));
     }

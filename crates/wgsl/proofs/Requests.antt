@@ -1,6 +1,7 @@
 -- What is claimed of the definitions of document 02, request by request. Each proof is one citation: read the statements.
 --
--- Here: E1, strides; E2, bit fields; E4, vectors of three bools; E5, the uniform profile; E6, scalars of 64 bits. That the places of refusals fit and what the calls have in common with those of 01 stands in Claims.
+-- Here: E1, strides; E2, bit fields; E4, vectors of three bools; E5, the uniform profile; E6, scalars of 64 bits; E7, the two forms of a
+-- file. That the places of refusals fit and what the calls have in common with those of 01 stands in Claims.
 -- Assumes nothing.
 use Prim.Native.Nat.{ℕ, _+_, _-_, _*_, _%_, _^_, _<_, _≤_, max, min}
 use mathlib.Core.Bool.{true, false, cond}
@@ -9,7 +10,7 @@ use mathlib.Core.Option.{Option, some}
 use mathlib.Core.Path.{_≡_}
 use lib.Dec.{T}
 use lib.IntN.{pos, _-ℤ_}
-use lib.ListN.{length, getD, getElem?}
+use lib.ListN.{length, getD, getElem?, take}
 use Rattle.wgsl.specs.Number.{load}
 use Rattle.wgsl.specs.Round.{up, limit}
 use Rattle.wgsl.specs.Types.{Scalar, Ty, array, runtime, everywhere}
@@ -24,12 +25,15 @@ use Rattle.wgsl.specs.BitField.{startOf, bitsOf, bitAt, extractedU32, ex
 use Rattle.wgsl.specs.BitFieldCase.{fieldCasesPass}
 use Rattle.wgsl.specs.BitFieldCall.{isInteger, isSigned, FoundInteger, integerOf, integerAt, extractCall, insertCall}
 use Rattle.wgsl.specs.Uniform.{reaches, uniformCall}
-use Rattle.wgsl.specs.Claim.{Holds, together, IsStride, ByElement, HoldsBool, LaidOut, GoodIf, CanField, Reaches, CanUniform, LowestBroken, SameReached}
+use Rattle.wgsl.specs.File.{Trailer, trailerOf, checkTrailer}
+use Rattle.wgsl.specs.Form.{memberPlace, nameAt, toForm1, toForm2, filled, moveOnCall, moveBackCall, oldTrailer}
+use Rattle.wgsl.specs.Claim.{Holds, together, IsStride, ByElement, HoldsBool, LaidOut, GoodIf, CanField, Reaches, CanUniform, LowestBroken, SameReached, SameAnswers, OfForm, CanMoveOn, CanMoveBack}
 use Rattle.wgsl.specs.Demand.{Given, Leading, Words, SetThenRead}
 use Rattle.wgsl.specs.StrideCase.{strideCasesPass}
 use Rattle.wgsl.specs.BoolCase.{boolCasesPass}
 use Rattle.wgsl.specs.UniformCase.{uniformCasesPass}
 use Rattle.wgsl.specs.WideCase.{wideCasesPass}
+use Rattle.wgsl.specs.FormCase.{formCasesPass}
 use Rattle.wgsl.proofs.Stride as stride
 use Rattle.wgsl.proofs.StrideCase.{stride-cases-pass}
 use Rattle.wgsl.proofs.BitField as field
@@ -43,6 +47,8 @@ use Rattle.wgsl.proofs.UniformCase.{uniform-cases-pass}
 use Rattle.wgsl.proofs.ScalarWords as scalar-words
 use Rattle.wgsl.proofs.Wide as wide
 use Rattle.wgsl.proofs.WideCase.{wide-cases-pass}
+use Rattle.wgsl.proofs.MoveCall as moves
+use Rattle.wgsl.proofs.FormCase.{form-cases-pass}
 
 -- ---- E1: strides
 
@@ -225,3 +231,58 @@ no-wide-field = wide.no-wide-field
 -- The request's own numbers, and the edges of its refusals.
 pub wide-cases : T wideCasesPass
 wide-cases = wide-cases-pass
+
+-- ---- E7: the two forms of a layout file
+
+-- "form 2 gives form 1's answers with names ignored": a file and the form 1 file without its names get the same answer from every call.
+pub names-ignored : (f : List ℕ) (r : Trailer) → checkTrailer f ≡ good r → SameAnswers f (toForm1 f)
+names-ignored = moves.names-ignored
+
+-- The move on is good exactly if it is given a form 1 file that passes 1 to 7, and room;
+pub move-on-good-if : (f out : List ℕ) → GoodIf (moveOnCall f out) (CanMoveOn f out)
+move-on-good-if = moves.move-on-good-if
+
+-- "the move back accepts a form 2 file that passes 1 to 7 and has room exactly if all names of its M members are 0".
+pub move-back-good-if : (f out : List ℕ) → GoodIf (moveBackCall f out) (CanMoveBack f out)
+move-back-good-if = moves.move-back-good-if
+
+-- "Either answers the new length; later output bytes stay": the file in the other form, and behind it what was there.
+pub move-on-leaves : {f out : List ℕ} → CanMoveOn f out → moveOnCall f out ≡ good (filled (toForm2 f) out)
+move-on-leaves = moves.move-on-leaves
+
+pub move-back-leaves : {f out : List ℕ} → CanMoveBack f out → moveBackCall f out ≡ good (filled (toForm1 f) out)
+move-back-leaves = moves.move-back-leaves
+
+-- "its length is S + 12 x T + 16 x M + 10",
+pub on-length : {f : List ℕ} → OfForm 1 f → length (toForm2 f) ≡ trailerOf f .start + 12 * trailerOf f .types + 16 * trailerOf f .members + 10
+on-length = moves.on-length
+
+-- "sets names to 0",
+pub on-nameless : {f : List ℕ} → OfForm 1 f → (m : ℕ) → m < trailerOf (toForm2 f) .members → nameAt (toForm2 f) m ≡ 0
+on-nameless = moves.on-nameless
+
+-- "and keeps the bytes before S" (and the type entries behind them).
+pub on-keeps : {f : List ℕ} → OfForm 1 f → take (memberPlace f 0) (toForm2 f) ≡ take (memberPlace f 0) f
+on-keeps = moves.on-keeps
+
+-- What a move that is not refused has put out answers as the given file,
+pub on-same : (f out : List ℕ) (d : Done) → moveOnCall f out ≡ good d → SameAnswers f (take (d .value) (d .contents))
+on-same = moves.on-same
+
+pub back-same : (f out : List ℕ) (d : Done) → moveBackCall f out ≡ good d → SameAnswers f (take (d .value) (d .contents))
+back-same = moves.back-same
+
+-- and "there and back gives the same bytes", from either form.
+pub on-then-back : (f out : List ℕ) (d : Done) → moveOnCall f out ≡ good d → (out′ : List ℕ) → ((i : ℕ) → getD f i 0 < 256) → length f ≤ length out′ → moveBackCall (take (d .value) (d .contents)) out′ ≡ good (filled f out′)
+on-then-back = moves.on-then-back
+
+pub back-then-on : (f out : List ℕ) (d : Done) → moveBackCall f out ≡ good d → (out′ : List ℕ) → ((i : ℕ) → getD f i 0 < 256) → length f ≤ length out′ → moveOnCall (take (d .value) (d .contents)) out′ ≡ good (filled f out′)
+back-then-on = moves.back-then-on
+
+-- "An old reader still answers 2."
+pub old-reader : {f : List ℕ} → OfForm 2 f → oldTrailer f ≡ refused 2 0
+old-reader = moves.old-reader
+
+-- The edges of the two calls.
+pub form-cases : T formCasesPass
+form-cases = form-cases-pass

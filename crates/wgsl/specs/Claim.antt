@@ -15,12 +15,15 @@ use Rattle.wgsl.specs.Round.{up, limit}
 use Rattle.wgsl.specs.Types.{Scalar, bool, i32, u32, f32, f16, abstractInt, abstractFloat, i64, u64, f64, Ty, scalar, vector, matrix, array, runtime, atomic, struct, Members, no-more, member, isRuntime, isOpen, everywhere}
 use Rattle.wgsl.specs.Size.{present, widthOf, sizeOf, alignOf, strideOf, ownStrideOf, fitsLimit, hasLayout, isStorable}
 use Rattle.wgsl.specs.Said.{Said, good, refused}
+use Rattle.wgsl.specs.File.{trailerOf}
 use Rattle.wgsl.specs.Rule.{typeOfEntry, isAllowed, givenFits, typesBelow, typesOf}
 use Rattle.wgsl.specs.Place.{extentOf, elementsIn, Shape, one, parts, field, shapeOf, Place, wordsOver, wordsFor, places, wordCount, wordsRead}
 use Rattle.wgsl.specs.Path as path
 use Rattle.wgsl.specs.Path.{Step, stepOf}
 use Rattle.wgsl.specs.Call.{Done, checkOf, entryOf, sizeCall, alignCall, minSizeCall, layoutCall, readCall, writeCall, viewCall, setCall, rankCall, commonCall}
 use Rattle.wgsl.specs.BitFieldCall.{isInteger, extractCall, insertCall}
+use Rattle.wgsl.specs.Listing.{listed}
+use Rattle.wgsl.specs.Form.{nameAt, toForm2, toForm1, moveOnCall, moveBackCall}
 use Rattle.wgsl.specs.Uniform.{isUniform, refersTo, isBroken, uniformCall}
 
 -- ---- bytes
@@ -296,3 +299,45 @@ pub record PlacesFit (f : List ℕ) : Type 0 where
   pub uniform : (e : ℕ) → PlaceFits (uniformCall f e)
   pub rank : (x y : ℕ) → PlaceFits (rankCall f x y)
   pub common : (es : List ℕ) → PlaceFits (commonCall f es)
+  pub to-form-2 : (out : List ℕ) → PlaceFits (moveOnCall f out)
+  pub to-form-1 : (out : List ℕ) → PlaceFits (moveBackCall f out)
+
+-- ---- two files with the same answers
+
+-- two files get the same answer from every call, whatever it is asked: value, place and everything lent; and the listing's text, where
+-- it reads them
+pub record SameAnswers (f g : List ℕ) : Type 0 where
+  pub check : checkOf f ≡ checkOf g
+  pub size : (e : ℕ) → sizeCall f e ≡ sizeCall g e
+  pub align : (e : ℕ) → alignCall f e ≡ alignCall g e
+  pub min-size : (e : ℕ) → minSizeCall f e ≡ minSizeCall g e
+  pub layout : (e : ℕ) → layoutCall f e ≡ layoutCall g e
+  pub read : (e : ℕ) (b ws : List ℕ) → readCall f e b ws ≡ readCall g e b ws
+  pub write : (e : ℕ) (ws b : List ℕ) → writeCall f e ws b ≡ writeCall g e ws b
+  pub view : (e : ℕ) (steps b : List ℕ) → viewCall f e steps b ≡ viewCall g e steps b
+  pub set : (e : ℕ) (steps ws b : List ℕ) → setCall f e steps ws b ≡ setCall g e steps ws b
+  pub extract : (e : ℕ) (steps b : List ℕ) (offset count : ℕ) → extractCall f e steps b offset count ≡ extractCall g e steps b offset count
+  pub insert : (e : ℕ) (steps : List ℕ) (new offset count : ℕ) (b : List ℕ) → insertCall f e steps new offset count b ≡ insertCall g e steps new offset count b
+  pub uniform : (e : ℕ) → uniformCall f e ≡ uniformCall g e
+  pub rank : (x y : ℕ) → rankCall f x y ≡ rankCall g x y
+  pub common : (es : List ℕ) → commonCall f es ≡ commonCall g es
+  pub listing : listed (typesOf f) ≡ listed (typesOf g)
+
+-- ---- the two forms
+
+-- f has this form, and none of 1 to 7 is due
+pub record OfForm (form : ℕ) (f : List ℕ) : Type 0 where
+  pub form-is : trailerOf f .form ≡ form
+  pub types : List Ty
+  pub accepted : typesOf f ≡ good types
+
+-- none of 1 to 7 and 15 is due to the move on: a form 1 file, and room
+pub record CanMoveOn (f out : List ℕ) : Type 0 where
+  pub file : OfForm 1 f
+  pub room : length (toForm2 f) ≤ length out
+
+-- "the move back accepts a form 2 file that passes 1 to 7 and has room exactly if all names of its M members are 0"
+pub record CanMoveBack (f out : List ℕ) : Type 0 where
+  pub file : OfForm 2 f
+  pub no-names : (m : ℕ) → m < trailerOf f .members → nameAt f m ≡ 0
+  pub room : length (toForm1 f) ≤ length out

@@ -25,9 +25,9 @@ trailerLength = 10
 abbrev pub typeEntryLength : ℕ
 typeEntryLength = 12
 
--- by the file's form
-abbrev pub memberEntryLength : ℕ → ℕ
-memberEntryLength form = 12
+-- by the file's form: "M member entries of 12 bytes follow"; E7: "Form 2 has 16-byte member entries"
+unfoldable pub memberEntryLength : ℕ → ℕ
+memberEntryLength form = cond (eqb form 2) 16 12
 
 -- "T is 1 to 256, M is 0 to 1,024."
 abbrev pub mostTypes : ℕ
@@ -42,7 +42,7 @@ trailerOf f =
     let at : ℕ = length f - trailerLength in
     record { types = load 2 f at; members = load 2 f (at + 2); start = load 4 f (at + 4); form = load 2 f (at + 8) }
 
--- "So the length is S + 12 x (T + M) + 10."
+-- "So the length is S + 12 x (T + M) + 10."; E7: "its length is S + 12 x T + 16 x M + 10"
 unfoldable pub lengthBy : Trailer → ℕ
 lengthBy r = r .start + (typeEntryLength * r .types + memberEntryLength (r .form) * r .members) + trailerLength
 
@@ -113,12 +113,12 @@ restIsZero m = eqb (m .flags / 4) 0 && (sizeIsGiven m || eqb (m .size) 0) && (al
 unfoldable pub between : ℕ → ℕ → ℕ → Bool
 between low high n = leb low n && leb n high
 
--- Refusals 1 to 4: "file below 10 bytes", "form not 1", "T or M outside its range", "length not as the trailer says".
+-- Refusals 1 to 4: "file below 10 bytes", "form not 1" (E7: "2 now means neither 1 nor 2"), "T or M outside its range", "length not as the trailer says".
 unfoldable pub checkTrailer : List ℕ → Said Trailer
 checkTrailer f = do
   let r = trailerOf f
   refuse 1 0 (ltb (length f) trailerLength)
-  refuse 2 0 (not (eqb (r .form) 1))
+  refuse 2 0 (not (between 1 2 (r .form)))
   refuse 3 0 (not (between 1 mostTypes (r .types) && between 0 mostMembers (r .members)))
   refuse 4 0 (not (eqb (length f) (lengthBy r)))
   good r

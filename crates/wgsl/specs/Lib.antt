@@ -15,6 +15,7 @@ pub mod BitField
 pub mod BitFieldCase
 pub mod BitFieldCall
 pub mod Uniform
+pub mod Form
 pub mod Claim
 pub mod Demand
 pub mod Case
@@ -22,4 +23,5 @@ pub mod StrideCase
 pub mod BoolCase
 pub mod UniformCase
 pub mod WideCase
+pub mod FormCase
 pub mod Shapes
