@@ -17,10 +17,11 @@ use Rattle.wgsl.specs.File.{between}
 use Rattle.wgsl.specs.Rule.{typesOf}
 use Rattle.wgsl.specs.Listing.{entriesText, refusedText, atText, space, newline, dash, decimal, orDash, column, entryLine, entryLines, refusedLine, listed, inputLimit, listingOf}
 use Rattle.wgsl.proofs.Accepted.{accepted}
-use Rattle.listing_text.specs.Put.{Put, line, heading}
+use Rattle.puts.specs.Put.{Put}
+use Rattle.listing_text.specs.Line.{line, heading}
 use Rattle.listing_text.proofs.Decimal.{decimal-length}
 use Rattle.listing_text.proofs.Lines.{column-length as marked-length}
-use Rattle.listing_text.proofs.PutLaws.{put-length}
+use Rattle.puts.proofs.PutLaws.{put-length}
 
 -- ---- lines
 

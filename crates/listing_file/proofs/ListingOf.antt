@@ -26,13 +26,15 @@ use Rattle.wgsl.proofs.Stride.{own-stride-positive}
 use Rattle.said.specs.Refusal.{numberOf, placeOf}
 use Rattle.said.specs.declared.refusal.Refusal.{Refusal}
 use Rattle.file.specs.declared.trailer.Trailer.{Trailer}
+use Rattle.file.specs.Members.{memberLength}
 use Rattle.layout_values.specs.Value.{valueOf, valueAt, valuesOf}
 use Rattle.layout_values.proofs.ValuesOf.{table-at, own-reference}
 use Rattle.layout_values.specs.declared.value.Value.{Value}
 use Rattle.layout_table.proofs.SaidTable.{Taken}
-use Rattle.listing_text.specs.Put.{Put, marked, markedColumn, line, heading}
+use Rattle.puts.specs.Put.{Put}
+use Rattle.listing_text.specs.Line.{marked, markedColumn, line, heading}
 use Rattle.listing_text.proofs.Lines.{marked-absent, marked-number}
-use Rattle.listing_text.proofs.PutLaws.{put-then, put-length}
+use Rattle.puts.proofs.PutLaws.{put-then, put-length}
 use Rattle.listing_file.specs.List.{Entries}
 use Rattle.listing_file.proofs.ListingLength.{line-length, heading-length}
 
@@ -44,9 +46,9 @@ unfolding present orDash
 marked-present none h = marked-absent 0 refl
 marked-present (some n) h = let l : 1 ≤ n = h n refl in marked-number n (λ z. omega arith)
 
-line-is : (k r stride : ℕ) (l : Value) (t : Ty) → l ≡ valueOf r t → everywhere isWellFormed t ≡ true → stride ≡ present (ownStrideOf t) → line k (l .size) (l .align) stride ≡ entryLine k t
+line-is : (k long r stride : ℕ) (l : Value) (t : Ty) → l ≡ valueOf long r t → everywhere isWellFormed t ≡ true → stride ≡ present (ownStrideOf t) → line k (l .size) (l .align) stride ≡ entryLine k t
 unfolding line markedColumn entryLine column valueOf
-line-is k r stride l t e w own =
+line-is k long r stride l t e w own =
     rw (
       e,
       own,
@@ -65,7 +67,7 @@ next (t ∷ ts) (suc k) h = next ts k (omega arith)
 
 -- what `stride_of` ensures of the stride of a value
 abbrev StrideOf : Value → ℕ → Type 0
-StrideOf l stride = (t : Ty) → l ≡ valueOf (l .reference) t → everywhere isWellFormed t ≡ true → stride ≡ present (ownStrideOf t)
+StrideOf l stride = (t : Ty) → l ≡ valueOf (l .stride) (l .reference) t → everywhere isWellFormed t ≡ true → stride ≡ present (ownStrideOf t)
 
 -- The lines that are left begin with that of entry k.
 lines-next : {f : List ℕ} {table : List (List ℕ)} {types : ℕ} {ts : List Ty} (k stride : ℕ) → Entries f table types ts → k < types → StrideOf (valueAt table k) stride → line k (valueAt table k .size) (valueAt table k .align) stride ++ entryLines (suc k) (drop (suc k) ts) ≡ entryLines k (drop k ts)
@@ -73,9 +75,9 @@ unfolding entryLines
 lines-next {f} {table} {types} {ts} k stride e h own =
     let low : k < length ts = omega (arith, e .count) in
     let x = next ts k low in
-    let is : valueAt table k ≡ valueOf (typeEntryAt f k .reference) (x .0) = rw (e .table-is) (table-at f ts k (x .0) (x .1)) in
+    let is : valueAt table k ≡ valueOf (memberLength f) (typeEntryAt f k .reference) (x .0) = rw (e .table-is) (table-at f ts k (x .0) (x .1)) in
     let well = e .well-formed k (x .0) (x .1) in
-    rw (x .2, line-is k _ stride (valueAt table k) (x .0) is well (own (x .0) (own-reference _ (x .0) is) well))
+    rw (x .2, line-is k _ _ stride (valueAt table k) (x .0) is well (own (x .0) (own-reference _ _ (x .0) is) well))
 
 -- ---- the turns of the loop: what is left to put, from here, gives what all lines give from the start
 

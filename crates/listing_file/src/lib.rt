@@ -18,7 +18,7 @@ ghost use lib.ListN.{length};
 ghost use Rattle.wgsl.specs.Types.{Ty};
 ghost use Rattle.wgsl.specs.Said.{good};
 ghost use Rattle.wgsl.specs.Listing.{listed, listingOf};
-ghost use Rattle.listing_text.specs.Put.{Put};
+ghost use Rattle.puts.specs.Put.{Put};
 ghost use Rattle.listing_file.specs.List.{listingRoom, Entries};
 
 // The most bytes of a file that is listed.

@@ -10,7 +10,7 @@ use borrow.Author.Tests.{le-leb, lt-leb, eq-eqb, ne-eqb}
 use lib.ListN.{length}
 use Rattle.wgsl.specs.File.{between}
 use Rattle.wgsl.specs.Listing.{refusedText, atText, space, newline, dash, decimal, orDash, refusedLine}
-use Rattle.listing_text.specs.Put.{marked, markedColumn}
+use Rattle.listing_text.specs.Line.{marked, markedColumn}
 use Rattle.listing_text.proofs.Decimal.{decimal-length}
 
 pub marked-absent : (n : ℕ) → n ≡ 0 → marked n ≡ dash

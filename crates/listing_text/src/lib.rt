@@ -1,22 +1,10 @@
 // Lines of text into a lent buffer: what the listing program writes.
+use puts::put;
 ghost use Prim.Native.Nat.{_+_, _≤_};
 ghost use lib.ListN.{length};
 ghost use Rattle.wgsl.specs.Listing.{decimal, refusedLine};
-ghost use Rattle.listing_text.specs.Put.{Put, marked, markedColumn, line, heading};
-
-// Puts the text at `at` and answers where it ends; every other byte stays.
-pub fn put(out: &mut [u8], at: usize, text: &[u8]) -> usize
-    requires { ⌜ at + length (now text) ≤ length (now out) ⌝ }
-    ensures { λ r. ⌜ Put (now (out .entry)) at (now (text .entry)) r (now (out .exit)) ⌝ }
-{
-    let n = text.len();
-    let mut i: usize = 0;
-    while i < n {
-        out[at + i] = text[i];
-        i += 1;
-    }
-    at + n
-}
+ghost use Rattle.puts.specs.Put.{Put};
+ghost use Rattle.listing_text.specs.Line.{marked, markedColumn, line, heading};
 
 // Puts a number in decimal: at most ten digits.
 pub fn put_decimal(out: &mut [u8], at: usize, n: u32) -> usize

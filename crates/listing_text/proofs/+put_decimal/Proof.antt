@@ -6,7 +6,7 @@ use borrow.Author.Needs.{needs}
 use borrow.Fn.Kinds.{In}
 use borrow.Fn.PlainCycle.{Measures, is, falls, and}
 use Rattle.listing_text.proofs.Decimal.{decimal-length-nine}
-use Rattle.listing_text.proofs.PutLaws.{put-digit, put-last}
+use Rattle.listing_text.proofs.PutDecimal.{put-digit, put-last}
 use Rattle.listing_text.proofs.put_decimal.Reads as reads
 use Rattle.listing_text.proofs.put_decimal.Kinds as kinds
 use Rattle.listing_text.proofs.+put_decimal.Lts-put_decimal as lts

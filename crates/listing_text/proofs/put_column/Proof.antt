@@ -1,7 +1,7 @@
 -- Two puts, one after another.
 use Rattle.wgsl.specs.Listing.{space}
-use Rattle.listing_text.specs.Put.{markedColumn}
-use Rattle.listing_text.proofs.PutLaws.{put-then}
+use Rattle.listing_text.specs.Line.{markedColumn}
+use Rattle.puts.proofs.PutLaws.{put-then}
 use borrow.Author.Needs.{needs}
 use Rattle.listing_text.proofs.put_column.Statement.{statement}
 use Rattle.listing_text.proofs.put_column.Tie as tie

@@ -1,9 +1,9 @@
 -- Three puts, one after another; a number has at most ten digits.
 use native.Mathlib.Omega.{arith}
 use Rattle.wgsl.specs.Listing.{entriesText, newline}
-use Rattle.listing_text.specs.Put.{heading}
+use Rattle.listing_text.specs.Line.{heading}
 use Rattle.listing_text.proofs.Decimal.{decimal-length}
-use Rattle.listing_text.proofs.PutLaws.{put-then}
+use Rattle.puts.proofs.PutLaws.{put-then}
 use borrow.Author.Needs.{needs}
 use Rattle.listing_text.proofs.put_heading.Statement.{statement}
 use Rattle.listing_text.proofs.put_heading.Tie as tie

@@ -3,10 +3,10 @@ use Prim.Native.Nat.{_+_, _≤_}
 use lib.ListN.{length}
 use native.Mathlib.Omega.{arith}
 use Rattle.wgsl.specs.Listing.{newline}
-use Rattle.listing_text.specs.Put.{line}
+use Rattle.listing_text.specs.Line.{line}
 use Rattle.listing_text.proofs.Decimal.{decimal-length}
 use Rattle.listing_text.proofs.Lines.{column-length}
-use Rattle.listing_text.proofs.PutLaws.{put-then}
+use Rattle.puts.proofs.PutLaws.{put-then}
 use borrow.Author.Needs.{needs}
 use Rattle.listing_text.proofs.put_line.Statement.{statement}
 use Rattle.listing_text.proofs.put_line.Tie as tie

@@ -1,7 +1,7 @@
 -- Each answer is what the definition says of the number (`Lines`).
 use denote.Ref.{now}
 use Rattle.wgsl.specs.Listing.{dash}
-use Rattle.listing_text.specs.Put.{Put}
+use Rattle.puts.specs.Put.{Put}
 use Rattle.listing_text.proofs.Lines.{marked-absent, marked-number}
 use borrow.Author.Needs.{needs}
 use Rattle.listing_text.proofs.put_marked.Statement.{statement}

@@ -5,7 +5,7 @@ use native.Mathlib.Omega.{arith}
 use Rattle.wgsl.specs.Listing.{refusedText, atText, newline}
 use Rattle.listing_text.proofs.Decimal.{decimal-length}
 use Rattle.listing_text.proofs.Lines.{refusedLine-low, refusedLine-high, refusedLine-place}
-use Rattle.listing_text.proofs.PutLaws.{put-then}
+use Rattle.puts.proofs.PutLaws.{put-then}
 use borrow.Author.Needs.{needs}
 use Rattle.listing_text.proofs.put_refused.Statement.{statement}
 use Rattle.listing_text.proofs.put_refused.Tie as tie

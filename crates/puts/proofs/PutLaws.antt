@@ -1,8 +1,8 @@
--- Laws of `Put` (specs/Put): puts one after another, one store, a number, and the turns of a loop that stores.
+-- Laws of `Put` (specs/Put): puts one after another, one store, and the turns of a loop that stores.
 --
--- In order: a run of stores; puts; numbers; the loop.
+-- In order: a run of stores; puts; the loop.
 -- Assumes nothing.
-use Prim.Native.Nat.{ℕ, suc, _+_, _/_, _%_, _^_, _<_, _≤_}
+use Prim.Native.Nat.{ℕ, suc, _+_, _<_}
 use mathlib.Core.Path.{_≡_, refl, ap, _∙_}
 use mathlib.Core.List.{List, [], _∷_, _++_}
 use native.Mathlib.Nat.{add-zero}
@@ -10,13 +10,11 @@ use native.Mathlib.Numerals.{add-one}
 use native.Mathlib.Omega.{arith}
 use lib.ListN.{length, getD, drop, set, length-append}
 use lib.Seq.{sets, length-sets, drop-cons, drop-length}
-use Rattle.wgsl.specs.Listing.{decimal}
-use Rattle.listing_text.specs.Put.{Put}
-use Rattle.listing_text.proofs.Decimal.{decimal-digit, decimal-more}
+use Rattle.puts.specs.Put.{Put}
 
 -- ---- a run of stores
 
-sets-append : (x y b : List ℕ) (at : ℕ) → sets (sets b at x) (at + length x) y ≡ sets b at (x ++ y)
+pub sets-append : (x y b : List ℕ) (at : ℕ) → sets (sets b at x) (at + length x) y ≡ sets b at (x ++ y)
 sets-append [] y b at = rw (add-zero at)
 sets-append (a ∷ x) y b at =
     let e : at + suc (length x) ≡ suc at + length x = omega arith in
@@ -36,16 +34,6 @@ put-one b at v = record { next = refl; bytes = refl }
 
 pub put-length : {b c x : List ℕ} {at r : ℕ} → Put b at x r c → length c ≡ length b
 put-length {b} {c} {x} {at} {r} p = ap length (p .bytes) ∙ length-sets b at x
-
--- ---- numbers
-
-pub put-digit : (b : List ℕ) (at n : ℕ) → n < 10 → Put b at (decimal n) (at + 1) (set b at (48 + n % 10))
-put-digit b at n h =
-    let e : n % 10 ≡ n = omega arith in
-    rw (decimal-digit n h, e) (put-one b at (48 + n))
-
-pub put-last : {b c : List ℕ} {at r : ℕ} (n : ℕ) → 10 ≤ n → n < 2 ^ 32 → Put b at (decimal (n / 10)) r c → Put b at (decimal n) (r + 1) (set c r (48 + n % 10))
-put-last {b} {c} {at} {r} n l h p = rw (decimal-more n l h) (put-then p (put-one c r (48 + n % 10)))
 
 -- ---- the loop: what is left to store, from here, gives what the whole gives from the start
 

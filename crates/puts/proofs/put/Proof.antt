@@ -6,9 +6,9 @@ use lib.ListN.{length, drop, length-set}
 use lib.Seq.{sets}
 use denote.Ref.{now}
 use borrow.Author.Needs.{needs}
-use Rattle.listing_text.proofs.PutLaws.{left-all, left-more, left-none}
-use Rattle.listing_text.proofs.put.Statement.{statement}
-use Rattle.listing_text.proofs.put.Tie as tie
+use Rattle.puts.proofs.PutLaws.{left-all, left-more, left-none}
+use Rattle.puts.proofs.put.Statement.{statement}
+use Rattle.puts.proofs.put.Tie as tie
 
 abbrev Inv-loop : tie.InvT-loop
 Inv-loop out₀ at text n i₀ out i =

@@ -1,19 +1,11 @@
--- What putting a text into a buffer does, and the texts of a listing's lines in numbers where 0 stands for an absent one.
+-- The texts of a listing's lines, in numbers where 0 stands for an absent one.
 -- Definitions only. Assumes nothing.
-use Prim.Native.Nat.{ℕ, _+_}
-use mathlib.Core.Path.{_≡_}
+use Prim.Native.Nat.{ℕ}
 use mathlib.Core.Bool.{cond}
 use mathlib.Core.List.{List, _++_}
 use mathlib.Core.Option.{none, some}
 use lib.Dec.{eqb}
-use lib.ListN.{length}
-use lib.Seq.{sets}
 use Rattle.wgsl.specs.Listing.{entriesText, space, newline, decimal, orDash}
-
--- the text stands at `at`, r is where it ends, and every other byte is as it was
-pub record Put (before : List ℕ) (at : ℕ) (text : List ℕ) (r : ℕ) (after : List ℕ) : Type 0 where
-  pub next : r ≡ at + length text
-  pub bytes : after ≡ sets before at text
 
 -- a number that is above 0, or an absent one
 unfoldable pub marked : ℕ → List ℕ
