@@ -1,7 +1,7 @@
 // The public calls, in one place. None has a `requires`: any bytes of any length and any numbers are answered. Each answers a number or a
 // refusal (`said::answer::Number`), but for `layout`, which answers all four numbers of an entry (`said::answer::Answer`), `view_at`, which
-// answers a target (`said::target::Walked`), the two views, which hand back a part of the buffer that they were lent, and the four calls on
-// numbers alone, which answer a number.
+// answers a target (`said::target::Walked`), the two views, which hand back a part of the buffer that they were lent, the four calls on
+// numbers alone, which answer a number, and the two moves, which answer a length (`said::answer::Moved`).
 
 // How many entries an accepted file has; else 1 to 7.
 pub use layout_ask::check;
@@ -34,3 +34,6 @@ pub use paths::field::extract_bits;
 pub use paths::field::insert_bits;
 // Whether an entry may live in a uniform buffer (0); else 1 to 10, 19.
 pub use uniform::uniform;
+// A file in the other form, into a buffer (its length there); else 1 to 7, 15, and 20 on the way back.
+pub use forms::to_form_1;
+pub use forms::to_form_2;

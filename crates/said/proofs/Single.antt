@@ -1,6 +1,6 @@
 -- No slack: what an answer says, number and place included, tells which answer it is. So two answers that a claim allows are the same.
 --
--- In order: anything that tells itself; refusals; a number or a refusal; a number beside what was lent; the three numbers of an entry; a
+-- In order: anything that tells itself; refusals; a number or a refusal; a number or a length beside what was lent; the four numbers of an entry; a
 -- target or a refusal; a part of the buffer.
 -- Assumes nothing.
 use Prim.Native.Nat.{ℕ}
@@ -14,9 +14,10 @@ use Rattle.wgsl.specs.Call as call
 use Rattle.wgsl.specs.Call.{partOf, partStart}
 use Rattle.said.specs.Refusal.{numberOf, placeOf}
 use Rattle.said.specs.declared.refusal.Refusal.{Refusal}
-use Rattle.said.specs.declared.refusal.Refusal.the-variants.{Short, Form, Counts, Length, Rule, Given, Large, Missing, Absent, Unstorable, NoMember, PastEnd, NoIndex, Count, Buffer, Word, Long, NoRank, NotUniform}
-use Rattle.said.specs.Answer.{saidNumber, maybeOf, saidAnswer}
+use Rattle.said.specs.declared.refusal.Refusal.the-variants.{Short, Form, Counts, Length, Rule, Given, Large, Missing, Absent, Unstorable, NoMember, PastEnd, NoIndex, Count, Buffer, Word, Long, NoRank, NotUniform, Named}
+use Rattle.said.specs.Answer.{saidNumber, saidMoved, maybeOf, saidAnswer}
 use Rattle.said.specs.declared.answer.Number.{Number}
+use Rattle.said.specs.declared.answer.Moved.{Moved}
 use Rattle.said.specs.declared.answer.Maybe.{Maybe}
 use Rattle.said.specs.declared.answer.Answer.{Answer}
 use Rattle.said.specs.declared.target.Target.{Target}
@@ -34,9 +35,9 @@ unfoldable pub refusalFrom : ℕ → ℕ → Refusal
 refusalFrom place number =
     getD
     (Short ∷ Short ∷ Form ∷ Counts ∷ Length ∷ Rule place ∷ Given place ∷ Large place ∷ Missing ∷ Absent ∷ Unstorable
-    ∷ NoMember place ∷ PastEnd place ∷ NoIndex place ∷ Count ∷ Buffer ∷ Word place ∷ Long ∷ NoRank ∷ [])
+    ∷ NoMember place ∷ PastEnd place ∷ NoIndex place ∷ Count ∷ Buffer ∷ Word place ∷ Long ∷ NoRank ∷ NotUniform place ∷ [])
     number
-    (NotUniform place)
+    Named
 
 pub refusal-told : (r : Refusal) → refusalFrom (placeOf r) (numberOf r) ≡ r
 unfolding refusalFrom
@@ -59,6 +60,7 @@ refusal-told (Word position) = refl
 refusal-told Long = refl
 refusal-told NoRank = refl
 refusal-told (NotUniform entry) = refl
+refusal-told Named = refl
 
 -- ---- a number or a refusal
 
@@ -80,6 +82,20 @@ single-number = single saidNumber numberFrom number-told
 -- `writeCall`, `readCall` or `setCall` says, and `before` what was lent.
 pub single-done : (before : List ℕ) (said : Said call.Done) (a b : Number) (x y : List ℕ) → saidNumber a ≡ call.answerOf said → saidNumber b ≡ call.answerOf said → x ≡ call.contentsOf before said → y ≡ call.contentsOf before said → (a ≡ b) × (x ≡ y)
 single-done before said a b x y p q r s = (single-number a b p q, r ∙ sym s)
+
+-- ---- a length beside what was lent
+
+abbrev lengthFrom : Said ℕ → Moved
+lengthFrom (good n) = Moved.Is n
+lengthFrom (refused number place) = Moved.Refused (refusalFrom place number)
+
+length-told : (a : Moved) → lengthFrom (saidMoved a) ≡ a
+length-told (Moved.Is n) = refl
+length-told (Moved.Refused r) = ap Moved.Refused (refusal-told r)
+
+-- Two results that a claim of a move allows are the same, the answer and the contents of what was lent.
+pub single-moved : (before : List ℕ) (said : Said call.Done) (a b : Moved) (x y : List ℕ) → saidMoved a ≡ call.answerOf said → saidMoved b ≡ call.answerOf said → x ≡ call.contentsOf before said → y ≡ call.contentsOf before said → (a ≡ b) × (x ≡ y)
+single-moved before said a b x y p q r s = (single saidMoved lengthFrom length-told a b p q, r ∙ sym s)
 
 -- ---- the four numbers of an entry
 

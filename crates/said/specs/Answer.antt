@@ -9,6 +9,7 @@ use Rattle.wgsl.specs.Call as wgsl
 use Rattle.said.specs.Refusal.{numberOf, placeOf}
 use Rattle.said.specs.declared.answer.Number.{Number}
 use Rattle.said.specs.declared.answer.Number.the-variants.{Is, Refused}
+use Rattle.said.specs.declared.answer.Moved.{Moved}
 use Rattle.said.specs.declared.answer.Maybe.{Maybe}
 use Rattle.said.specs.declared.answer.Sizes.{Sizes}
 use Rattle.said.specs.declared.answer.Answer.{Answer}
@@ -16,6 +17,10 @@ use Rattle.said.specs.declared.answer.Answer.{Answer}
 abbrev pub saidNumber : Number → Said ℕ
 saidNumber (Is n) = good n
 saidNumber (Refused r) = refused (numberOf r) (placeOf r)
+
+abbrev pub saidMoved : Moved → Said ℕ
+saidMoved (Moved.Is n) = good n
+saidMoved (Moved.Refused r) = refused (numberOf r) (placeOf r)
 
 abbrev pub maybeOf : Maybe → Option ℕ
 maybeOf Maybe.Absent = none
@@ -37,3 +42,7 @@ saidAnswer (Answer.Refused r) = refused (numberOf r) (placeOf r)
 -- the answer r, and `before` and `after` of what was lent to change, are what a call says
 abbrev pub Answered : Said wgsl.Done → Number → List ℕ → List ℕ → Type 0
 Answered said r before after = (saidNumber r ≡ wgsl.answerOf said) × (after ≡ wgsl.contentsOf before said)
+
+-- the same of a move
+abbrev pub AnsweredMove : Said wgsl.Done → Moved → List ℕ → List ℕ → Type 0
+AnsweredMove said r before after = (saidMoved r ≡ wgsl.answerOf said) × (after ≡ wgsl.contentsOf before said)

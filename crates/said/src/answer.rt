@@ -7,6 +7,12 @@ pub enum Number {
     Refused(Refusal),
 }
 
+// The length of a file that a move made, which need not fit 32 bits, or a refusal.
+pub enum Moved {
+    Is(usize),
+    Refused(Refusal),
+}
+
 // A number that may be absent.
 pub enum Maybe {
     Absent,

@@ -35,6 +35,8 @@ pub enum Refusal {
     NoRank,
     // 19, with the entry: one that breaks a rule of the uniform profile
     NotUniform(usize),
+    // 20: a name that is not 0
+    Named,
 }
 
 pub fn number(r: Refusal) -> u32
@@ -60,6 +62,7 @@ pub fn number(r: Refusal) -> u32
         Refusal::Long => 17,
         Refusal::NoRank => 18,
         Refusal::NotUniform(_) => 19,
+        Refusal::Named => 20,
     }
 }
 

@@ -51,4 +51,6 @@ all-cross f =
       uniform = λ e. whole _ (fits .uniform e);
       rank = λ x y. whole _ (fits .rank x y);
       common = λ es. whole _ (fits .common es);
+      to-form-2 = λ out. whole _ (answer-fits _ (fits .to-form-2 out));
+      to-form-1 = λ out. whole _ (answer-fits _ (fits .to-form-1 out));
     }

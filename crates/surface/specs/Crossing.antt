@@ -12,6 +12,7 @@ use Rattle.wgsl.specs.Path.{Target}
 use Rattle.wgsl.specs.Call.{Layout, answerOf, offsetOf, checkOf, sizeCall, alignCall, minSizeCall, layoutCall, readCall, writeCall, viewCall, setCall, rankCall, commonCall}
 use Rattle.wgsl.specs.BitFieldCall.{extractCall, insertCall}
 use Rattle.wgsl.specs.Uniform.{uniformCall}
+use Rattle.wgsl.specs.Form.{moveOnCall, moveBackCall}
 use Rattle.surface.specs.declared.Crossing.{Crossing}
 
 -- 0 and the value, or the refusal's number and place
@@ -63,3 +64,5 @@ pub record AllCross (f : List ℕ) : Type 0 where
   pub uniform : (e : ℕ) → CrossesWhole (uniformCall f e)
   pub rank : (x y : ℕ) → CrossesWhole (rankCall f x y)
   pub common : (es : List ℕ) → CrossesWhole (commonCall f es)
+  pub to-form-2 : (out : List ℕ) → CrossesWhole (answerOf (moveOnCall f out))
+  pub to-form-1 : (out : List ℕ) → CrossesWhole (answerOf (moveBackCall f out))

@@ -2,6 +2,7 @@
 // Rust (shim/src/surface.rs); a test holds it to this file.
 use said::answer::Answer;
 use said::answer::Maybe;
+use said::answer::Moved;
 use said::answer::Number;
 use said::refusal::number;
 use said::refusal::place;
@@ -11,7 +12,8 @@ ghost use Rattle.wgsl.specs.Call.{checkOf, sizeCall, alignCall, minSizeCall, la
 ghost use Rattle.wgsl.specs.BitField.{extractedU32, extractedI32, inserted, patternOf, signedOf};
 ghost use Rattle.wgsl.specs.BitFieldCall.{extractCall, insertCall};
 ghost use Rattle.wgsl.specs.Uniform.{uniformCall};
-ghost use Rattle.said.specs.Answer.{saidNumber, maybeOf};
+ghost use Rattle.wgsl.specs.Form.{moveOnCall, moveBackCall};
+ghost use Rattle.said.specs.Answer.{saidNumber, saidMoved, maybeOf};
 ghost use Rattle.surface.specs.Crossing.{crossed, crossedMaybe, told, laidOut, sizeOut};
 
 // An answer as it crosses to C: 0 or document 01's number, its place, the value (0 when refused).
@@ -37,6 +39,20 @@ fn cross(n: Number) -> Crossing
             place: place(r),
             value: 0,
         },
+    }
+}
+
+// A length or a refusal, as it crosses.
+fn cross_moved(m: Moved) -> Crossing
+    ensures { λ r. ⌜ r ≡ crossed (saidMoved m) ⌝ }
+{
+    match m {
+        Moved::Is(length) => Crossing {
+            refusal: 0,
+            place: 0,
+            value: length as u64,
+        },
+        Moved::Refused(r) => cross(Number::Refused(r)),
     }
 }
 
@@ -254,4 +270,20 @@ pub extern "C" fn lepugaso_surface_uniform(file: &[u8], entry: u32) -> Crossing
     ensures { λ r. ⌜ r ≡ crossed (uniformCall (now (file .entry)) entry) ⌝ }
 {
     cross(lepugaso::uniform(file, entry))
+}
+
+#[no_mangle]
+pub extern "C" fn lepugaso_surface_to_form_2(file: &[u8], out: &mut [u8]) -> Crossing
+    ensures answer { λ r. ⌜ r ≡ crossed (answerOf (moveOnCall (now (file .entry)) (now (out .entry)))) ⌝ }
+    ensures out { λ r. ⌜ now (out .exit) ≡ contentsOf (now (out .entry)) (moveOnCall (now (file .entry)) (now (out .entry))) ⌝ }
+{
+    cross_moved(lepugaso::to_form_2(file, out))
+}
+
+#[no_mangle]
+pub extern "C" fn lepugaso_surface_to_form_1(file: &[u8], out: &mut [u8]) -> Crossing
+    ensures answer { λ r. ⌜ r ≡ crossed (answerOf (moveBackCall (now (file .entry)) (now (out .entry)))) ⌝ }
+    ensures out { λ r. ⌜ now (out .exit) ≡ contentsOf (now (out .entry)) (moveBackCall (now (file .entry)) (now (out .entry))) ⌝ }
+{
+    cross_moved(lepugaso::to_form_1(file, out))
 }

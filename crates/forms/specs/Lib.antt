@@ -1,0 +1,3 @@
+-- What the moves say.
+pub mod Entries
+pub mod OfForm
