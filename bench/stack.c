@@ -1,6 +1,7 @@
 /* How much stack each call takes at the most of three tables of 256 entries, each within the next: nested arrays, nested structs, and both
- * in turn; views, sets and bit fields go by a path through all of them. The call runs in a thread whose stack was painted before; what is
- * no longer paint was used, the thread's own start included. Ends with 1 where a call takes more than the header says (LEPUGASO_STACK). */
+ * in turn; views, sets and bit fields go by a path through all of them, and what moves to form 1 is the table in form 2. The call runs in a
+ * thread whose stack was painted before; what is no longer paint was used, the thread's own start included. Ends with 1 where a call takes
+ * more than the header says (LEPUGASO_STACK). */
 #include <pthread.h>
 #include <stdio.h>
 #include <stdlib.h>
@@ -10,14 +11,18 @@
 
 enum { ENTRIES = 256, STACK = 1 << 20, PAINT = 0xa5 };
 
-static uint8_t file[12 * ENTRIES + 12 * ENTRIES + 10], buf[16];
-static size_t file_len;
+static uint8_t file[12 * ENTRIES + 12 * ENTRIES + 10], form_2[12 * ENTRIES + 16 * ENTRIES + 10], moved[sizeof form_2], buf[16];
+static size_t file_len, form_2_len;
 static uint32_t words[3] = {1, 2, 3};
 static const uint32_t seven = 7;
 static uint32_t path[ENTRIES - 1];
-static enum { CHECK, SIZE, ALIGN, MIN_SIZE, LAYOUT_OF, UNIFORM, RANK, COMMON, WRITE, READ, VIEW, SET, INSERT, EXTRACT, CALLS } way;
-static const char *const names[CALLS] = {"check",  "size",  "align", "min_size", "layout_of", "uniform",     "rank",
-                                         "common", "write", "read",  "view",     "set",       "insert_bits", "extract_bits"};
+static enum {
+    CHECK, SIZE, ALIGN, MIN_SIZE, LAYOUT_OF, UNIFORM, RANK, COMMON, TO_FORM_2, TO_FORM_1, WRITE, READ, VIEW, SET, INSERT, EXTRACT, CALLS
+} way;
+static const char *const names[CALLS] = {
+    "check",     "size",  "align", "min_size", "layout_of", "uniform",     "rank",        "common", "to_form_2",
+    "to_form_1", "write", "read",  "view",     "set",       "insert_bits", "extract_bits",
+};
 enum { ARRAYS, STRUCTS, BOTH, TABLES };
 static lepugaso_answer answer;
 
@@ -48,6 +53,7 @@ static void nest(int table) {
     for (int m = 0; m < members; m++, end += 12) end[0] = types[m];
     end[1] = 1, end[2] = (uint8_t)members, end[8] = 1;
     file_len = (size_t)(end - file) + 10;
+    form_2_len = (size_t)lepugaso_to_form_2(file, file_len, form_2, sizeof form_2).value;
 }
 
 static void *call(void *unused) {
@@ -64,6 +70,8 @@ static void *call(void *unused) {
     case UNIFORM: answer = lepugaso_uniform(file, file_len, last); break;
     case RANK: answer = lepugaso_rank(file, file_len, last, last); break;
     case COMMON: answer = lepugaso_common(file, file_len, list, 2); break;
+    case TO_FORM_2: answer = lepugaso_to_form_2(file, file_len, moved, sizeof moved); break;
+    case TO_FORM_1: answer = lepugaso_to_form_1(form_2, form_2_len, moved, sizeof moved); break;
     case WRITE: answer = lepugaso_write(file, file_len, last, words, 3, buf, sizeof buf); break;
     case READ: answer = lepugaso_read(file, file_len, last, buf, sizeof buf, words, 3); break;
     case VIEW: answer = lepugaso_view(file, file_len, last, path, ENTRIES - 1, buf, sizeof buf, &part, &part_len); break;

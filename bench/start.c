@@ -21,7 +21,7 @@ int main(void) {
     double best[WAYS] = {1e9, 1e9, 1e9, 1e9, 1e9, 1e9, 1e9};
     for (int turn = 0; turn < 40; turn++) {
         for (int way = REFUSED; way < WAYS; way++) {
-            file[20] = way == REFUSED ? 2 : 1;
+            file[20] = way == REFUSED ? 3 : 1;
             double began = now();
             for (int i = 0; i < 2000; i++) {
                 switch (way) {

@@ -29,7 +29,11 @@
 #define MEMBER_SIZE(type, size) LE16(type), LE16(1), LE32(size), LE32(0)
 #define MEMBER_ALIGN(type, align) LE16(type), LE16(2), LE32(0), LE32(align)
 
+/* The same in form 2, which has a name number after each; 0 for none. */
+#define NAMED(name, ...) __VA_ARGS__, LE32(name)
+
 /* types; members; start; form */
 #define TRAILER(types, members) LE16(types), LE16(members), LE32(0), LE16(1)
+#define TRAILER_2(types, members) LE16(types), LE16(members), LE32(0), LE16(2)
 
 #endif

@@ -3,15 +3,16 @@
  * A layout file describes types as numbered entries; every call takes one, as bytes, and asks something of it, but for the four on bit
  * fields of a number. Nothing is kept between calls, nothing is allocated, and any bytes and any numbers may be passed: what cannot be
  * answered is refused with a number. Threads may call at the same time. No call takes more than LEPUGASO_STACK bytes of stack: 130 KiB to
- * write or read types that nest 256 deep, 62 KiB to view, set or use bit fields along such a path, 32 KiB to ask anything else.
+ * write or read types that nest 256 deep, 62 KiB to view, set or use bit fields along such a path, 36 KiB to ask anything else.
  *
  * For x86-64 Linux. Link liblepugaso.a, which needs nothing but memcpy, memmove and memset, or liblepugaso.so.
  *
  * The layout file, its numbers little-endian:
  *
  *     from byte `start` on  the types, 12 bytes each: kind u8, columns u8, rows u8, 0 u8, reference u16, 0 u16, count u32
- *     then                  the members, 12 bytes each: type u16, flags u16, size u32, align u32
- *     at the end            10 bytes: number of types u16 (1 to 256), of members u16 (at most 1,024), start u32, form u16 (1)
+ *     then                  the members, 12 bytes each: type u16, flags u16, size u32, align u32; in form 2 16 bytes each: the same, and
+ *                           name u32 (0 for none)
+ *     at the end            10 bytes: number of types u16 (1 to 256), of members u16 (at most 1,024), start u32, form u16 (1 or 2)
  *
  *     kinds 0 to 6          bool, i32, u32, f32, f16, abstract int, abstract float
  *     7 vector              rows 2 to 4, reference to a kind 0 to 6 or 13 to 15
@@ -25,6 +26,7 @@
  * Types and members are numbered from 0. A type refers, itself or by its members, to types of lower numbers. Flag 1 of a member says that
  * a size is given, flag 2 an align. What is not used is 0. examples/layout_file.h writes such a file as an initializer in C. A vector of
  * three i64, u64 or f64 has 24 bytes and no alignment: no struct and no runtime array holds one, and it is not written, read or viewed.
+ * Both forms get the same answers: a member's name is a number for tools, and no call but lepugaso_to_form_1 looks at it.
  *
  * What is written to a buffer and read from it are words: a uint32_t for each scalar of a type, in order of offset, and two for an i64, u64
  * or f64, its low 32 bits first. An i32 or i64 is its two's complement, an f32 or f64 its bits, an f16 its bits, 0 to 65,535; an atomic is
@@ -79,7 +81,7 @@ typedef struct lepugaso_layout {
 
 /* The file is refused as a whole. Every call that takes one gives these, in this order. */
 #define LEPUGASO_REFUSED_SHORT_FILE 1u /* fewer than 10 bytes */
-#define LEPUGASO_REFUSED_FORM 2u       /* the form is not 1 */
+#define LEPUGASO_REFUSED_FORM 2u       /* the form is neither 1 nor 2; for a move between the two, not the one it starts from */
 #define LEPUGASO_REFUSED_COUNTS 3u     /* not 1 to 256 types, or more than 1,024 members */
 #define LEPUGASO_REFUSED_LENGTH 4u     /* the length is not what the trailer says */
 
@@ -103,6 +105,7 @@ typedef struct lepugaso_layout {
 #define LEPUGASO_REFUSED_LONG_BUFFER 17u  /* the buffer is above 4,294,967,295 bytes */
 #define LEPUGASO_REFUSED_NO_RANK 18u      /* no rank, no common type, or an empty list */
 #define LEPUGASO_REFUSED_UNIFORM 19u      /* a rule of uniform buffers is broken; place is the entry that breaks it */
+#define LEPUGASO_REFUSED_NAMED 20u        /* a member has a name, which form 1 has no room for */
 
 /* How many entries the file has. Refuses 1 to 7. */
 lepugaso_answer lepugaso_check(const uint8_t *file, size_t file_len);
@@ -199,6 +202,19 @@ lepugaso_answer lepugaso_insert_bits(const uint8_t *file, size_t file_len, uint3
  * asked for and all that it is made of. That is an atomic, an array whose stride is no multiple of 16, or a struct in which a member stands
  * wrong, and not the type of that member. */
 lepugaso_answer lepugaso_uniform(const uint8_t *file, size_t file_len, uint32_t entry);
+
+/* Writes a form 1 file as a form 2 file without names to the front of `out`. The value is the length of that: 4 bytes more for each member,
+ * and so at most 4,096 more than `file_len`. It may be above 32 bits, and so may `out_len`. Bytes before `start` and the types are as they
+ * were; later bytes of `out` stay. No byte of `out` may be one of the file's, not even one that would stay: a file is not moved in place.
+ * Refuses 1, 2 (the form is not 1), 3 to 7, then 15 (`out` is below the new length), and leaves `out` as it was. */
+lepugaso_answer lepugaso_to_form_2(const uint8_t *file, size_t file_len, uint8_t *out, size_t out_len);
+
+/* Writes a form 2 file without names as a form 1 file to the front of `out`, in the same way: lepugaso_to_form_2 undone. The value is its
+ * length, 4 bytes less for each member. A name that is not 0 would be lost, so that such a file is refused, whether a struct has that
+ * member or none.
+ * Refuses 1, 2 (the form is not 2), 3 to 7, then 20 (a member has a name), 15 (`out` is below the new length), and leaves `out` as it
+ * was. */
+lepugaso_answer lepugaso_to_form_1(const uint8_t *file, size_t file_len, uint8_t *out, size_t out_len);
 
 #ifdef __cplusplus
 }

@@ -427,3 +427,44 @@ pub unsafe extern "C" fn lepugaso_uniform(file: *const u8, file_len: usize, entr
         None => BAD_POINTER,
     }
 }
+
+/// A form 1 file as a form 2 file without names, into the front of `out`.
+///
+/// # Safety
+/// As `lepugaso_check`.
+#[no_mangle]
+pub unsafe extern "C" fn lepugaso_to_form_2(
+    file: *const u8,
+    file_len: usize,
+    out: *mut u8,
+    out_len: usize,
+) -> Crossing {
+    match (Lent::new(file, file_len), Lent::new(out, out_len)) {
+        // SAFETY: the caller lends both, `out` to be written, and their pointers have passed the tests of a slice's. No byte of `out` is
+        // the file's.
+        (Some(file), Some(out)) if out.is_apart_from(&file) => unsafe {
+            lepugaso_surface_to_form_2(file.start(), file.count(), out.start(), out.count())
+        },
+        _ => BAD_POINTER,
+    }
+}
+
+/// A form 2 file without names as a form 1 file, into the front of `out`.
+///
+/// # Safety
+/// As `lepugaso_check`.
+#[no_mangle]
+pub unsafe extern "C" fn lepugaso_to_form_1(
+    file: *const u8,
+    file_len: usize,
+    out: *mut u8,
+    out_len: usize,
+) -> Crossing {
+    match (Lent::new(file, file_len), Lent::new(out, out_len)) {
+        // SAFETY: as above.
+        (Some(file), Some(out)) if out.is_apart_from(&file) => unsafe {
+            lepugaso_surface_to_form_1(file.start(), file.count(), out.start(), out.count())
+        },
+        _ => BAD_POINTER,
+    }
+}

@@ -89,4 +89,6 @@ extern "C" {
         buf_len: usize,
     ) -> Crossing;
     pub fn lepugaso_surface_uniform(file: *const u8, file_len: usize, entry: u32) -> Crossing;
+    pub fn lepugaso_surface_to_form_2(file: *const u8, file_len: usize, out: *mut u8, out_len: usize) -> Crossing;
+    pub fn lepugaso_surface_to_form_1(file: *const u8, file_len: usize, out: *mut u8, out_len: usize) -> Crossing;
 }

@@ -1,5 +1,6 @@
-/* Every call on a good file, and every refusal of documents 01 and 02 that it can give; bit fields are in fields.c. What is lent stands at
- * the end of a page after which nothing can be touched, and what is lent to be read cannot be written. */
+/* Every call on a good file, and every refusal of documents 01 and 02 that it can give; bit fields are in fields.c, the two forms of a
+ * file and the moves between them in forms.c. What is lent stands at the end of a page after which nothing can be touched, and what is lent
+ * to be read cannot be written. */
 #include "pages.h"
 #include "test.h"
 
@@ -27,7 +28,11 @@ static const struct {
     const uint8_t *bytes;
 } bad_files[] = {
     BAD(LEPUGASO_REFUSED_SHORT_FILE, 0, 1, 0, 0, 0, 0, 0, 0, 0, 1),
-    BAD(LEPUGASO_REFUSED_FORM, 0, U32, LE16(1), LE16(0), LE32(0), LE16(2)),
+    BAD(LEPUGASO_REFUSED_FORM, 0, U32, LE16(1), LE16(0), LE32(0), LE16(0)),
+    BAD(LEPUGASO_REFUSED_FORM, 0, U32, LE16(1), LE16(0), LE32(0), LE16(3)),
+    BAD(LEPUGASO_REFUSED_FORM, 0, U32, LE16(1), LE16(0), LE32(0), LE16(257)),
+    BAD(LEPUGASO_REFUSED_FORM, 0, U32, LE16(1), LE16(0), LE32(0), LE16(258)),
+    BAD(LEPUGASO_REFUSED_FORM, 0, U32, LE16(1), LE16(0), LE32(0), LE16(65535)),
     BAD(LEPUGASO_REFUSED_COUNTS, 0, TRAILER(0, 0)),
     BAD(LEPUGASO_REFUSED_LENGTH, 0, U32, TRAILER(2, 0)),
     BAD(LEPUGASO_REFUSED_RULE, 1, U32, VECTOR(5, 0), TRAILER(2, 0)),
@@ -47,7 +52,7 @@ static const struct {
     BAD(LEPUGASO_REFUSED_TOO_LARGE, 1, I64, ARRAY(0, 536870912u), TRAILER(2, 0)),
 };
 
-/* A refused file is refused by every call alike. */
+/* A refused file is refused by every call alike, but for the move from form 2, which none of these has. */
 static void refused_files(void) {
     static const uint32_t list[] = {0};
     static const uint8_t bytes[] = {1, 2, 3, 4};
@@ -78,6 +83,8 @@ static void refused_files(void) {
         EXPECT(lepugaso_extract_bits(file, length, 0, NULL, 0, bytes, sizeof bytes, 0, 12), refusal, place, 0);
         EXPECT(lepugaso_insert_bits(file, length, 0, NULL, 0, 1, 0, 12, buf, sizeof buf), refusal, place, 0);
         EXPECT(lepugaso_uniform(file, length, 0), refusal, place, 0);
+        EXPECT(lepugaso_to_form_2(file, length, buf, sizeof buf), refusal, place, 0);
+        EXPECT(lepugaso_to_form_1(file, length, buf, sizeof buf), length < 10 ? LEPUGASO_REFUSED_SHORT_FILE : LEPUGASO_REFUSED_FORM, 0, 0);
         HOLDS(buf[0] == 6 && buf[1] == 7 && buf[2] == 8 && buf[3] == 9);
     }
 }

@@ -9,7 +9,7 @@
 /* 0 is f32 and 1 is mat2x2<f32>. Each from 2 to 254 is struct {f32, f32, f32, the one before}: 16 bytes more than that, and 3 words more.
  * 255 is a struct of all members: those of all structs before it, then 11 f32, the first of them with align 16, and 254. So 254 steps lead
  * from 255 to the matrix, the last scalar of all is two more away, and no path to anything has more steps than these 256. */
-enum { TYPES = 256, MEMBERS = 1024, LENGTH = 12 * (TYPES + MEMBERS) + 10, LAST = TYPES - 1 };
+enum { TYPES = 256, MEMBERS = 1024, LENGTH = 12 * (TYPES + MEMBERS) + 10, LENGTH_2 = LENGTH + 4 * MEMBERS, LAST = TYPES - 1 };
 enum { ROWS = 254 * 255 / 2 - 1 + 3 + 254, SIZE = 16 * ROWS, WORDS = 98179, STEPS = 256 };
 
 /* `length` bytes, all 0, of which only those of the first and the last pages can be touched. */
@@ -21,28 +21,39 @@ static uint8_t *far(size_t length) {
     return pages + room - length;
 }
 
-/* The file with `start` bytes before its types. */
-static const uint8_t *large_file(uint32_t start) {
-    uint8_t *types = far((size_t)start + LENGTH) + start, *to = types;
+/* The file from its types on, in form 1, or in form 2 without names; `start` bytes stand before them. */
+static void put_large(uint8_t *to, uint32_t start, uint32_t form) {
 #define PUT(...)                               \
     do {                                       \
         const uint8_t bytes[] = {__VA_ARGS__}; \
         memcpy(to, bytes, sizeof bytes);       \
         to += sizeof bytes;                    \
     } while (0)
+#define PUT_MEMBER(...)                 \
+    do {                                \
+        PUT(__VA_ARGS__);               \
+        if (form == 2) PUT(0, 0, 0, 0); \
+    } while (0)
     PUT(F32);
     PUT(MATRIX(2, 2, 0));
     for (uint32_t k = 2; k < LAST; k++) PUT(STRUCT(4 * (k - 2), 4));
     PUT(STRUCT(0, MEMBERS));
     for (uint32_t k = 2; k < LAST; k++) {
-        for (int scalar = 0; scalar < 3; scalar++) PUT(MEMBER(0));
-        PUT(MEMBER(k - 1));
+        for (int scalar = 0; scalar < 3; scalar++) PUT_MEMBER(MEMBER(0));
+        PUT_MEMBER(MEMBER(k - 1));
     }
-    PUT(MEMBER_ALIGN(0, 16));
-    for (int scalar = 1; scalar < 11; scalar++) PUT(MEMBER(0));
-    PUT(MEMBER(LAST - 1));
-    PUT(LE16(TYPES), LE16(MEMBERS), LE32(start), LE16(1));
+    PUT_MEMBER(MEMBER_ALIGN(0, 16));
+    for (int scalar = 1; scalar < 11; scalar++) PUT_MEMBER(MEMBER(0));
+    PUT_MEMBER(MEMBER(LAST - 1));
+    PUT(LE16(TYPES), LE16(MEMBERS), LE32(start), LE16(form));
+#undef PUT_MEMBER
 #undef PUT
+}
+
+/* The same in form 1, with the bytes before it, most of which cannot be touched where there are many. */
+static const uint8_t *large_file(uint32_t start) {
+    uint8_t *types = far((size_t)start + LENGTH) + start;
+    put_large(types, start, 1);
     return sealed(types, LENGTH) - start;
 }
 
@@ -244,6 +255,17 @@ static void long_lengths(const uint8_t *file, const uint8_t *large) {
         EXPECT(lepugaso_insert_bits(file, sizeof few, 1, NULL, 0, 5, 2, 3, bytes, length), 0, 0, 0);
         EXPECT(lepugaso_extract_bits(file, sizeof few, 1, NULL, 0, bytes, length, 0, 8), 0, 0, 0x17);
     }
+    /* The room for a moved file has no greatest length. */
+    uint8_t *few_2 = fresh(sizeof few);
+    memcpy(few_2, few, sizeof few);
+    few_2[sizeof few - 2] = 2;
+    for (uint32_t bit = 6; bit <= 33; bit++) {
+        size_t room = (size_t)1 << bit;
+        EXPECT(lepugaso_to_form_2(file, sizeof few, bytes, room), 0, 0, sizeof few);
+        HOLDS(memcmp(bytes, few_2, sizeof few) == 0);
+        EXPECT(lepugaso_to_form_1(few_2, sizeof few, bytes, room + 9), 0, 0, sizeof few);
+        HOLDS(memcmp(bytes, few, sizeof few) == 0);
+    }
     size_t length = ((size_t)1 << 32) + 4;
     EXPECT(lepugaso_write(file, sizeof few, 1, &word, 1, bytes, length), LEPUGASO_REFUSED_LONG_BUFFER, 0, 0);
     EXPECT(lepugaso_read(file, sizeof few, 1, bytes, length, &word, 1), LEPUGASO_REFUSED_LONG_BUFFER, 0, 0);
@@ -272,8 +294,56 @@ static void long_lengths(const uint8_t *file, const uint8_t *large) {
     }
 }
 
+/* A file moved with the room for it alone, and refused with a byte less. */
+static void moved(lepugaso_answer (*move)(const uint8_t *, size_t, uint8_t *, size_t), const uint8_t *from, size_t from_len,
+                  const uint8_t *to, size_t to_len) {
+    uint8_t *out = fresh(to_len);
+    EXPECT(move(from, from_len, out + 1, to_len - 1), LEPUGASO_REFUSED_SHORT_BUFFER, 0, 0);
+    HOLDS(out[0] == 0 && memcmp(out, out + 1, to_len - 1) == 0);
+    EXPECT(move(from, from_len, out, to_len), 0, 0, to_len);
+    HOLDS(memcmp(out, to, to_len) == 0);
+}
+
+/* Both ways between the forms, the bytes before the types moved too; and what is asked of form 1, asked of form 2. */
+static void moves(uint32_t start) {
+    size_t length = start + (size_t)LENGTH, length_2 = start + (size_t)LENGTH_2;
+    uint8_t *one = fresh(length), *two = fresh(length_2);
+    for (size_t k = 0; k < start; k++) one[k] = two[k] = (uint8_t)(k * 2654435761u >> 24);
+    put_large(one + start, start, 1);
+    put_large(two + start, start, 2);
+    moved(lepugaso_to_form_2, sealed(one, length), length, two, length_2);
+    moved(lepugaso_to_form_1, sealed(two, length_2), length_2, one, length);
+    questions(two, length_2);
+    many_words(two, length_2);
+    many_steps(two, length_2);
+}
+
+/* With the most bytes before the types the new length has more than 32 bits, and so has the room. A move that is not refused is not run:
+ * it copies 4 GiB. */
+static void far_moves(void) {
+    const uint32_t start = UINT32_MAX;
+    const size_t length = start + (size_t)LENGTH, length_2 = start + (size_t)LENGTH_2;
+    const uint8_t *one = large_file(start);
+    uint8_t *two = far(length_2), *out = far(length_2 - 1), *name = two + length_2 - 10 - 4;
+    put_large(two + start, start, 2);
+    const size_t rooms[] = {0, (uint32_t)length, (uint32_t)length_2, start, length - 1, length_2 - 1};
+    for (size_t k = 0; k < sizeof rooms / sizeof rooms[0]; k++) {
+        EXPECT(lepugaso_to_form_2(one, length, out, rooms[k]), LEPUGASO_REFUSED_SHORT_BUFFER, 0, 0);
+        if (rooms[k] < length) EXPECT(lepugaso_to_form_1(two, length_2, out, rooms[k]), LEPUGASO_REFUSED_SHORT_BUFFER, 0, 0);
+    }
+    EXPECT(lepugaso_to_form_1(one, length, out, 0), LEPUGASO_REFUSED_FORM, 0, 0);
+    EXPECT(lepugaso_to_form_2(two, length_2, out, 0), LEPUGASO_REFUSED_FORM, 0, 0);
+    EXPECT(lepugaso_check(two, length_2), 0, 0, TYPES);
+    name[3] = 1;
+    EXPECT(lepugaso_to_form_1(two, length_2, out, length), LEPUGASO_REFUSED_NAMED, 0, 0);
+    EXPECT(lepugaso_to_form_1(two, length_2, out, 0), LEPUGASO_REFUSED_NAMED, 0, 0);
+    EXPECT(lepugaso_check(two, length_2), 0, 0, TYPES);
+    HOLDS(out[0] == 0 && memcmp(out, out + 1, 7 * PAGE - 1) == 0);
+    HOLDS(memcmp(out, out + length_2 - 1 - 7 * PAGE, 7 * PAGE) == 0);
+}
+
 int main(void) {
-    /* What lies before the types is not looked at, so a file's length may have more than 16 bits, and more than 32. */
+    /* What lies before the types only a move looks at, so a file's length may have more than 16 bits, and more than 32. */
     static const uint32_t starts[] = {0, 65536, UINT32_MAX};
     const uint8_t *file = lent(few, sizeof few), *large = large_file(0);
     fill_rows();
@@ -286,6 +356,9 @@ int main(void) {
         many_steps(at, length);
         no_entries(at, length);
     }
+    moves(0);
+    moves(65536);
+    far_moves();
     long_lists(file);
     large_steps(file, large);
     long_lengths(file, large);

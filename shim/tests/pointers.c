@@ -32,6 +32,8 @@ static void bad_file(const uint8_t *at, size_t length) {
     REFUSED(lepugaso_extract_bits(at, length, 0, NULL, 0, bytes, sizeof bytes, 0, 12));
     REFUSED(lepugaso_insert_bits(at, length, 0, NULL, 0, 1, 0, 12, buf, sizeof buf));
     REFUSED(lepugaso_uniform(at, length, 0));
+    REFUSED(lepugaso_to_form_2(at, length, buf, sizeof buf));
+    REFUSED(lepugaso_to_form_1(at, length, buf, sizeof buf));
     HOLDS(buf[0] == 6 && buf[1] == 7 && buf[2] == 8 && buf[3] == 9);
 }
 
@@ -62,6 +64,8 @@ static void files(void) {
     EXPECT(lepugaso_extract_bits(NULL, 0, 0, NULL, 0, buf, sizeof buf, 0, 12), LEPUGASO_REFUSED_SHORT_FILE, 0, 0);
     EXPECT(lepugaso_insert_bits(NULL, 0, 0, NULL, 0, 1, 0, 12, buf, sizeof buf), LEPUGASO_REFUSED_SHORT_FILE, 0, 0);
     EXPECT(lepugaso_uniform(NULL, 0, 0), LEPUGASO_REFUSED_SHORT_FILE, 0, 0);
+    EXPECT(lepugaso_to_form_2(NULL, 0, buf, sizeof buf), LEPUGASO_REFUSED_SHORT_FILE, 0, 0);
+    EXPECT(lepugaso_to_form_1(NULL, 0, buf, sizeof buf), LEPUGASO_REFUSED_SHORT_FILE, 0, 0);
     EXPECT(lepugaso_check(last, 0), LEPUGASO_REFUSED_SHORT_FILE, 0, 0);
 }
 
@@ -402,6 +406,72 @@ static void read_only_overlaps(void) {
            0, 1);
 }
 
+/* One table in both forms, to be moved from either to the other. */
+static const uint8_t form_1[] = {U32, STRUCT(0, 1), MEMBER(0), TRAILER(2, 1)};
+static const uint8_t form_2[] = {U32, STRUCT(0, 1), NAMED(0, MEMBER(0)), TRAILER_2(2, 1)};
+
+/* Where a moved file cannot go. */
+static void bad_out(uint8_t *at, size_t length) {
+    REFUSED(lepugaso_to_form_2(form_1, sizeof form_1, at, length));
+    REFUSED(lepugaso_to_form_1(form_2, sizeof form_2, at, length));
+    /* Before any number of document 01. */
+    REFUSED(lepugaso_to_form_2(NULL, 0, at, length));
+    REFUSED(lepugaso_to_form_1(NULL, 0, at, length));
+}
+
+static void moves(void) {
+    uint8_t out[64], expected[64];
+    memset(out, 0xA5, sizeof out);
+    memset(expected, 0xA5, sizeof expected);
+    bad_out(NULL, 1);
+    bad_out(out, SIZE_MAX);
+    bad_out(out, (size_t)PTRDIFF_MAX + 1);
+    bad_out((uint8_t *)UINTPTR_MAX, 1);
+
+    /* Null with length 0 is an empty output; so is any other pointer with length 0, and it is not looked at. */
+    EXPECT(lepugaso_to_form_2(form_1, sizeof form_1, NULL, 0), LEPUGASO_REFUSED_SHORT_BUFFER, 0, 0);
+    EXPECT(lepugaso_to_form_1(form_2, sizeof form_2, NULL, 0), LEPUGASO_REFUSED_SHORT_BUFFER, 0, 0);
+    EXPECT(lepugaso_to_form_2(form_1, sizeof form_1, (uint8_t *)UINTPTR_MAX, 0), LEPUGASO_REFUSED_SHORT_BUFFER, 0, 0);
+    EXPECT(lepugaso_to_form_1(form_2, sizeof form_2, (uint8_t *)UINTPTR_MAX, 0), LEPUGASO_REFUSED_SHORT_BUFFER, 0, 0);
+
+    /* An empty file shares no byte with the output that it lies in. */
+    EXPECT(lepugaso_to_form_2(out + 8, 0, out, sizeof out), LEPUGASO_REFUSED_SHORT_FILE, 0, 0);
+    EXPECT(lepugaso_to_form_1(out + 8, 0, out, sizeof out), LEPUGASO_REFUSED_SHORT_FILE, 0, 0);
+    HOLDS(memcmp(out, expected, sizeof out) == 0);
+
+    /* A file is not moved in place, though it be refused otherwise. */
+    memcpy(out, form_1, sizeof form_1);
+    memcpy(expected, form_1, sizeof form_1);
+    REFUSED(lepugaso_to_form_2(out, sizeof form_1, out, sizeof out));
+    REFUSED(lepugaso_to_form_1(out, sizeof form_1, out, sizeof out));
+    REFUSED(lepugaso_to_form_2(out, 1, out, sizeof out));
+    REFUSED(lepugaso_to_form_2(out, sizeof form_1, out + sizeof form_1 - 1, 1));
+    HOLDS(memcmp(out, expected, sizeof out) == 0);
+}
+
+/* The output at each place around a file: refused exactly where the two share a byte, be it one that would stay, and then nothing is
+ * touched; else the moved file is there, and nothing else has changed. An empty output shares none, wherever it lies. */
+static void moved_overlaps(void) {
+    enum { ROOM = 256, AT = 100 };
+    for (int back = 0; back < 2; back++) {
+        const uint8_t *from = back ? form_2 : form_1, *to = back ? form_1 : form_2;
+        size_t from_len = back ? sizeof form_2 : sizeof form_1, to_len = back ? sizeof form_1 : sizeof form_2, length = to_len + 3;
+        lepugaso_answer (*move)(const uint8_t *, size_t, uint8_t *, size_t) = back ? lepugaso_to_form_1 : lepugaso_to_form_2;
+        for (size_t at = 0; at + length <= ROOM; at++) {
+            uint8_t memory[ROOM], expected[ROOM];
+            for (size_t k = 0; k < ROOM; k++) memory[k] = (uint8_t)(k + 1);
+            memcpy(memory + AT, from, from_len);
+            memcpy(expected, memory, ROOM);
+            EXPECT(move(memory + AT, from_len, memory + at, 0), LEPUGASO_REFUSED_SHORT_BUFFER, 0, 0);
+            HOLDS(memcmp(memory, expected, ROOM) == 0);
+            int shared = shares(at, length, AT, from_len);
+            if (!shared) memcpy(expected + at, to, to_len);
+            EXPECT(move(memory + AT, from_len, memory + at, length), shared ? LEPUGASO_BAD_POINTER : 0, 0, shared ? 0 : to_len);
+            HOLDS(memcmp(memory, expected, ROOM) == 0);
+        }
+    }
+}
+
 int main(void) {
     files();
     entry_lists();
@@ -413,5 +483,7 @@ int main(void) {
     path_overlaps();
     wide_overlaps();
     read_only_overlaps();
+    moves();
+    moved_overlaps();
     return failures != 0;
 }
