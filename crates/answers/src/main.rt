@@ -1,4 +1,4 @@
-// Answers questions about layout files: reads them on standard input and writes a line for each (oracle/README.md, version 7).
+// Answers questions about layout files: reads them on standard input and writes a line for each (oracle/README.md, version 8).
 mod lines;
 mod question;
 mod say;
@@ -62,9 +62,9 @@ fn main() {
     let n = io::read_full(STDIN_FILENO, &mut input);
     let text = &input[..n];
     let first = next(text, 0, 10);
-    if !same(&text[..first], b"questions 7") {
-        return say(b"not questions 7\n");
+    if !same(&text[..first], b"questions 8") {
+        return say(b"not questions 8\n");
     }
-    say(b"answers 7\n");
+    say(b"answers 8\n");
     answer_all(text, first + 1, &mut file, &mut buffer);
 }

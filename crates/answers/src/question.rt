@@ -5,6 +5,7 @@ use crate::lines::same;
 use crate::say::say;
 use crate::say::say_bytes;
 use crate::say::say_layout;
+use crate::say::say_moved;
 use crate::say::say_number;
 use crate::say::say_plain;
 use crate::say::say_walked;
@@ -22,11 +23,14 @@ use lepugaso::rank;
 use lepugaso::read;
 use lepugaso::set;
 use lepugaso::size;
+use lepugaso::to_form_1;
+use lepugaso::to_form_2;
 use lepugaso::uniform;
 use lepugaso::view;
 use lepugaso::view_at;
 use lepugaso::view_mut;
 use lepugaso::write;
+use said::answer::Moved;
 use said::answer::Number;
 ghost use Prim.Native.Nat.{_≤_};
 ghost use lib.ListN.{length};
@@ -129,6 +133,24 @@ fn answer_insert(
     say(b"\n");
 }
 
+// Moves a file to form 1 or 2.
+fn moved(file: &[u8], form_1: bool, out: &mut [u8]) -> Moved {
+    if form_1 {
+        return to_form_1(file, out);
+    }
+    to_form_2(file, out)
+}
+
+// Moves a file into a copy of the buffer, and says what the copy holds then.
+fn answer_move(file: &[u8], form_1: bool, held: &[u8]) {
+    let mut buffer = io::buffer();
+    let p = copy(held, &mut buffer);
+    let n = p.count;
+    say_moved(moved(file, form_1, &mut buffer[..n]));
+    say_bytes(&buffer[..n]);
+    say(b"\n");
+}
+
 // The questions with one entry.
 fn answer_entry(file: &[u8], word: &[u8], entry: u32) {
     if same(word, b"size") {
@@ -188,6 +210,14 @@ pub fn answer_line(file: &[u8], held: &[u8], line: &[u8], word: usize)
     let n = p.count;
     if !p.good {
         return say(b"not a question\n");
+    }
+    if n == 0 {
+        if same(&line[..word], b"to_form_1") {
+            return answer_move(file, true, held);
+        }
+        if same(&line[..word], b"to_form_2") {
+            return answer_move(file, false, held);
+        }
     }
     if 0 < n {
         if same(&line[..word], b"write") {

@@ -3,6 +3,7 @@ use crate::lines::spell;
 use libc::STDOUT_FILENO;
 use said::answer::Answer;
 use said::answer::Maybe;
+use said::answer::Moved;
 use said::answer::Number;
 use said::refusal::Refusal;
 use said::refusal::number;
@@ -27,6 +28,16 @@ pub fn say_plain(n: Number) {
             io::print_decimal(STDOUT_FILENO, v as u64);
         }
         Number::Refused(r) => say_refused(r),
+    }
+}
+
+// The answer of a move, without the end of its line.
+pub fn say_moved(m: Moved) {
+    match m {
+        Moved::Is(v) => {
+            io::print_decimal(STDOUT_FILENO, v as u64);
+        }
+        Moved::Refused(r) => say_refused(r),
     }
 }
 

@@ -31,6 +31,8 @@ const PLAN: Plan = Plan {
     long_edges: 1,
     long_counts: 1,
     longs: 12_000,
+    forms: 20_000,
+    outputs: 4088,
 };
 
 const RECORDED: Plan = Plan {
@@ -41,7 +43,7 @@ const RECORDED: Plan = Plan {
     random: 60,
     limits: 20,
     large: 0,
-    damaged: 300,
+    damaged: 160,
     rounds: 1,
     fields: 1,
     packed: 1,
@@ -52,6 +54,8 @@ const RECORDED: Plan = Plan {
     long_edges: 100,
     long_counts: 2,
     longs: 3,
+    forms: 10,
+    outputs: 150,
 };
 
 fn read(path: &str) -> String {
@@ -98,6 +102,7 @@ pub fn ask(seed: u64, document: &str, folder: &str) -> bool {
     generate::uniform_blocks(seed, &PLAN, &mut put);
     generate::bool_blocks(seed, &PLAN, &mut put);
     generate::long_blocks(seed, &PLAN, &mut put);
+    generate::form_blocks(seed, &PLAN, &mut put);
     flush(&mut text);
     println!("{files:9} files in all, seed {seed}");
     true
@@ -121,7 +126,7 @@ pub fn answer(questions: &str) -> String {
 fn due(block: &Block) -> Vec<Due> {
     let checked = model::check(&block.file);
     let nodes = Table::read(&block.file).map_or(vec![], |t| types::nodes(&t));
-    block.questions.iter().map(|q| model::answer(&checked, &nodes, q)).collect()
+    block.questions.iter().map(|q| model::answer(&block.file, &checked, &nodes, q)).collect()
 }
 
 /// Holds the document to the rows and to what both sides said of its examples.
@@ -226,6 +231,7 @@ pub fn record(document: &str, folder: &str) -> bool {
     generate::uniform_blocks(1, &RECORDED, |b| blocks.push(b));
     generate::bool_blocks(1, &RECORDED, |b| blocks.push(b));
     generate::long_blocks(1, &RECORDED, |b| blocks.push(b));
+    generate::form_blocks(1, &RECORDED, |b| blocks.push(b));
     let questions = blocks.iter().fold(format!("{HEAD}\n"), |s, b| s + &b.lines());
     let rust = answer(&questions);
     let mut rust = rust.lines();

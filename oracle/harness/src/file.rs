@@ -1,4 +1,4 @@
-//! The layout file of document 01 as raw numbers. Nothing but its trailer is judged here.
+//! The layout file of document 01, and in form 2 that of 02 (E7), as raw numbers. Nothing but its trailer is judged here.
 
 #[derive(Clone, Copy, Default)]
 pub struct Entry {
@@ -17,6 +17,8 @@ pub struct Member {
     pub flags: u16,
     pub size: u32,
     pub align: u32,
+    /// form 2 has it, 0 for none
+    pub name: u32,
 }
 
 #[derive(Clone, Default)]
@@ -42,13 +44,16 @@ impl Table {
         let trailer = &b[b.len() - 10..];
         let (types, members) = (u16_at(trailer, 0) as usize, u16_at(trailer, 2) as usize);
         let start = u32_at(trailer, 4) as usize;
-        if u16_at(trailer, 8) != 1 {
-            return Err(2);
-        }
+        let named = match u16_at(trailer, 8) {
+            1 => false,
+            2 => true,
+            _ => return Err(2),
+        };
+        let long = if named { 16 } else { 12 };
         if !(1..=256).contains(&types) || members > 1024 {
             return Err(3);
         }
-        if b.len() != start + 12 * (types + members) + 10 {
+        if b.len() != start + 12 * types + long * members + 10 {
             return Err(4);
         }
         let entry = |k: usize| {
@@ -64,14 +69,20 @@ impl Table {
             }
         };
         let member = |k: usize| {
-            let m = &b[start + 12 * (types + k)..];
-            Member { ty: u16_at(m, 0), flags: u16_at(m, 2), size: u32_at(m, 4), align: u32_at(m, 8) }
+            let m = &b[start + 12 * types + long * k..];
+            let name = if named { u32_at(m, 12) } else { 0 };
+            Member { ty: u16_at(m, 0), flags: u16_at(m, 2), size: u32_at(m, 4), align: u32_at(m, 8), name }
         };
         Ok(Table { entries: (0..types).map(entry).collect(), members: (0..members).map(member).collect() })
     }
 
-    /// The file of a table, after `before` bytes that no one looks at.
+    /// The file of a table, after `before` bytes that no one looks at. It has form 1, and no names.
     pub fn write(&self, before: &[u8]) -> Vec<u8> {
+        self.write_as(1, before)
+    }
+
+    /// The file in form 1 or 2.
+    pub fn write_as(&self, form: u16, before: &[u8]) -> Vec<u8> {
         let mut b = before.to_vec();
         for e in &self.entries {
             b.extend([e.kind, e.columns, e.rows, e.zero3]);
@@ -84,11 +95,14 @@ impl Table {
             b.extend(m.flags.to_le_bytes());
             b.extend(m.size.to_le_bytes());
             b.extend(m.align.to_le_bytes());
+            if form == 2 {
+                b.extend(m.name.to_le_bytes());
+            }
         }
         b.extend((self.entries.len() as u16).to_le_bytes());
         b.extend((self.members.len() as u16).to_le_bytes());
         b.extend((before.len() as u32).to_le_bytes());
-        b.extend(1u16.to_le_bytes());
+        b.extend(form.to_le_bytes());
         b
     }
 

@@ -36,7 +36,7 @@ fn entry(kind: u8, columns: u8, rows: u8, reference: u16, count: u32) -> Entry {
 
 fn member(ty: u16, size: Option<u32>, align: Option<u32>) -> Member {
     let flags = size.is_some() as u16 + 2 * align.is_some() as u16;
-    Member { ty, flags, size: size.unwrap_or(0), align: align.unwrap_or(0) }
+    Member { ty, flags, size: size.unwrap_or(0), align: align.unwrap_or(0), name: 0 }
 }
 
 /// A new entry over a table, with the members that it brings.
@@ -1285,6 +1285,10 @@ pub struct Plan {
     pub long_counts: u64,
     /// random tables with scalars of 64 bits; for each four a nested one and a damaged one
     pub longs: usize,
+    /// random tables in both forms; for each four a nested one and damaged ones
+    pub forms: usize,
+    /// the longest file that is moved
+    pub outputs: u64,
 }
 
 pub fn blocks(seed: u64, plan: &Plan, mut each: impl FnMut(Block)) {
@@ -1507,6 +1511,131 @@ pub fn long_blocks(seed: u64, plan: &Plan, mut each: impl FnMut(Block)) {
             let d = damaged_table(&mut r, &t);
             let asked = some(&mut r, &d, 4);
             each(Block { file: file(&mut r, &d), questions: recounted(&mut r, asked) });
+        }
+    }
+}
+
+/// The length of the file in the form that a move makes, by the length of the given one.
+fn moved_length(file: &[u8], t: &Table, to: u16) -> u64 {
+    let names = 4 * t.members.len() as u64;
+    if to == 2 { file.len() as u64 + names } else { (file.len() as u64).saturating_sub(names) }
+}
+
+/// Moves of a file to this form: into an output that is empty, a byte short, exact and longer; where it has more than `most` bytes into a
+/// short one alone.
+fn moves(r: &mut Random, file: &[u8], t: &Table, to: u16, most: u64) -> Vec<Question> {
+    let length = moved_length(file, t, to);
+    if length > most {
+        return vec![Question::Move(to, bytes(r, 9))];
+    }
+    let more = 1 + r.below(8);
+    [0, length.saturating_sub(1), length, length + more].map(|n| Question::Move(to, bytes(r, n))).to_vec()
+}
+
+/// The names of a table's members: none, one of them, or any.
+fn named(r: &mut Random, t: &Table) -> Table {
+    let mut t = t.clone();
+    let name = |r: &mut Random| r.of(&[1, 255, 256, 65_536, 1 << 24, u32::MAX]);
+    match (r.below(3), t.members.len() as u64) {
+        (0, _) | (_, 0) => {}
+        (1, n) => {
+            let (at, any) = (r.of(&[0, n - 1]) as usize, r.below(n) as usize);
+            t.members[r.of(&[at, any])].name = name(r);
+        }
+        _ => t.members.iter_mut().for_each(|m| m.name = if r.one_in(3) { 0 } else { name(r) }),
+    }
+    t
+}
+
+/// A table with a member that no struct names.
+fn with_stray(t: &Table) -> Table {
+    Table { members: [t.members.as_slice(), &[Member::default()]].concat(), ..t.clone() }
+}
+
+/// Files on each side of the edges of the two forms, and the table that each is meant to be of.
+fn form_edges() -> Vec<(Vec<u8>, Table)> {
+    let bare = table(&[scalar(2)]);
+    let pair = table(&[scalar(2), (entry(12, 0, 0, 0, 0), vec![member(0, None, None), member(0, Some(8), Some(8))])]);
+    let stray = with_stray(&pair);
+    let name_of = |t: &Table, at: usize, name: u32| {
+        let mut t = t.clone();
+        t.members[at].name = name;
+        t
+    };
+    let mut list = Vec::new();
+    // neither form, and both bytes of the form count
+    for form in [0, 1, 2, 3, 257, 258, 65_535] {
+        list.push((bare.write_as(form, &[]), bare.clone()));
+    }
+    // no types; a length that the other form would have
+    for form in [1, 2] {
+        list.push((Table::default().write_as(form, &[]), Table::default()));
+        let mut other = pair.write_as(3 - form, &[]);
+        let at = other.len() - 2;
+        other[at] = form as u8;
+        list.push((other, pair.clone()));
+        list.push((pair.write_as(form, &[])[1..].to_vec(), pair.clone()));
+        list.push((pair.write_as(form, &[9; 5]), pair.clone()));
+        list.push((stray.write_as(form, &[]), stray.clone()));
+        // a bad entry, and a member that is bad if a struct names it
+        let bad = table(&[scalar(2), (entry(16, 0, 0, 0, 0), vec![])]);
+        list.push((name_of(&with_stray(&bad), 0, 1).write_as(form, &[]), with_stray(&bad)));
+    }
+    for t in [name_of(&pair, 0, 1), name_of(&pair, 1, 1 << 24), name_of(&stray, 2, 1)] {
+        list.push((t.write_as(2, &[7; 3]), t));
+    }
+    // short files, in which a form stands where the trailer would have it
+    list.extend([0, 1, 8, 9].map(|n| ([0, 0, 0, 0, 0, 0, 0, 2, 0][9 - n..].to_vec(), bare.clone())));
+    list
+}
+
+/// The questions about form 2 and the moves between the two. They have random numbers of their own too.
+pub fn form_blocks(seed: u64, plan: &Plan, mut each: impl FnMut(Block)) {
+    let mut r = Random(!seed.rotate_left(48));
+    for (file, t) in form_edges() {
+        let mut questions = vec![Question::Check, Question::Size(0), Question::Layout(1), Question::Rank(0, 1)];
+        questions.push(Question::View(1, vec![MEMBER | 1], vec![4; 16]));
+        questions
+            .extend([moves(&mut r, &file, &t, 1, plan.outputs), moves(&mut r, &file, &t, 2, plan.outputs)].concat());
+        each(Block { file, questions });
+    }
+    // as many types and members as there can be, and one more
+    let many = |n| table(&vec![scalar(3); n]);
+    let members = |n| Table { members: vec![Member::default(); n], ..many(1) };
+    let limits = [at_limits(), vec![many(256), many(257), members(1024), members(1025)]].concat();
+    for t in limits.into_iter().take(plan.large) {
+        let t = named(&mut r, &t);
+        let asked = [some(&mut r, &t, plan.limits), uniform_of_all(&t)].concat();
+        each(Block { file: t.write_as(2, &[]), questions: [asked, vec![Question::Move(1, vec![1; 9])]].concat() });
+    }
+    for i in 0..plan.forms {
+        let types = 1 + r.below(9) as usize;
+        let t = random(&mut r, types, if i % 4 == 0 { 60 } else { 8 });
+        let t = if r.one_in(4) { with_stray(&t) } else { t };
+        let before: Vec<u8> = if r.one_in(3) { (0..r.below(30)).map(|_| r.next() as u8).collect() } else { vec![] };
+        let (plain, new) = (t.write(&before), named(&mut r, &t).write_as(2, &before));
+        let asked = [some(&mut r, &t, 8), some_fields(&mut r, &t, 2), uniform_of_all(&t)].concat();
+        let back = moves(&mut r, &new, &t, 1, plan.outputs);
+        let wrong = Question::Move(2, vec![3; 7]);
+        each(Block { file: new.clone(), questions: [asked, back, vec![wrong]].concat() });
+        let (on, wrong) = (moves(&mut r, &plain, &t, 2, plan.outputs), Question::Move(1, vec![3; 7]));
+        each(Block { file: plain, questions: [on, vec![wrong]].concat() });
+        if i % 4 == 0 {
+            let d = damaged_table(&mut r, &t);
+            let file = named(&mut r, &d).write_as(2, &before);
+            let asked = [some(&mut r, &d, 3), moves(&mut r, &file, &d, 1, plan.outputs)].concat();
+            each(Block { file, questions: asked });
+            let file = damaged_file(&mut r, &new);
+            let asked =
+                [some(&mut r, &t, 3), moves(&mut r, &new, &t, 1, plan.outputs), vec![Question::Move(2, vec![3; 7])]]
+                    .concat();
+            each(Block { file, questions: asked });
+            let n = nested(&mut r, &STORED);
+            let good = model::check(&n.write(&[])).ok().expect("an accepted table");
+            let e = n.entries.len() - 1;
+            let elements = if good.laid[e].open { 1 + r.below(3) } else { 0 };
+            let file = named(&mut r, &n).write_as(2, &[]);
+            each(Block { file, questions: path_edges(&mut r, &good, e, elements) });
         }
     }
 }

@@ -776,9 +776,38 @@ fn of_word(q: &Question) -> Option<u32> {
     }
 }
 
-pub fn answer(checked: &Result<Good, Refusal>, nodes: &[u64], q: &Question) -> Due {
+/// What 02 answers of a move to form `to`, and what the output holds then (E7). "2 now means neither 1 nor 2 (and a form 1 file given to
+/// the move back, or a form 2 file to the move on); 20, a name not 0, after 1 to 7; 15, output too small, after that."
+fn moved(file: &[u8], checked: &Result<Good, Refusal>, to: u16, output: &mut [u8]) -> Answer {
+    let Some(form) = file.len().checked_sub(10).map(|trailer| [file[trailer + 8], file[trailer + 9]]) else {
+        return Err((1, 0));
+    };
+    if form != (3 - to).to_le_bytes() {
+        return Err((2, 0));
+    }
+    let table = match checked {
+        Ok(good) => &good.table,
+        Err(r) => return Err((r.number, r.place as u64)),
+    };
+    // what is moved on has no names to be lost, and gets none
+    if table.members.iter().any(|m| m.name != 0) {
+        return Err((20, 0));
+    }
+    let entries = 12 * table.entries.len() + if to == 2 { 12 } else { 16 } * table.members.len();
+    let new = table.write_as(to, &file[..file.len() - 10 - entries]);
+    let Some(front) = output.get_mut(..new.len()) else { return Err((15, 0)) };
+    front.copy_from_slice(&new);
+    Ok(new.len() as u64)
+}
+
+pub fn answer(file: &[u8], checked: &Result<Good, Refusal>, nodes: &[u64], q: &Question) -> Due {
     if let Some(word) = of_word(q) {
         return Due { says: word.to_string(), row: Some(Row::BitFields), rust: Some(NOTHING.into()) };
+    }
+    if let Question::Move(to, output) = q {
+        let mut output = output.clone();
+        let says = with_buffer(moved(file, checked, *to, &mut output), &output);
+        return Due { says, row: Some(Row::Forms), rust: Some(NOTHING.into()) };
     }
     let good = match checked {
         Ok(good) => good,
@@ -816,7 +845,7 @@ pub fn answer(checked: &Result<Good, Refusal>, nodes: &[u64], q: &Question) -> D
             let mut buffer = buffer.clone();
             with_buffer(good.insert(*e as usize, path, *new, *field, &mut buffer), &buffer)
         }
-        Question::ExtractU32(..) | Question::InsertU32(..) => unreachable!("answered before"),
+        Question::ExtractU32(..) | Question::InsertU32(..) | Question::Move(..) => unreachable!("answered before"),
     };
     let deep = |e: &u32| nodes[*e as usize] > crate::types::MOST;
     let asked_deep = match q {

@@ -1,7 +1,7 @@
-//! Questions, their lines and those of their answers (oracle/README.md, version 7).
+//! Questions, their lines and those of their answers (oracle/README.md, version 8).
 
-pub const HEAD: &str = "questions 7";
-pub const ANSWERS_HEAD: &str = "answers 7";
+pub const HEAD: &str = "questions 8";
+pub const ANSWERS_HEAD: &str = "answers 8";
 
 #[derive(Clone)]
 pub enum Question {
@@ -29,6 +29,8 @@ pub enum Question {
     ExtractU32(u32, Field),
     /// a word, the new value and the field
     InsertU32(u32, u32, Field),
+    /// the form to move to, and what the output holds before
+    Move(u16, Vec<u8>),
 }
 
 /// A bit field as it is asked for.
@@ -81,6 +83,7 @@ impl Question {
             Question::Insert(e, new, field, path, _) => listed(format!("insert {e} {new} {}", field.line()), path),
             Question::ExtractU32(word, field) => format!("extract_u32 {word} {}", field.line()),
             Question::InsertU32(word, new, field) => format!("insert_u32 {word} {new} {}", field.line()),
+            Question::Move(form, _) => format!("to_form_{form}"),
         }
     }
 
@@ -112,6 +115,8 @@ impl Question {
             }
             ("extract_u32", [word, o, c]) => Question::ExtractU32(*word, field(o, c)),
             ("insert_u32", [word, new, o, c]) => Question::InsertU32(*word, *new, field(o, c)),
+            ("to_form_1", []) => Question::Move(1, buffer.to_vec()),
+            ("to_form_2", []) => Question::Move(2, buffer.to_vec()),
             _ => panic!("not a question: {line}"),
         }
     }
@@ -119,7 +124,7 @@ impl Question {
     /// The entries that the question names.
     pub fn entries(&self) -> Vec<u32> {
         match self {
-            Question::Check | Question::ExtractU32(..) | Question::InsertU32(..) => vec![],
+            Question::Check | Question::ExtractU32(..) | Question::InsertU32(..) | Question::Move(..) => vec![],
             Question::Size(e) | Question::Align(e) | Question::MinSize(e) => vec![*e],
             Question::Layout(e) | Question::Uniform(e) => vec![*e],
             Question::Write(e, _, _) | Question::Read(e, _, _) => vec![*e],
@@ -136,6 +141,7 @@ impl Question {
             Question::Write(_, _, buffer) | Question::Read(_, _, buffer) => Some(buffer),
             Question::View(_, _, buffer) | Question::Set(_, _, _, buffer) => Some(buffer),
             Question::Extract(_, _, _, buffer) | Question::Insert(_, _, _, _, buffer) => Some(buffer),
+            Question::Move(_, buffer) => Some(buffer),
             _ => None,
         }
     }
@@ -195,7 +201,7 @@ pub fn told(answer: Answer) -> String {
     }
 }
 
-/// What is said of a write, of a set or of an insertion: its answer, and what the buffer holds after it.
+/// What is said of a write, of a set, of an insertion or of a move: its answer, and what the buffer holds after it.
 pub fn with_buffer(answer: Answer, buffer: &[u8]) -> String {
     format!("{} {}", told(answer), hex(buffer)).trim_end().into()
 }

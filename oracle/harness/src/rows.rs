@@ -57,6 +57,7 @@ rows! {
     SetGaps = "set-gaps",
     BitFields = "bit-fields",
     Uniform = "uniform",
+    Forms = "forms",
 }
 
 /// The Rust writes into a vector of its own: a longer one is not asked for.

@@ -390,9 +390,9 @@ pub fn answer(types: &[Option<Type>], checked: &Result<Good, Refusal>, q: &Quest
         Question::Size(e) => of(e).map(|t| told(t.size_of(), 9)),
         Question::Align(e) => of(e).map(|t| told(t.align_of(), 9)),
         Question::MinSize(e) => of(e).map(|t| told(t.min_size_of(), 9)),
-        Question::Layout(e) => of(e).map(|t| {
-            [t.size_of(), t.align_of(), t.min_size_of(), stride(t)].map(marked).join(" ")
-        }),
+        Question::Layout(e) => {
+            of(e).map(|t| [t.size_of(), t.align_of(), t.min_size_of(), stride(t)].map(marked).join(" "))
+        }
         Question::Rank(a, b) => of(a).zip(of(b)).map(|(a, b)| told(conversion_rank(a, b), 18)),
         Question::Common(list) => common(types, list).map(|n| told(n, 18)),
         Question::Write(e, words, buffer) => {
@@ -413,7 +413,7 @@ pub fn answer(types: &[Option<Type>], checked: &Result<Good, Refusal>, q: &Quest
             set(ty, path, words, buffer)
         }
         // The six files have no such function.
-        Question::Uniform(_) => None,
+        Question::Uniform(_) | Question::Move(..) => None,
         Question::Extract(..) | Question::Insert(..) | Question::ExtractU32(..) | Question::InsertU32(..) => None,
     };
     ASKING.set(true);
