@@ -35,7 +35,7 @@ deep (field offset x rest) = max (suc (deep x)) (deep rest)
 deep (whole z) = 0
 
 -- Where a step is refused, it is the step at that position; else it leads to a shape that is less deep.
-enter-place : (k : ℕ) (x : Shape) (s : Step) → ((number place : ℕ) → enter k x s ≡ refused number place → place ≡ k) × ((t : Target) → enter k x s ≡ good t → deep (t .shape) < deep x)
+pub enter-place : (k : ℕ) (x : Shape) (s : Step) → ((number place : ℕ) → enter k x s ≡ refused number place → place ≡ k) × ((t : Target) → enter k x s ≡ good t → deep (t .shape) < deep x)
 unfolding enter deep
 enter-place k (one s) (index i) = (λ n p e. cc, λ t e. good-not-refused e refl)
 enter-place k (one s) (path.member i) = (λ n p e. cc, λ t e. good-not-refused e refl)

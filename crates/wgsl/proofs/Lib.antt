@@ -59,6 +59,10 @@ pub mod UniformCase
 pub mod Wide
 pub mod WideCase
 pub mod FormCase
+pub mod SiteMask
+pub mod SiteWitness
+pub mod Site
+pub mod SiteCase
 pub mod BitFieldCase
 pub mod Bit
 pub mod FieldAt

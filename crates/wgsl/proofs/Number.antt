@@ -47,7 +47,7 @@ sets-below [] b p i h = refl
 sets-below (v ∷ vs) b p i h = sets-below vs (set b p v) (suc p) i (omega arith) ∙ getD-set-other b p i v 0 (omega arith)
 
 -- and past its end.
-sets-past : (vs b : List ℕ) (p i : ℕ) → p + length vs ≤ i → getD (sets b p vs) i 0 ≡ getD b i 0
+pub sets-past : (vs b : List ℕ) (p i : ℕ) → p + length vs ≤ i → getD (sets b p vs) i 0 ≡ getD b i 0
 sets-past [] b p i h = refl
 sets-past (v ∷ vs) b p i h = sets-past vs (set b p v) (suc p) i (omega arith) ∙ getD-set-other b p i v 0 (omega arith)
 

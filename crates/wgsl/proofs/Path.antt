@@ -1,7 +1,7 @@
 -- Where paths lead (specs/Path).
 --
 -- In order: the walks that find a target, as a relation (`Leads`); targets lie inside, at multiples; different paths to scalars share no
--- byte.
+-- byte, nor do different members.
 -- Assumes nothing.
 use Prim.Native.Nat.{ℕ, zero, suc, _+_, _*_, _/_, _%_, _<_, _≤_}
 use mathlib.Core.Bool.{Bool, true, false, cond}
@@ -149,3 +149,13 @@ leads-apart (later {i = i} {steps = p} l) (later {i = j} {steps = q} m) sound =
 pub paths-apart : (k off : ℕ) (x : Shape) (p q : List Step) (a b : ℕ) (s u : Scalar) → Sound x → walk k off x p ≡ good (target a (one s)) → walk k off x q ≡ good (target b (one u)) → (p ≡ q) ⊎ Apart a (present (widthOf s)) b (present (widthOf u))
 paths-apart k off x p q a b s u sound g h =
     leads-apart (walk-leads k off x p (target a (one s)) g) (walk-leads k off x q (target b (one u)) h) sound
+
+-- What lies in different members of a struct shares no byte.
+pub members-apart : {off a b i j : ℕ} {x y z : Shape} {p q : List Step} → Leads off x (member i ∷ p) a y → Leads off x (member j ∷ q) b z → Sound x → (i ≡ j → ⊥) → Apart a (spanOf y) b (spanOf z)
+unfolding Sound
+members-apart (first l) (first m) sound differ = absurd (differ refl)
+members-apart (first {offset = offset} {x = x} l) (later m) sound differ =
+    inl (omega (arith, inside l (sound .0) .2, member-after (offset + spanOf x) m (sound .1) (sound .2)))
+members-apart (later l) (first {offset = offset} {x = x} m) sound differ =
+    inr (omega (arith, inside m (sound .0) .2, member-after (offset + spanOf x) l (sound .1) (sound .2)))
+members-apart (later l) (later m) sound differ = members-apart l m (sound .1) (λ e. differ (ap suc e))

@@ -4,7 +4,7 @@
 -- In order: the calls' steps; entries; bad words; every call.
 -- Not here: how deep a shape is (`Deep`).
 -- Assumes nothing.
-use Prim.Native.Nat.{ℕ, suc, _+_, _^_, _<_}
+use Prim.Native.Nat.{ℕ, suc, _+_, _^_, _<_, max}
 use mathlib.Core.Bool.{Bool, true, false}
 use mathlib.Core.List.{List, [], _∷_, map}
 use mathlib.Core.Option.{Option}
@@ -16,20 +16,23 @@ use Rattle.wgsl.specs.Types.{Ty}
 use Rattle.wgsl.specs.Said.{Said, good, refused, _>>=_, _>>_, refuse, orRefuse}
 use Rattle.wgsl.specs.Rule.{typesOf}
 use Rattle.wgsl.specs.Place.{extentOf, elementsIn, shapeOf, Place, wordPlaces, places, checkWords}
-use Rattle.wgsl.specs.Path.{stepOf}
+use Rattle.wgsl.specs.Path as path
+use Rattle.wgsl.specs.Path.{Target, stepOf, walk}
 use Rattle.wgsl.specs.Call.{checkOf, entryOf, sizeCall, alignCall, minSizeCall, layoutCall, allowed, entryFor, elementsFor, readElements, readType, readCall, writeWords, writeElements, writeType, writeCall, targetCall, setScalar, setTarget, targetIn, viewCall, scalarAt, setCall, rankCall, entriesOf, commonCall}
 use Rattle.wgsl.specs.Rank.{commonOfAll}
 use Rattle.wgsl.specs.BitFieldCall.{integerOf, integerAt, extractCall, insertCall}
 use Rattle.wgsl.specs.Uniform.{mayLive, uniformCall}
 use Rattle.wgsl.specs.Form.{toForm2, toForm1, formIs, putOut, moveOnCall, moveBackCall}
+use Rattle.wgsl.specs.Site.{blockEntry, blockIn, memberOf, freshCall, memberCall, copiedIn, siteSetCall, clearCall}
 use Rattle.wgsl.specs.Claim.{PlaceFits, PlacesFit}
 use Rattle.wgsl.proofs.Said.{good-not-refused, then-cases, refuse-cases, orRefuse-good, orRefuse-refused}
 use Rattle.wgsl.proofs.Accepted.{refused-place}
 use Rattle.wgsl.proofs.ScalarWords.{scalar-length}
 use Rattle.wgsl.proofs.Count.{words-few, places-words, words-room}
 use Rattle.wgsl.proofs.EntryFor.{laid-good, stored-good, entry-sound}
-use Rattle.wgsl.proofs.Deep.{walk-place, entry-deep}
+use Rattle.wgsl.proofs.Deep.{enter-place, walk-place, entry-deep}
 use Rattle.wgsl.proofs.Uniform.{Asked, named-low}
+use Rattle.wgsl.proofs.Site.{asked}
 
 -- ---- the calls' steps
 
@@ -94,12 +97,15 @@ fits-check ps ws b few number place e = go (checkWords 0 ps ws) refl e
 
 -- ---- every call
 
+fits-allowed : (stored : Bool) (t : Ty) (bytes : ℕ) → PlaceFits (allowed stored t bytes)
+unfolding allowed
+fits-allowed stored t bytes =
+    fits-refuse _ _ _ _ (omega arith) (λ ok. fits-refuse _ _ _ _ (omega arith) (λ ok. fits-alone _ _ _ (omega arith)))
+
 fits-for : (stored : Bool) (f : List ℕ) (e : ℕ) (b : List ℕ) → PlaceFits (entryFor stored f e b)
-unfolding entryFor allowed
+unfolding entryFor
 fits-for stored f e b =
-    fits-then (entryOf f e) _ (fits-entry f e) (λ t q.
-    fits-next _ _ (fits-refuse _ _ _ _ (omega arith) (λ ok.
-    fits-refuse _ _ _ _ (omega arith) (λ ok. fits-alone _ _ _ (omega arith)))) (fits-good _))
+    fits-then (entryOf f e) _ (fits-entry f e) (λ t q. fits-next _ _ (fits-allowed stored t (length b)) (fits-good _))
 
 fits-target : (f : List ℕ) (e : ℕ) (t : Ty) (steps b : List ℕ) → entryOf f e ≡ good t → PlaceFits (targetIn t steps b)
 unfolding targetIn
@@ -131,12 +137,16 @@ fits-write f e ws b =
     fits-check (places n t) ws _
     (omega (arith, places-words (shapeOf n t) 0, words-room (shapeOf n t) (sound .0), sound .1, ltb-false (length b) (extentOf n t) room, s .within)))))
 
-fits-set : (f : List ℕ) (e : ℕ) (steps ws b : List ℕ) → PlaceFits (setCall f e steps ws b)
-unfolding setCall setTarget setScalar
-fits-set f e steps ws b =
-    fits-then (targetCall true f e steps b) _ (fits-path true f e steps b) (λ u h.
+fits-set-target : (u : Target) (ws b : List ℕ) → PlaceFits (setTarget u ws b)
+unfolding setTarget setScalar
+fits-set-target u ws b =
     fits-then (orRefuse 14 0 (scalarAt (u .shape))) _ (fits-or _ _ _ (omega arith)) (λ s g.
-    fits-refuse _ _ _ _ (omega arith) (λ ok. fits-check (wordPlaces s (u .offset)) ws _ (omega (arith, scalar-length s (u .offset), words-few s)))))
+    fits-refuse _ _ _ _ (omega arith) (λ ok. fits-check (wordPlaces s (u .offset)) ws _ (omega (arith, scalar-length s (u .offset), words-few s))))
+
+fits-set : (f : List ℕ) (e : ℕ) (steps ws b : List ℕ) → PlaceFits (setCall f e steps ws b)
+unfolding setCall
+fits-set f e steps ws b =
+    fits-then (targetCall true f e steps b) _ (fits-path true f e steps b) (λ u h. fits-set-target u ws b)
 
 fits-integer : (f : List ℕ) (e : ℕ) (steps b : List ℕ) → PlaceFits (integerAt f e steps b)
 unfolding integerAt integerOf
@@ -171,6 +181,46 @@ fits-out : (new out : List ℕ) → PlaceFits (putOut new out)
 unfolding putOut
 fits-out new out = fits-refuse _ _ _ _ (omega arith) (λ ok. fits-good _)
 
+-- site blocks
+fits-block : (f : List ℕ) (e mask bytes : ℕ) → PlaceFits (blockEntry f e mask bytes)
+unfolding blockEntry
+fits-block f e mask bytes =
+    fits-then (entryOf f e) _ (fits-entry f e) (λ t q.
+    fits-next _ _ (fits-allowed true t bytes) (fits-refuse _ _ _ _ (omega arith) (λ ok. fits-good _)))
+
+fits-enter : (t : Ty) (k : ℕ) → PlaceFits (memberOf t k)
+unfolding memberOf
+fits-enter t k number place e = omega (arith, enter-place 0 (shapeOf 0 t) (path.member k) .0 number place e)
+
+fits-fresh : (f : List ℕ) (e : ℕ) → PlaceFits (freshCall f e)
+unfolding freshCall
+fits-fresh f e = fits-then (blockEntry f e 0 0) _ (fits-block f e 0 0) (λ t q. fits-good _)
+
+fits-clear : (f : List ℕ) (e k mask : ℕ) → PlaceFits (clearCall f e k mask)
+unfolding clearCall
+fits-clear f e k mask =
+    fits-then (blockEntry f e mask 0) _ (fits-block f e mask 0) (λ t q.
+    fits-then (memberOf t k) _ (fits-enter t k) (λ m h. fits-good _))
+
+fits-member : (f : List ℕ) (e k mask : ℕ) (factory site : List ℕ) → PlaceFits (memberCall f e k mask factory site)
+unfolding memberCall blockIn
+fits-member f e k mask factory site =
+    let bytes = max (length factory) (length site) in
+    fits-then (blockIn f e mask factory site) _
+    (fits-then (blockEntry f e mask bytes) _ (fits-block f e mask bytes) (λ t q.
+    fits-refuse _ _ _ _ (omega arith) (λ ok. fits-good _))) (λ t q. fits-enter t k)
+
+fits-site-set : (f : List ℕ) (e k : ℕ) (steps ws : List ℕ) (mask : ℕ) (factory site : List ℕ) → PlaceFits (siteSetCall f e k steps ws mask factory site)
+unfolding siteSetCall memberOf
+fits-site-set f e k steps ws mask factory site =
+    fits-then (memberCall f e k mask factory site) _ (fits-member f e k mask factory site) (λ m h.
+    let a = asked h in
+    fits-then (walk 0 (m .offset) (m .shape) (map stepOf steps)) _ (λ number place q.
+    let less = enter-place 0 (shapeOf 0 (a .type)) (path.member k) .1 m (a .found) in
+    let few = entry-deep f e (a .type) (a .block .entry) 0 in
+    omega (arith, walk-place 0 (m .offset) (m .shape) (map stepOf steps) number place q))
+    (λ u g. fits-then (setTarget u ws (copiedIn m mask k factory site)) _ (fits-set-target u ws _) (λ d q. fits-good _)))
+
 -- a question about one entry
 fits-asked : {A : Type 0} (f : List ℕ) (e : ℕ) (answer : Ty → Said A) → ((t : Ty) → PlaceFits (answer t)) → PlaceFits (_>>=_ (entryOf f e) answer)
 fits-asked f e answer h = fits-then (entryOf f e) answer (fits-entry f e) (λ t q. h t)
@@ -202,4 +252,8 @@ places-fit f =
           fits-then (orRefuse 18 0 (commonOfAll entries)) _ (fits-or _ _ _ zero-fits) (λ c g. fits-good _)));
       to-form-2 = λ out. fits-next (formIs 1 f) _ (fits-form 1 f) (fits-out (toForm2 f) out);
       to-form-1 = λ out. fits-next (formIs 2 f) _ (fits-form 2 f) (fits-refuse _ _ _ _ zero-fits (λ ok. fits-out (toForm1 f) out));
+      site-fresh = fits-fresh f;
+      site-clear = fits-clear f;
+      site-member = fits-member f;
+      site-set = fits-site-set f;
     }

@@ -1,11 +1,11 @@
 -- What is claimed of the definitions of document 02, request by request. Each proof is one citation: read the statements.
 --
 -- Here: E1, strides; E2, bit fields; E4, vectors of three bools; E5, the uniform profile; E6, scalars of 64 bits; E7, the two forms of a
--- file. That the places of refusals fit and what the calls have in common with those of 01 stands in Claims.
+-- file; E8, factory sheet and site block. That the places of refusals fit and what the calls have in common with those of 01 stands in Claims.
 -- Assumes nothing.
 use Prim.Native.Nat.{ℕ, _+_, _-_, _*_, _%_, _^_, _<_, _≤_, max, min}
 use mathlib.Core.Bool.{true, false, cond}
-use mathlib.Core.List.{List, _∷_, []}
+use mathlib.Core.List.{List, _∷_, [], map}
 use mathlib.Core.Option.{Option, some}
 use mathlib.Core.Path.{_≡_}
 use lib.Dec.{T}
@@ -17,9 +17,9 @@ use Rattle.wgsl.specs.Types.{Scalar, Ty, array, runtime, everywhere}
 use Rattle.wgsl.specs.Size.{present, widthOf, sizeOf, alignOf, ownStrideOf, isStorable}
 use Rattle.wgsl.specs.Said.{good, refused}
 use Rattle.wgsl.specs.Rule.{isWellFormed, typesOf}
-use Rattle.wgsl.specs.Place.{one, Place, wordsFor, wordPlaces, wordCount, wordsRead}
+use Rattle.wgsl.specs.Place.{shapeOf, spanOf, one, Place, wordsFor, wordPlaces, wordCount, wordsRead}
 use Rattle.wgsl.specs.Call.{Done, entryFor, setCall}
-use Rattle.wgsl.specs.Path.{Target}
+use Rattle.wgsl.specs.Path.{Target, walk, stepOf}
 use Rattle.wgsl.specs.Rank.{scalarRank}
 use Rattle.wgsl.specs.BitField.{startOf, bitsOf, bitAt, extractedU32, extractedI32, repeatedTop, inserted, signedOf, bitExtracted, bitInserted}
 use Rattle.wgsl.specs.BitFieldCase.{fieldCasesPass}
@@ -27,13 +27,16 @@ use Rattle.wgsl.specs.BitFieldCall.{isInteger, isSigned, FoundInteger, i
 use Rattle.wgsl.specs.Uniform.{reaches, uniformCall}
 use Rattle.wgsl.specs.File.{Trailer, trailerOf, checkTrailer}
 use Rattle.wgsl.specs.Form.{memberPlace, nameAt, toForm1, toForm2, filled, moveOnCall, moveBackCall, oldTrailer}
-use Rattle.wgsl.specs.Claim.{Holds, together, IsStride, ByElement, HoldsBool, LaidOut, GoodIf, CanField, Reaches, CanUniform, LowestBroken, SameReached, SameAnswers, OfForm, CanMoveOn, CanMoveBack}
+use Rattle.wgsl.specs.Claim.{Holds, together, IsStride, ByElement, HoldsBool, LaidOut, GoodIf, CanField, Reaches, CanUniform, LowestBroken, SameReached, SameAnswers, OfForm, CanMoveOn, CanMoveBack, PlaceFits, memberStep}
+use Rattle.wgsl.specs.Site.{blockIn, memberOf, SiteDone, freshCall, memberCall, siteSetCall, clearCall}
+use Rattle.wgsl.specs.SiteClaim.{IsBlock, SetOnSite, Cleared}
 use Rattle.wgsl.specs.Demand.{Given, Leading, Words, SetThenRead}
 use Rattle.wgsl.specs.StrideCase.{strideCasesPass}
 use Rattle.wgsl.specs.BoolCase.{boolCasesPass}
 use Rattle.wgsl.specs.UniformCase.{uniformCasesPass}
 use Rattle.wgsl.specs.WideCase.{wideCasesPass}
 use Rattle.wgsl.specs.FormCase.{formCasesPass}
+use Rattle.wgsl.specs.SiteCase.{siteCasesPass}
 use Rattle.wgsl.proofs.Stride as stride
 use Rattle.wgsl.proofs.StrideCase.{stride-cases-pass}
 use Rattle.wgsl.proofs.BitField as field
@@ -49,6 +52,8 @@ use Rattle.wgsl.proofs.Wide as wide
 use Rattle.wgsl.proofs.WideCase.{wide-cases-pass}
 use Rattle.wgsl.proofs.MoveCall as moves
 use Rattle.wgsl.proofs.FormCase.{form-cases-pass}
+use Rattle.wgsl.proofs.Site as blocks
+use Rattle.wgsl.proofs.SiteCase.{site-cases-pass}
 
 -- ---- E1: strides
 
@@ -286,3 +291,38 @@ old-reader = moves.old-reader
 -- The edges of the two calls.
 pub form-cases : T formCasesPass
 form-cases = form-cases-pass
+
+-- ---- E8: factory sheet and site block
+
+-- A block is good exactly if it is a struct of fixed size that may be stored, with at most 64 members and no mask bits beyond them, and
+-- both buffers have its size.
+pub block-is : {f : List ℕ} {e mask : ℕ} {factory site : List ℕ} {t : Ty} → blockIn f e mask factory site ≡ good t → IsBlock f e mask factory site t
+block-is = blocks.block-is
+
+pub block-if : {f : List ℕ} {e mask : ℕ} {factory site : List ℕ} {t : Ty} → IsBlock f e mask factory site t → blockIn f e mask factory site ≡ good t
+block-if = blocks.block-if
+
+-- "A fresh block has mask 0": no member is the site's.
+pub fresh-shows : (f : List ℕ) (e mask : ℕ) → freshCall f e ≡ good mask → (mask ≡ 0) × ((k : ℕ) → bitAt mask k ≡ false)
+fresh-shows = blocks.fresh-shows
+
+-- "the member then shows its old bytes with that scalar replaced"; "Other bits and bytes stay"; every other member shows what it showed, and
+-- the result is a block again: over any mask and any site buffer.
+pub site-set : {f : List ℕ} {e k : ℕ} {steps ws : List ℕ} {mask : ℕ} {factory site : List ℕ} {d : SiteDone} → siteSetCall f e k steps ws mask factory site ≡ good d → SetOnSite f e k steps ws mask factory site d
+site-set = blocks.site-set
+
+-- "Clearing drops the bit and moves no byte": the others stay, and it is a block again.
+pub site-cleared : {f : List ℕ} {e k mask after : ℕ} → clearCall f e k mask ≡ good after → Cleared f e k mask after
+site-cleared = blocks.cleared
+
+-- "the path starts at its type": it is the path of a view without its first step.
+pub site-path : (t : Ty) (k : ℕ) (m : Target) (steps : List ℕ) → k < 2 ^ 31 → memberOf t k ≡ good m → walk 0 0 (shapeOf 0 t) (map stepOf (memberStep k ∷ steps)) ≡ walk 1 (m .offset) (m .shape) (map stepOf steps)
+site-path = blocks.site-path
+
+-- A member lies inside the struct.
+pub site-member-inside : (f : List ℕ) (e mask : ℕ) (factory site : List ℕ) (t : Ty) (k : ℕ) (m : Target) → blockIn f e mask factory site ≡ good t → memberOf t k ≡ good m → m .offset + spanOf (m .shape) ≤ present (sizeOf t)
+site-member-inside f e mask factory site t k m b h = blocks.member-inside f e mask factory site t k m b h .1
+
+-- The edges of the four calls.
+pub site-cases : T siteCasesPass
+site-cases = site-cases-pass

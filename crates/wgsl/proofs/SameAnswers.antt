@@ -2,7 +2,7 @@
 --
 -- In order: what an entry refers to; the uniform call; all calls.
 -- Assumes nothing.
-use Prim.Native.Nat.{ℕ, zero, suc, _+_, _<_, _≤_}
+use Prim.Native.Nat.{ℕ, zero, suc, _+_, _<_, _≤_, max}
 use mathlib.Core.List.{List, [], _∷_}
 use mathlib.Core.Bool.{Bool, true, false}
 use mathlib.Core.Option.{Option, some, none}
@@ -16,6 +16,7 @@ use Rattle.wgsl.specs.Rule.{typesOf}
 use Rattle.wgsl.specs.Call.{checkOf, entryOf, entryFor, sizeCall, alignCall, minSizeCall, layoutCall, readCall, writeCall, targetCall, viewCall, setCall, rankCall, commonCall}
 use Rattle.wgsl.specs.BitFieldCall.{integerAt, extractCall, insertCall}
 use Rattle.wgsl.specs.Uniform.{memberTypes, refersTo, uniformCall}
+use Rattle.wgsl.specs.Site.{blockEntry, blockIn, freshCall, memberCall, siteSetCall, clearCall}
 use Rattle.wgsl.specs.Claim.{Reaches, SameReached, SameAnswers}
 use Rattle.wgsl.proofs.Said.{then-refused}
 use Rattle.wgsl.proofs.Accepted.{accepted}
@@ -93,8 +94,16 @@ module _ {f g : List ℕ} (same : SameEntries f g) (types : typesOf f ≡ typesO
       go (good ts) p = at-entry ts (getElem? ts e) p refl
       go (refused number place) p = rw (← types, p) refl
 
+  block-same : (e mask bytes : ℕ) → blockEntry f e mask bytes ≡ blockEntry g e mask bytes
+  unfolding blockEntry
+  block-same e mask bytes = rw (entry-same e) refl
+
+  member-same : (e k mask : ℕ) (factory site : List ℕ) → memberCall f e k mask factory site ≡ memberCall g e k mask factory site
+  unfolding memberCall blockIn
+  member-same e k mask factory site = rw (block-same e mask (max (length factory) (length site))) refl
+
   pub same-answers : SameAnswers f g
-  unfolding checkOf sizeCall alignCall minSizeCall layoutCall readCall writeCall viewCall setCall extractCall insertCall rankCall commonCall
+  unfolding checkOf sizeCall alignCall minSizeCall layoutCall readCall writeCall viewCall setCall extractCall insertCall rankCall commonCall freshCall clearCall siteSetCall
   same-answers = record {
     check = rw types refl;
     size = λ e. rw (entry-same e) refl;
@@ -111,4 +120,8 @@ module _ {f g : List ℕ} (same : SameEntries f g) (types : typesOf f ≡ typesO
     rank = λ x y. rw (entry-same x, entry-same y) refl;
     common = λ es. rw types refl;
     listing = rw types refl;
+    site-fresh = λ e. rw (block-same e 0 0) refl;
+    site-clear = λ e k mask. rw (block-same e mask 0) refl;
+    site-member = member-same;
+    site-set = λ e k steps ws mask factory site. rw (member-same e k mask factory site) refl;
   }

@@ -16,7 +16,9 @@ pub mod BitFieldCase
 pub mod BitFieldCall
 pub mod Uniform
 pub mod Form
+pub mod Site
 pub mod Claim
+pub mod SiteClaim
 pub mod Demand
 pub mod Case
 pub mod StrideCase
@@ -24,4 +26,5 @@ pub mod BoolCase
 pub mod UniformCase
 pub mod WideCase
 pub mod FormCase
+pub mod SiteCase
 pub mod Shapes
