@@ -98,6 +98,19 @@ four i64 h k m = absurd (m refl)
 four u64 h k m = absurd (m refl)
 four f64 h k m = absurd (m refl)
 
+low : (s : Scalar) → (present (widthOf s) ≡ 8 → ⊥) → present (widthOf s) ≤ 4
+unfolding widthOf present
+low bool m = omega arith
+low i32 m = omega arith
+low u32 m = omega arith
+low f32 m = omega arith
+low f16 m = omega arith
+low abstractInt m = omega arith
+low abstractFloat m = omega arith
+low i64 m = absurd (m refl)
+low u64 m = absurd (m refl)
+low f64 m = absurd (m refl)
+
 module _ {t : Target} {u : path.Target} (x : OneScalar t u) where
   -- The size of a target that is one scalar is the scalar's,
   pub of-width : (k : ℕ) → t .size ≡ k → widthOf (x .scalar) ≡ some k
@@ -107,6 +120,10 @@ module _ {t : Target} {u : path.Target} (x : OneScalar t u) where
       go : (o : Option ℕ) → present o ≡ k → 0 < present o → o ≡ some k
       go (some n) q above = ap some q
       go none q above = absurd (omega arith)
+
+  -- has at most four bytes where it is not eight,
+  pub at-most-four : (t .size ≡ 8 → ⊥) → (t .size ≤ 4) × (0 < t .size)
+  at-most-four k = rw (← x .size-is) (low (x .scalar) (λ q. k (sym (x .size-is) ∙ q)), x .above)
 
   -- and is four where it is neither two nor eight.
   pub of-four : (t .size ≡ 2 → ⊥) → (t .size ≡ 8 → ⊥) → t .size ≡ 4

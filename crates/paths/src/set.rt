@@ -7,9 +7,11 @@ use said::answer::Number;
 use said::refusal::Refusal;
 use said::target::Target;
 use said::target::Walked;
+use walk_decide::Allowed;
 ghost use mathlib.Core.Path.{_≡_};
+ghost use mathlib.Core.List.{List};
 ghost use mathlib.Core.Option.{some};
-ghost use Prim.Native.Nat.{_+_, _≤_};
+ghost use Prim.Native.Nat.{ℕ, _+_, _≤_};
 ghost use lib.ListN.{length};
 ghost use Rattle.wgsl.specs.Round.{limit};
 ghost use Rattle.wgsl.specs.Types.{Scalar};
@@ -17,7 +19,8 @@ ghost use Rattle.wgsl.specs.Size.{widthOf};
 ghost use Rattle.wgsl.specs.Path as path;
 ghost use Rattle.wgsl.specs.Call.{answerOf, contentsOf, setCall, setTarget, setScalar};
 ghost use Rattle.said.specs.Answer.{saidNumber, Answered};
-ghost use Rattle.paths.specs.Set.{InBuffer};
+ghost use Rattle.walk_decide.specs.Decide.{saidAllowed};
+ghost use Rattle.paths.specs.Set.{InBuffer, fitOf};
 
 // 14, 16 for an f16, and its two bytes at `at`.
 fn set_half(at: usize, words: &[u32], buf: &mut [u8]) -> Number
@@ -62,8 +65,33 @@ fn set_eight(at: usize, words: &[u32], buf: &mut [u8]) -> Number
     Number::Is(at as u32)
 }
 
+// Whether words can be stored in the scalar `t`: 14, 16.
+pub fn fit_scalar(t: Target, words: &[u32]) -> Allowed
+    requires { ⌜ ((u : path.Target) × (bytes : ℕ) × InBuffer t u bytes) ⌝ }
+    ensures { λ r. ⌜ ((u : path.Target) (bytes : ℕ) → InBuffer t u bytes → (b : List ℕ) → saidAllowed r ≡ fitOf (setTarget u (now (words .entry)) b)) ⌝ }
+{
+    if !is_scalar(t.scalar) {
+        return Allowed::Refused(Refusal::Count);
+    }
+    if t.size == 8 {
+        if words.len() != 2 {
+            return Allowed::Refused(Refusal::Count);
+        }
+        return Allowed::Yes;
+    }
+    if words.len() != 1 {
+        return Allowed::Refused(Refusal::Count);
+    }
+    if t.size == 2 {
+        if 65535 < words[0] {
+            return Allowed::Refused(Refusal::Word(0));
+        }
+    }
+    Allowed::Yes
+}
+
 // 14, 16, and the scalar's bytes.
-fn set_scalar(t: Target, words: &[u32], buf: &mut [u8]) -> Number
+pub fn set_scalar(t: Target, words: &[u32], buf: &mut [u8]) -> Number
     requires { ⌜ ((u : path.Target) × InBuffer t u (length (now buf))) ⌝ }
     ensures { λ r. ⌜ ((u : path.Target) → InBuffer t u (length (now (buf .entry))) → Answered (setTarget u (now (words .entry)) (now (buf .entry))) r (now (buf .entry)) (now (buf .exit))) ⌝ }
 {

@@ -1,7 +1,7 @@
 -- No slack: what an answer says, number and place included, tells which answer it is. So two answers that a claim allows are the same.
 --
--- In order: anything that tells itself; refusals; a number or a refusal; a number or a length beside what was lent; the four numbers of an entry; a
--- target or a refusal; a part of the buffer.
+-- In order: anything that tells itself; refusals; a number or a refusal; a number or a length beside what was lent; the mask of a site block, and
+-- its buffer; the four numbers of an entry; a target or a refusal; a part of the buffer.
 -- Assumes nothing.
 use Prim.Native.Nat.{ℕ}
 use mathlib.Core.List.{List, [], _∷_}
@@ -12,9 +12,10 @@ use Rattle.wgsl.specs.Said.{Said, good, refused}
 use Rattle.wgsl.specs.Path as path
 use Rattle.wgsl.specs.Call as call
 use Rattle.wgsl.specs.Call.{partOf, partStart}
+use Rattle.wgsl.specs.Site.{SiteDone, siteAnswer, siteAfter, maskSet, zeroOf, maskAfter}
 use Rattle.said.specs.Refusal.{numberOf, placeOf}
 use Rattle.said.specs.declared.refusal.Refusal.{Refusal}
-use Rattle.said.specs.declared.refusal.Refusal.the-variants.{Short, Form, Counts, Length, Rule, Given, Large, Missing, Absent, Unstorable, NoMember, PastEnd, NoIndex, Count, Buffer, Word, Long, NoRank, NotUniform, Named}
+use Rattle.said.specs.declared.refusal.Refusal.the-variants.{Short, Form, Counts, Length, Rule, Given, Large, Missing, Absent, Unstorable, NoMember, PastEnd, NoIndex, Count, Buffer, Word, Long, NoRank, NotUniform, Named, NoSite}
 use Rattle.said.specs.Answer.{saidNumber, saidMoved, maybeOf, saidAnswer}
 use Rattle.said.specs.declared.answer.Number.{Number}
 use Rattle.said.specs.declared.answer.Moved.{Moved}
@@ -35,9 +36,9 @@ unfoldable pub refusalFrom : ℕ → ℕ → Refusal
 refusalFrom place number =
     getD
     (Short ∷ Short ∷ Form ∷ Counts ∷ Length ∷ Rule place ∷ Given place ∷ Large place ∷ Missing ∷ Absent ∷ Unstorable
-    ∷ NoMember place ∷ PastEnd place ∷ NoIndex place ∷ Count ∷ Buffer ∷ Word place ∷ Long ∷ NoRank ∷ NotUniform place ∷ [])
+    ∷ NoMember place ∷ PastEnd place ∷ NoIndex place ∷ Count ∷ Buffer ∷ Word place ∷ Long ∷ NoRank ∷ NotUniform place ∷ Named ∷ [])
     number
-    Named
+    NoSite
 
 pub refusal-told : (r : Refusal) → refusalFrom (placeOf r) (numberOf r) ≡ r
 unfolding refusalFrom
@@ -61,6 +62,7 @@ refusal-told Long = refl
 refusal-told NoRank = refl
 refusal-told (NotUniform entry) = refl
 refusal-told Named = refl
+refusal-told NoSite = refl
 
 -- ---- a number or a refusal
 
@@ -96,6 +98,17 @@ length-told (Moved.Refused r) = ap Moved.Refused (refusal-told r)
 -- Two results that a claim of a move allows are the same, the answer and the contents of what was lent.
 pub single-moved : (before : List ℕ) (said : Said call.Done) (a b : Moved) (x y : List ℕ) → saidMoved a ≡ call.answerOf said → saidMoved b ≡ call.answerOf said → x ≡ call.contentsOf before said → y ≡ call.contentsOf before said → (a ≡ b) × (x ≡ y)
 single-moved before said a b x y p q r s = (single saidMoved lengthFrom length-told a b p q, r ∙ sym s)
+
+-- ---- the mask of a site block, and its buffer
+
+-- Two results that a claim of a fresh block or of clearing allows are the same, the answer and the mask. `said` is what `freshCall` or
+-- `clearCall` says, and `before` what the mask was.
+pub single-mask : (before : ℕ) (said : Said ℕ) (a b : Number) (x y : ℕ) → saidNumber a ≡ zeroOf said → saidNumber b ≡ zeroOf said → x ≡ maskAfter before said → y ≡ maskAfter before said → (a ≡ b) × (x ≡ y)
+single-mask before said a b x y p q r s = (single-number a b p q, r ∙ sym s)
+
+-- The same of a set on site: the answer, the site buffer and the mask.
+pub single-site : (before : List ℕ) (mask : ℕ) (said : Said SiteDone) (a b : Number) (x y : List ℕ) (m n : ℕ) → saidNumber a ≡ siteAnswer said → saidNumber b ≡ siteAnswer said → x ≡ siteAfter before said → y ≡ siteAfter before said → m ≡ maskSet mask said → n ≡ maskSet mask said → (a ≡ b) × (x ≡ y) × (m ≡ n)
+single-site before mask said a b x y m n p q r s u v = (single-number a b p q, r ∙ sym s, u ∙ sym v)
 
 -- ---- the four numbers of an entry
 
@@ -142,7 +155,8 @@ single-walked = single saidWalked walkedFrom walked-told
 
 -- ---- a part of the buffer
 
--- Two parts that the claim of view or of view_mut allows have the same bytes, x and y, and lie at the same place, p and q. `said` is what
--- `viewCall` says, b what the buffer holds, and `start` where it lies.
+-- Two parts that the claim of view, of view_mut or of a site's member allows have the same bytes, x and y, and lie at the same place, p and q.
+-- `said` is what `viewCall` or `memberCall` says, b what the buffer holds, and `start` where it lies; of a member these are `handedFrom` the
+-- contents and the places of both buffers.
 pub single-part : (said : Said path.Target) (b : List ℕ) (start : ℕ × ℕ) (x y : List ℕ) (p q : ℕ × ℕ) → x ≡ partOf said b → y ≡ partOf said b → p ≡ after start (partStart said) → q ≡ after start (partStart said) → (x ≡ y) × (p ≡ q)
 single-part said b start x y p q k l m n = (k ∙ sym l, m ∙ sym n)

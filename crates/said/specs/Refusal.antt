@@ -2,7 +2,7 @@
 -- Definitions only. Assumes nothing.
 use Prim.Native.Nat.{ℕ}
 use Rattle.said.specs.declared.refusal.Refusal.{Refusal}
-use Rattle.said.specs.declared.refusal.Refusal.the-variants.{Short, Form, Counts, Length, Rule, Given, Large, Missing, Absent, Unstorable, NoMember, PastEnd, NoIndex, Count, Buffer, Word, Long, NoRank, NotUniform, Named}
+use Rattle.said.specs.declared.refusal.Refusal.the-variants.{Short, Form, Counts, Length, Rule, Given, Large, Missing, Absent, Unstorable, NoMember, PastEnd, NoIndex, Count, Buffer, Word, Long, NoRank, NotUniform, Named, NoSite}
 
 abbrev pub numberOf : Refusal → ℕ
 numberOf Short = 1
@@ -25,6 +25,7 @@ numberOf Long = 17
 numberOf NoRank = 18
 numberOf (NotUniform entry) = 19
 numberOf Named = 20
+numberOf NoSite = 21
 
 abbrev pub placeOf : Refusal → ℕ
 placeOf Short = 0
@@ -47,3 +48,4 @@ placeOf Long = 0
 placeOf NoRank = 0
 placeOf (NotUniform entry) = entry
 placeOf Named = 0
+placeOf NoSite = 0

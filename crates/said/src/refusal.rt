@@ -37,6 +37,8 @@ pub enum Refusal {
     NotUniform(usize),
     // 20: a name that is not 0
     Named,
+    // 21: no struct of fixed size and at most 64 members, or mask bits beyond them
+    NoSite,
 }
 
 pub fn number(r: Refusal) -> u32
@@ -63,6 +65,7 @@ pub fn number(r: Refusal) -> u32
         Refusal::NoRank => 18,
         Refusal::NotUniform(_) => 19,
         Refusal::Named => 20,
+        Refusal::NoSite => 21,
     }
 }
 

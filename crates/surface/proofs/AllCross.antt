@@ -7,6 +7,7 @@ use native.Mathlib.Omega.{arith}
 use Rattle.wgsl.specs.Said.{Said, good, refused}
 use Rattle.wgsl.specs.Path.{Target}
 use Rattle.wgsl.specs.Call.{Layout, Done, answerOf, offsetOf}
+use Rattle.wgsl.specs.Site.{SiteDone, siteAnswer, zeroOf}
 use Rattle.wgsl.specs.Claim.{PlaceFits}
 use Rattle.wgsl.proofs.Said.{good-not-refused}
 use Rattle.wgsl.proofs.Claims.{refused-places-fit}
@@ -32,6 +33,16 @@ unfolding offsetOf
 offset-fits (good t) h number place e = good-not-refused refl e
 offset-fits (refused n p) h number place e = h number place cc
 
+site-fits : (said : Said SiteDone) → PlaceFits said → PlaceFits (siteAnswer said)
+unfolding siteAnswer
+site-fits (good d) h number place e = good-not-refused refl e
+site-fits (refused n p) h number place e = h number place cc
+
+zero-fits : (said : Said ℕ) → PlaceFits said → PlaceFits (zeroOf said)
+unfolding zeroOf
+zero-fits (good mask) h number place e = good-not-refused refl e
+zero-fits (refused n p) h number place e = h number place cc
+
 -- Every refusal of every call crosses whole.
 pub all-cross : (f : List ℕ) → AllCross f
 all-cross f =
@@ -53,4 +64,8 @@ all-cross f =
       common = λ es. whole _ (fits .common es);
       to-form-2 = λ out. whole _ (answer-fits _ (fits .to-form-2 out));
       to-form-1 = λ out. whole _ (answer-fits _ (fits .to-form-1 out));
+      site-fresh = λ e. whole _ (zero-fits _ (fits .site-fresh e));
+      site-clear = λ e k mask. whole _ (zero-fits _ (fits .site-clear e k mask));
+      site-member = λ e k mask factory site. whole _ (offset-fits _ (fits .site-member e k mask factory site));
+      site-set = λ e k steps ws mask factory site. whole _ (site-fits _ (fits .site-set e k steps ws mask factory site));
     }

@@ -1,2 +1,3 @@
 -- What is claimed of the exports together.
 pub mod AllCross
+pub mod Viewed

@@ -1,18 +1,21 @@
 -- An answer as the numbers that cross to C.
 --
--- In order: an answer that is a number; the four numbers of a layout; the bytes of a view; places.
+-- In order: an answer that is a number; the four numbers of a layout; the bytes of a view, and which buffer shows a member; places.
 -- Definitions only. Assumes nothing.
 use Prim.Native.Nat.{ℕ, _%_, _^_}
 use mathlib.Core.List.{List, [], _∷_}
+use mathlib.Core.Bool.{cond}
 use mathlib.Core.Option.{Option, none, some}
 use mathlib.Core.Path.{_≡_}
 use Rattle.wgsl.specs.Said.{Said, good, refused}
 use Rattle.wgsl.specs.Place.{spanOf}
 use Rattle.wgsl.specs.Path.{Target}
 use Rattle.wgsl.specs.Call.{Layout, answerOf, offsetOf, checkOf, sizeCall, alignCall, minSizeCall, layoutCall, readCall, writeCall, viewCall, setCall, rankCall, commonCall}
+use Rattle.wgsl.specs.BitField.{bitAt}
 use Rattle.wgsl.specs.BitFieldCall.{extractCall, insertCall}
 use Rattle.wgsl.specs.Uniform.{uniformCall}
 use Rattle.wgsl.specs.Form.{moveOnCall, moveBackCall}
+use Rattle.wgsl.specs.Site.{freshCall, memberCall, siteSetCall, siteAnswer, clearCall, zeroOf}
 use Rattle.surface.specs.declared.Crossing.{Crossing}
 
 -- 0 and the value, or the refusal's number and place
@@ -41,6 +44,11 @@ abbrev pub sizeOut : Said Target → ℕ → ℕ
 sizeOut (good t) before = spanOf (t .shape)
 sizeOut (refused number place) before = before
 
+-- what the one number lent holds at the end, beside the offset of a member: 1 where the site buffer shows it
+abbrev pub siteOut : Said Target → ℕ → ℕ → ℕ → ℕ
+siteOut (good t) mask member before = cond (bitAt mask member) 1 0
+siteOut (refused number place) mask member before = before
+
 -- ---- places
 
 -- a refusal crosses whole: its number, and all of its place
@@ -66,3 +74,7 @@ pub record AllCross (f : List ℕ) : Type 0 where
   pub common : (es : List ℕ) → CrossesWhole (commonCall f es)
   pub to-form-2 : (out : List ℕ) → CrossesWhole (answerOf (moveOnCall f out))
   pub to-form-1 : (out : List ℕ) → CrossesWhole (answerOf (moveBackCall f out))
+  pub site-fresh : (e : ℕ) → CrossesWhole (zeroOf (freshCall f e))
+  pub site-clear : (e k mask : ℕ) → CrossesWhole (zeroOf (clearCall f e k mask))
+  pub site-member : (e k mask : ℕ) (factory site : List ℕ) → CrossesWhole (offsetOf (memberCall f e k mask factory site))
+  pub site-set : (e k : ℕ) (steps ws : List ℕ) (mask : ℕ) (factory site : List ℕ) → CrossesWhole (siteAnswer (siteSetCall f e k steps ws mask factory site))

@@ -8,13 +8,15 @@ use said::refusal::number;
 use said::refusal::place;
 use said::target::Walked;
 ghost use mathlib.Core.Path.{_≡_};
+ghost use mathlib.Core.Bool.{cond};
 ghost use Rattle.wgsl.specs.Call.{checkOf, sizeCall, alignCall, minSizeCall, layoutCall, rankCall, commonCall, answerOf, contentsOf, readCall, writeCall, offsetOf, viewCall, setCall};
 ghost use Rattle.wgsl.specs.BitField.{extractedU32, extractedI32, inserted, patternOf, signedOf};
 ghost use Rattle.wgsl.specs.BitFieldCall.{extractCall, insertCall};
 ghost use Rattle.wgsl.specs.Uniform.{uniformCall};
 ghost use Rattle.wgsl.specs.Form.{moveOnCall, moveBackCall};
+ghost use Rattle.wgsl.specs.Site.{freshCall, clearCall, memberCall, siteSetCall, zeroOf, maskAfter, siteAnswer, siteAfter, maskSet};
 ghost use Rattle.said.specs.Answer.{saidNumber, saidMoved, maybeOf};
-ghost use Rattle.surface.specs.Crossing.{crossed, crossedMaybe, told, laidOut, sizeOut};
+ghost use Rattle.surface.specs.Crossing.{crossed, crossedMaybe, told, laidOut, sizeOut, siteOut};
 
 // An answer as it crosses to C: 0 or document 01's number, its place, the value (0 when refused).
 #[repr(C)]
@@ -286,4 +288,80 @@ pub extern "C" fn lepugaso_surface_to_form_1(file: &[u8], out: &mut [u8]) -> Cro
     ensures out { λ r. ⌜ now (out .exit) ≡ contentsOf (now (out .entry)) (moveBackCall (now (file .entry)) (now (out .entry))) ⌝ }
 {
     cross_moved(lepugaso::to_form_1(file, out))
+}
+
+// Yes or no, as it crosses.
+fn cross_bool(b: bool) -> u64
+    ensures { λ r. ⌜ r ≡ cond b 1 0 ⌝ }
+{
+    if b { 1 } else { 0 }
+}
+
+#[no_mangle]
+pub extern "C" fn lepugaso_surface_site_fresh(file: &[u8], entry: u32, mask: &mut u64) -> Crossing
+    ensures answer { λ r. ⌜ r ≡ crossed (zeroOf (freshCall (now (file .entry)) entry)) ⌝ }
+    ensures mask { λ r. ⌜ now (mask .exit) ≡ maskAfter (now (mask .entry)) (freshCall (now (file .entry)) entry) ⌝ }
+{
+    cross(lepugaso::site_fresh(file, entry, mask))
+}
+
+#[no_mangle]
+pub extern "C" fn lepugaso_surface_site_clear(
+    file: &[u8],
+    entry: u32,
+    member: u32,
+    mask: &mut u64,
+) -> Crossing
+    ensures answer { λ r. ⌜ r ≡ crossed (zeroOf (clearCall (now (file .entry)) entry member (now (mask .entry)))) ⌝ }
+    ensures mask { λ r. ⌜ now (mask .exit) ≡ maskAfter (now (mask .entry)) (clearCall (now (file .entry)) entry member (now (mask .entry))) ⌝ }
+{
+    cross(lepugaso::site_clear(file, entry, member, mask))
+}
+
+// A good answer is the offset; `size` is the bytes there, and `shown` 1 if they are the site buffer's, else 0.
+#[no_mangle]
+pub extern "C" fn lepugaso_surface_site_member(
+    file: &[u8],
+    entry: u32,
+    member: u32,
+    mask: u64,
+    factory: &[u8],
+    site: &[u8],
+    size: &mut u64,
+    shown: &mut u64,
+) -> Crossing
+    ensures answer { λ r. ⌜ r ≡ crossed (offsetOf (memberCall (now (file .entry)) entry member mask (now (factory .entry)) (now (site .entry)))) ⌝ }
+    ensures size { λ r. ⌜ now (size .exit) ≡ sizeOut (memberCall (now (file .entry)) entry member mask (now (factory .entry)) (now (site .entry))) (now (size .entry)) ⌝ }
+    ensures shown { λ r. ⌜ now (shown .exit) ≡ siteOut (memberCall (now (file .entry)) entry member mask (now (factory .entry)) (now (site .entry))) mask member (now (shown .entry)) ⌝ }
+{
+    match lepugaso::site_member_at(file, entry, member, mask, factory, site) {
+        Walked::To(t) => {
+            *size = t.size as u64;
+            *shown = cross_bool(lepugaso::site_shows(mask, member));
+            Crossing {
+                refusal: 0,
+                place: 0,
+                value: t.offset as u64,
+            }
+        }
+        Walked::Refused(r) => cross(Number::Refused(r)),
+    }
+}
+
+#[no_mangle]
+pub extern "C" fn lepugaso_surface_site_set(
+    file: &[u8],
+    entry: u32,
+    member: u32,
+    path: &[u32],
+    words: &[u32],
+    factory: &[u8],
+    site: &mut [u8],
+    mask: &mut u64,
+) -> Crossing
+    ensures answer { λ r. ⌜ r ≡ crossed (siteAnswer (siteSetCall (now (file .entry)) entry member (now (path .entry)) (now (words .entry)) (now (mask .entry)) (now (factory .entry)) (now (site .entry)))) ⌝ }
+    ensures site { λ r. ⌜ now (site .exit) ≡ siteAfter (now (site .entry)) (siteSetCall (now (file .entry)) entry member (now (path .entry)) (now (words .entry)) (now (mask .entry)) (now (factory .entry)) (now (site .entry))) ⌝ }
+    ensures mask { λ r. ⌜ now (mask .exit) ≡ maskSet (now (mask .entry)) (siteSetCall (now (file .entry)) entry member (now (path .entry)) (now (words .entry)) (now (mask .entry)) (now (factory .entry)) (now (site .entry))) ⌝ }
+{
+    cross(lepugaso::site_set(file, entry, member, path, words, factory, site, mask))
 }

@@ -1,30 +1,9 @@
--- What `view_at` answers, crossed: the offset, then the number lent.
+-- What `view_at` answers, crossed: the offset, then the number lent (`Viewed`).
 use borrow.Author.Needs.{needs}
-use Prim.Native.Nat.{ℕ}
-use mathlib.Core.Path.{_≡_, refl, sym, _∙_}
-use Rattle.wgsl.specs.Said.{Said, good, refused}
-use Rattle.wgsl.specs.Path as path
-use Rattle.wgsl.specs.Call.{offsetOf}
-use Rattle.wgsl.proofs.Said.{good-not-refused}
-use Rattle.said.specs.declared.target.Target.{Target}
-use Rattle.said.specs.Target.{targetIs, reached}
-use Rattle.surface.specs.Crossing.{crossed, sizeOut}
+use mathlib.Core.Path.{_∙_}
+use Rattle.surface.proofs.Viewed.{viewed, stopped}
 use Rattle.surface.proofs.lepugaso_surface_view.Statement.{statement}
 use Rattle.surface.proofs.lepugaso_surface_view.Tie as tie
-
--- a target, and none
-viewed : {t : Target} (said : Said path.Target) (before : ℕ) → good t ≡ reached said → (crossed (good (t .offset)) ≡ crossed (offsetOf said)) × (t .size ≡ sizeOut said before)
-unfolding offsetOf
-viewed {t} (good u) before e = let is : t ≡ targetIs u = cc in rw is (refl, refl)
-viewed (refused number place) before e = good-not-refused refl e
-
-stopped : {number place : ℕ} (said : Said path.Target) (before : ℕ) → refused number place ≡ reached said → (crossed (refused number place) ≡ crossed (offsetOf said)) × (before ≡ sizeOut said before)
-unfolding offsetOf
-stopped (good u) before e = good-not-refused refl (sym e)
-stopped {number} {place} (refused n p) before e =
-    let a : number ≡ n = cc in
-    let b : place ≡ p = cc in
-    rw (a, b) (refl, refl)
 
 returns : tie.Need-returns
 returns c =

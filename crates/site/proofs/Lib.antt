@@ -1,0 +1,9 @@
+-- Laws of site blocks.
+pub mod IsBlock
+pub mod BlockGround
+pub mod SpotFound
+pub mod SpotCall
+pub mod MemberFound
+pub mod ClearCall
+pub mod StoreIn
+pub mod SiteSet

@@ -1,0 +1,7 @@
+// A factory buffer and a site buffer of one struct, with a mask of the members that were set on site (02, E8).
+pub mod block;
+pub mod clear;
+pub mod mask;
+pub mod member;
+pub mod set;
+pub mod spot;
