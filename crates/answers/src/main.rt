@@ -1,4 +1,4 @@
-// Answers questions about layout files: reads them on standard input and writes a line for each (oracle/README.md, version 8).
+// Answers questions about layout files: reads them on standard input and writes a line for each (oracle/README.md, version 9).
 mod lines;
 mod question;
 mod say;
@@ -24,10 +24,11 @@ fn take(line: &[u8], at: usize, out: &mut [u8], complaint: &[u8]) -> usize
     p.count
 }
 
-// Answers the lines from `start` on; `file` has room for the bytes of a file, `buffer` for those of a buffer.
-fn answer_all(text: &[u8], start: usize, file: &mut [u8], buffer: &mut [u8]) {
+// Answers the lines from `start` on; `file` has room for the bytes of a file, `buffer` and `factory` for those of a buffer.
+fn answer_all(text: &[u8], start: usize, file: &mut [u8], buffer: &mut [u8], factory: &mut [u8]) {
     let mut size: usize = 0;
     let mut held: usize = 0;
+    let mut made: usize = 0;
     let n = text.len();
     let mut at = start;
     while at < n {
@@ -42,8 +43,10 @@ fn answer_all(text: &[u8], start: usize, file: &mut [u8], buffer: &mut [u8]) {
             size = take(line, word, file, b"not a file\n");
         } else if same(&line[..word], b"buffer") {
             held = take(line, word, buffer, b"not a buffer\n");
+        } else if same(&line[..word], b"factory") {
+            made = take(line, word, factory, b"not a factory\n");
         } else {
-            answer_line(&file[..size], &buffer[..held], line, word);
+            answer_line(&file[..size], &buffer[..held], &factory[..made], line, word);
         }
     }
 }
@@ -59,12 +62,13 @@ fn main() {
     let mut input = room();
     let mut file = io::large_buffer();
     let mut buffer = io::buffer();
+    let mut factory = io::buffer();
     let n = io::read_full(STDIN_FILENO, &mut input);
     let text = &input[..n];
     let first = next(text, 0, 10);
-    if !same(&text[..first], b"questions 8") {
-        return say(b"not questions 8\n");
+    if !same(&text[..first], b"questions 9") {
+        return say(b"not questions 9\n");
     }
-    say(b"answers 8\n");
-    answer_all(text, first + 1, &mut file, &mut buffer);
+    say(b"answers 9\n");
+    answer_all(text, first + 1, &mut file, &mut buffer, &mut factory);
 }

@@ -5,9 +5,11 @@ use crate::lines::same;
 use crate::say::say;
 use crate::say::say_bytes;
 use crate::say::say_layout;
+use crate::say::say_mask;
 use crate::say::say_moved;
 use crate::say::say_number;
 use crate::say::say_plain;
+use crate::say::say_shown;
 use crate::say::say_walked;
 use crate::say::say_words;
 use lepugaso::align;
@@ -22,6 +24,12 @@ use lepugaso::min_size;
 use lepugaso::rank;
 use lepugaso::read;
 use lepugaso::set;
+use lepugaso::site_clear;
+use lepugaso::site_fresh;
+use lepugaso::site_member;
+use lepugaso::site_member_at;
+use lepugaso::site_set;
+use lepugaso::site_shows;
 use lepugaso::size;
 use lepugaso::to_form_1;
 use lepugaso::to_form_2;
@@ -151,6 +159,124 @@ fn answer_move(file: &[u8], form_1: bool, held: &[u8]) {
     say(b"\n");
 }
 
+// A mask by its low and its high 32 bits.
+fn mask_of(low: u32, high: u32) -> u64 {
+    (high as u64) * 4294967296 + (low as u64)
+}
+
+// Says the mask of a fresh block.
+fn answer_fresh(file: &[u8], entry: u32, mask: u64) {
+    let mut m = mask;
+    say_plain(site_fresh(file, entry, &mut m));
+    say_mask(m);
+    say(b"\n");
+}
+
+// Clears a member, and says the mask.
+fn answer_clear(file: &[u8], entry: u32, k: u32, mask: u64) {
+    let mut m = mask;
+    say_plain(site_clear(file, entry, k, &mut m));
+    say_mask(m);
+    say(b"\n");
+}
+
+// Says where a member lies, which buffer shows it, and its bytes there.
+fn answer_member<'a>(
+    file: &[u8],
+    entry: u32,
+    k: u32,
+    mask: u64,
+    factory: &'a [u8],
+    held: &'a [u8],
+) {
+    let part = site_member(file, entry, k, mask, factory, held);
+    let on = site_shows(mask, k);
+    say_shown(site_member_at(file, entry, k, mask, factory, held), on);
+    say_bytes(part);
+    say(b"\n");
+}
+
+// Sets a scalar in a member in a copy of the buffer, and says the mask, and what the copy holds then.
+fn answer_site_set(
+    file: &[u8],
+    entry: u32,
+    k: u32,
+    path: &[u32],
+    words: &[u32],
+    mask: u64,
+    factory: &[u8],
+    held: &[u8],
+) {
+    let mut buffer = io::buffer();
+    let p = copy(held, &mut buffer);
+    let n = p.count;
+    let mut m = mask;
+    say_plain(site_set(
+        file,
+        entry,
+        k,
+        path,
+        words,
+        factory,
+        &mut buffer[..n],
+        &mut m,
+    ));
+    say_mask(m);
+    say_bytes(&buffer[..n]);
+    say(b"\n");
+}
+
+// The same, where the first `count` numbers are the words and the others the path.
+fn answer_site_set_of(
+    file: &[u8],
+    entry: u32,
+    k: u32,
+    mask: u64,
+    count: u32,
+    ns: &[u32],
+    factory: &[u8],
+    held: &[u8],
+) {
+    let words = count as usize;
+    if ns.len() < words {
+        return say(b"not a question\n");
+    }
+    answer_site_set(
+        file,
+        entry,
+        k,
+        &ns[words..],
+        &ns[..words],
+        mask,
+        factory,
+        held,
+    );
+}
+
+// The questions about a site block, whose entry comes first; the others are not.
+fn answer_site<'a>(file: &[u8], held: &'a [u8], factory: &'a [u8], word: &[u8], ns: &[u32]) {
+    if ns.len() == 3 {
+        if same(word, b"site_fresh") {
+            return answer_fresh(file, ns[0], mask_of(ns[1], ns[2]));
+        }
+    }
+    if ns.len() == 4 {
+        if same(word, b"site_clear") {
+            return answer_clear(file, ns[0], ns[1], mask_of(ns[2], ns[3]));
+        }
+        if same(word, b"site_member") {
+            return answer_member(file, ns[0], ns[1], mask_of(ns[2], ns[3]), factory, held);
+        }
+    }
+    if 4 < ns.len() {
+        if same(word, b"site_set") {
+            let mask = mask_of(ns[2], ns[3]);
+            return answer_site_set_of(file, ns[0], ns[1], mask, ns[4], &ns[5..], factory, held);
+        }
+    }
+    answer(file, word, ns);
+}
+
 // The questions with one entry.
 fn answer_entry(file: &[u8], word: &[u8], entry: u32) {
     if same(word, b"size") {
@@ -201,8 +327,8 @@ fn answer(file: &[u8], word: &[u8], ns: &[u32]) {
     say(b"not a question\n");
 }
 
-// Answers the line whose word ends before `word`, about a file and a buffer.
-pub fn answer_line(file: &[u8], held: &[u8], line: &[u8], word: usize)
+// Answers the line whose word ends before `word`, about a file, a buffer and a factory buffer.
+pub fn answer_line<'a>(file: &[u8], held: &'a [u8], factory: &'a [u8], line: &[u8], word: usize)
     requires { ⌜ Counted word (now line) ⌝ }
 {
     let mut ns = [0u32; 1024];
@@ -245,5 +371,5 @@ pub fn answer_line(file: &[u8], held: &[u8], line: &[u8], word: usize)
             return answer_insert(file, ns[0], ns[1], ns[2], ns[3], &ns[4..n], held);
         }
     }
-    answer(file, &line[..word], &ns[..n]);
+    answer_site(file, held, factory, &line[..word], &ns[..n]);
 }

@@ -109,3 +109,26 @@ pub fn say_walked(w: Walked) {
         Walked::Refused(r) => say_refused(r),
     }
 }
+
+// A mask, after a space.
+pub fn say_mask(mask: u64) {
+    say(b" ");
+    io::print_decimal(STDOUT_FILENO, mask);
+}
+
+// Where a member lies: its offset, how many bytes it has and which buffer shows it, or a refusal.
+pub fn say_shown(w: Walked, on: bool) {
+    match w {
+        Walked::To(t) => {
+            io::print_decimal(STDOUT_FILENO, t.offset as u64);
+            say(b" ");
+            io::print_decimal(STDOUT_FILENO, t.size as u64);
+            if on {
+                say(b" site");
+            } else {
+                say(b" factory");
+            }
+        }
+        Walked::Refused(r) => say_refused(r),
+    }
+}

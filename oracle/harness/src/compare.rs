@@ -33,6 +33,10 @@ const PLAN: Plan = Plan {
     longs: 12_000,
     forms: 20_000,
     outputs: 4088,
+    site_edges: 1,
+    sites: 8000,
+    site_asked: 12,
+    site_bytes: 4096,
 };
 
 const RECORDED: Plan = Plan {
@@ -56,6 +60,10 @@ const RECORDED: Plan = Plan {
     longs: 3,
     forms: 10,
     outputs: 150,
+    site_edges: 30,
+    sites: 6,
+    site_asked: 3,
+    site_bytes: 24,
 };
 
 fn read(path: &str) -> String {
@@ -103,6 +111,7 @@ pub fn ask(seed: u64, document: &str, folder: &str) -> bool {
     generate::bool_blocks(seed, &PLAN, &mut put);
     generate::long_blocks(seed, &PLAN, &mut put);
     generate::form_blocks(seed, &PLAN, &mut put);
+    generate::site_blocks(seed, &PLAN, &mut put);
     flush(&mut text);
     println!("{files:9} files in all, seed {seed}");
     true
@@ -160,8 +169,9 @@ fn judged(due: &Due, rust: &str, lepugaso: &str) -> Option<String> {
 
 /// A question with what it is about, as a fault names it.
 fn whole(block: &Block, q: &Question) -> String {
+    let factory = q.factory().map_or(String::new(), |b| question::factory_line(b) + " ");
     let buffer = q.buffer().map_or(String::new(), |b| question::buffer_line(b) + " ");
-    format!("{} {buffer}{}", question::file_line(&block.file), q.line())
+    format!("{} {factory}{buffer}{}", question::file_line(&block.file), q.line())
 }
 
 fn answers(path: &str) -> String {
@@ -232,6 +242,7 @@ pub fn record(document: &str, folder: &str) -> bool {
     generate::bool_blocks(1, &RECORDED, |b| blocks.push(b));
     generate::long_blocks(1, &RECORDED, |b| blocks.push(b));
     generate::form_blocks(1, &RECORDED, |b| blocks.push(b));
+    generate::site_blocks(1, &RECORDED, |b| blocks.push(b));
     let questions = blocks.iter().fold(format!("{HEAD}\n"), |s, b| s + &b.lines());
     let rust = answer(&questions);
     let mut rust = rust.lines();

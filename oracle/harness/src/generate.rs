@@ -2,7 +2,7 @@
 //! asked, buffers and words on each side of their edges.
 use crate::file::{Entry, Member, Table};
 use crate::model::{self, Good, Laid, Stand};
-use crate::question::{Block, Field, Question};
+use crate::question::{Block, Field, Question, Sheets};
 use crate::rows;
 
 /// splitmix64: a seed gives the same questions everywhere.
@@ -1289,6 +1289,14 @@ pub struct Plan {
     pub forms: usize,
     /// the longest file that is moved
     pub outputs: u64,
+    /// of what is asked about the members of site blocks made by hand: one of so many
+    pub site_edges: u64,
+    /// random tables on which site blocks are asked about; for each four two damaged ones, for each eight a nested one and a struct of many
+    /// members
+    pub sites: usize,
+    /// questions on each of them, and the longest buffers there
+    pub site_asked: usize,
+    pub site_bytes: u64,
 }
 
 pub fn blocks(seed: u64, plan: &Plan, mut each: impl FnMut(Block)) {
@@ -1636,6 +1644,297 @@ pub fn form_blocks(seed: u64, plan: &Plan, mut each: impl FnMut(Block)) {
             let elements = if good.laid[e].open { 1 + r.below(3) } else { 0 };
             let file = named(&mut r, &n).write_as(2, &[]);
             each(Block { file, questions: path_edges(&mut r, &good, e, elements) });
+        }
+    }
+}
+
+/// The mask of all members of a struct of so many.
+fn full(count: u32) -> u64 {
+    u64::MAX.checked_shr(64 - count.min(64)).unwrap_or(0)
+}
+
+/// Masks of a struct of so many members: none of them, member k alone, all, all but it, any.
+fn masks(r: &mut Random, count: u32, k: u32) -> [u64; 5] {
+    let (all, one) = (full(count), 1 << (k % 64));
+    [0, one & all, all, all & !one, r.next() & all]
+}
+
+/// Members that a struct of so many has not: those after its last, and those that a number of fewer bits, or a step, would have.
+fn strangers(count: u32) -> [u32; 5] {
+    [count, count.max(64), MEMBER, MEMBER | 1, u32::MAX]
+}
+
+/// Asking for member k, setting in it, and clearing it.
+fn of_setting(e: u32, k: u32, mask: u64, words: Vec<u32>, path: Vec<u32>, sheets: &Sheets) -> [Question; 3] {
+    [
+        Question::SiteMember(e, k, mask, sheets.clone()),
+        Question::SiteSet(e, k, mask, words, path, sheets.clone()),
+        Question::SiteClear(e, k, mask),
+    ]
+}
+
+/// Words for the scalar that a path leads to from an entry's type, as many as it takes; now and then one that no f16 has.
+fn site_words(r: &mut Random, good: &Good, ty: usize, path: &[u32]) -> Vec<u32> {
+    let words = any_words(r, 2);
+    let word = r.of(&[words[0], words[1] % 65_536, words[1] % 65_536, 65_535, 65_536]);
+    words_to_set(good, ty, 0, path, [word, words[0]])
+}
+
+/// The types of a struct's members; none of what is not a struct.
+fn member_types(good: &Good, e: usize) -> Vec<usize> {
+    let x = good.table.entries[e];
+    let ms = if x.kind == 12 { good.table.members_of(&x).expect("members within the table") } else { &[] };
+    ms.iter().map(|m| m.ty as usize).collect()
+}
+
+/// Of three questions the one at a place, and of the others one of so many.
+fn thinned(r: &mut Random, one_of: u64, at: usize, qs: [Question; 3]) -> Vec<Question> {
+    qs.into_iter().enumerate().filter(|(i, _)| *i == at % 3 || r.one_in(one_of)).map(|(_, q)| q).collect()
+}
+
+/// The site block of a struct: its members, of many those at the ends of the mask's halves, under each sort of mask; every scalar in them,
+/// by words of every number; paths that may be bad; members that are not there; masks that go beyond; each edge of both buffers. Of most of
+/// these one of so many.
+fn site_edges(r: &mut Random, good: &Good, e: usize, one_of: u64) -> Vec<Question> {
+    let (entry, size, types) = (e as u32, good.extent(e, 0), member_types(good, e));
+    let (count, last) = (types.len() as u32, types.len() as u32 - 1);
+    let (more, beside) = (1 + r.below(5), r.below(5));
+    let room = Sheets { factory: bytes(r, size + beside), site: bytes(r, size + more) };
+    let mut qs = thinned(r, one_of, 0, [u64::MAX, full(count), 0].map(|mask| Question::SiteFresh(entry, mask)));
+    for k in (0..count).filter(|k| count < 16 || [0, 1, 31, 32, 33, 62, 63].contains(k)) {
+        let ty = types[k as usize];
+        for (i, mask) in masks(r, count, k).into_iter().enumerate() {
+            let path = good_path(r, good, ty, 0, 300);
+            let words = site_words(r, good, ty, &path);
+            let asked = of_setting(entry, k, mask, words, path, &room);
+            // of few members a scalar of each is set
+            if count < 16 && i == k as usize % 5 {
+                qs.extend(thinned(r, one_of, 1, asked));
+            } else if r.one_in(one_of) {
+                qs.extend(asked);
+            }
+        }
+        for path in scalar_paths(good, ty, 0, &[]) {
+            for n in 0..4 {
+                let (mask, words) = (masks(r, count, k)[r.below(5) as usize], any_words(r, n));
+                if r.one_in(one_of) {
+                    qs.push(Question::SiteSet(entry, k, mask, words, path.clone(), room.clone()));
+                }
+            }
+        }
+        for _ in 0..6 {
+            let (mask, path) = (masks(r, count, k)[r.below(5) as usize], any_path(r, good, ty, 0));
+            let words = site_words(r, good, ty, &path);
+            if r.one_in(one_of) {
+                qs.push(Question::SiteSet(entry, k, mask, words, path, room.clone()));
+            }
+        }
+    }
+    let path = good_path(r, good, types[last as usize], 0, 300);
+    let words = words_to_set(good, types[last as usize], 0, &path, [9, 8]);
+    for (i, mask) in masks(r, count, last).into_iter().enumerate() {
+        let asked = of_setting(entry, last, mask, words.clone(), path.clone(), &room);
+        qs.extend(thinned(r, one_of, e + i, asked));
+    }
+    // 11 for the member comes before what is wrong with the path and the words
+    for (i, k) in strangers(count).into_iter().enumerate() {
+        let asked = of_setting(entry, k, 1, vec![], vec![9], &room);
+        qs.extend(thinned(r, one_of, e + i, asked));
+    }
+    // 21 comes before 15, and that before 11
+    let beyond: Vec<u32> = [count, 63].into_iter().filter(|bit| (count..64).contains(bit)).collect();
+    for (i, bit) in beyond.iter().enumerate() {
+        let asked = of_setting(entry, 0, 1 << bit, vec![7], vec![], &room);
+        qs.extend(thinned(r, one_of, e + i, asked));
+    }
+    for (i, bit) in beyond.iter().enumerate() {
+        let sheets = Sheets { site: vec![], ..room.clone() };
+        let asked = of_setting(entry, count, 1 << bit, vec![7], vec![], &sheets);
+        qs.extend(thinned(r, one_of, e + i, asked));
+    }
+    if count < 16 || r.one_in(one_of) {
+        let short = size - 1;
+        for (i, (factory, site)) in
+            [(size, 0), (size, short), (size, size), (short, size), (0, size)].into_iter().enumerate()
+        {
+            let of = |sheet: &[u8], length: u64| sheet[..length as usize].to_vec();
+            let sheets = Sheets { factory: of(&room.factory, factory), site: of(&room.site, site) };
+            let mask = r.of(&[0, full(count)]);
+            let asked = of_setting(entry, last, mask, words.clone(), path.clone(), &sheets);
+            qs.extend(thinned(r, one_of, i % 2, asked));
+            let asked = of_setting(entry, count, mask, vec![], vec![9], &sheets);
+            qs.extend(thinned(r, one_of, i % 2 + 1, asked));
+        }
+    }
+    qs
+}
+
+/// A fresh block of an entry, whatever it is, and of the others one, or all.
+fn site_of_any(r: &mut Random, e: u32, mask: u64, sheets: &Sheets, one_of: u64) -> Vec<Question> {
+    let asked = of_setting(e, 0, mask, vec![7], vec![], sheets);
+    [vec![Question::SiteFresh(e, mask)], thinned(r, one_of, e as usize, asked)].concat()
+}
+
+/// Structs of 1, 2, 63, 64 and 65 members.
+fn site_counts() -> Table {
+    let structs = [1, 2, 63, 64, 65].map(|n| entry(12, 0, 0, 0, n));
+    Table { entries: [vec![entry(4, 0, 0, 0, 0)], structs.to_vec()].concat(), members: vec![Member::default(); 65] }
+}
+
+/// A struct with members of every sort, and what is fit for no site block: no struct, what has no layout, an open struct, with and without a
+/// bool, a struct with a bool.
+fn site_sorts() -> Table {
+    let over = |kind, columns, rows, reference, count| (entry(kind, columns, rows, reference, count), vec![]);
+    let of = |ms: Vec<Member>| (entry(12, 0, 0, 0, 0), ms);
+    let plain = |ty| member(ty, None, None);
+    table(&[
+        scalar(3),
+        scalar(4),
+        scalar(2),
+        scalar(13),
+        over(7, 0, 3, 0, 0),
+        over(8, 2, 3, 1, 0),
+        over(11, 0, 0, 2, 0),
+        of(vec![plain(1), plain(2)]),
+        over(9, 0, 0, 7, 2),
+        of(vec![
+            plain(0),
+            member(1, Some(5), None),
+            plain(4),
+            plain(2),
+            plain(5),
+            plain(3),
+            plain(6),
+            member(7, Some(9), None),
+            plain(8),
+            member(1, None, Some(8)),
+        ]),
+        scalar(0),
+        scalar(5),
+        over(7, 0, 3, 3, 0),
+        over(10, 0, 0, 2, 0),
+        of(vec![plain(2), plain(13)]),
+        of(vec![plain(10), plain(13)]),
+        of(vec![plain(2), plain(10)]),
+    ])
+}
+
+/// An accepted table whose last entry is a struct of `n` members, none of more than 32 bytes.
+fn wide(r: &mut Random, n: u64, kinds: &[u8]) -> Table {
+    let (base, types) = (table(&[scalar(r.of(&STORED))]), 2 + r.below(6) as usize);
+    let t = random_over(r, base, types, 12, kinds);
+    let good = model::check(&t.write(&[])).ok().expect("an accepted table");
+    let bools = r.one_in(16);
+    let is_small = |l: &Laid| l.size.is_some_and(|s| s <= 32) && l.align.is_some_and(|a| a <= 32);
+    let fit = |ty: &usize| is_small(&good.laid[*ty]) && (bools || !good.laid[*ty].holds_bool);
+    let fit: Vec<usize> = (0..types).filter(fit).collect();
+    let mut one = || {
+        let ty = r.of(&fit);
+        let size = good.laid[ty].size.filter(|_| r.one_in(8)).map(|s| s as u32 + r.below(9) as u32);
+        member(ty as u16, size, None)
+    };
+    let ms = (0..n).map(|_| one()).collect();
+    with(&t, &structure(&t, ms))
+}
+
+/// A question about a site block of an entry that may be fit for none: of a member that may not be there, under a mask that may go beyond,
+/// at a path and with words that may be bad, with the start of these buffers, which may be short.
+fn faulty_site(r: &mut Random, good: Option<&Good>, entry: u32, room: &Sheets) -> Question {
+    let good = good.filter(|g| (entry as usize) < g.laid.len());
+    let types = good.map_or(vec![], |good| member_types(good, entry as usize));
+    let count = types.len() as u32;
+    let k = if count == 0 || r.one_in(8) { r.of(&strangers(count)) } else { r.below(count as u64) as u32 };
+    let (within, beyond) = (masks(r, count, k), [1u64.checked_shl(count).unwrap_or(1), 1 << 63, r.next()]);
+    let mask = if r.one_in(12) { r.of(&beyond) } else { r.of(&within) };
+    let (mut path, mut words, mut size) = (vec![], any_words(r, 1), r.below(20));
+    if let (Some(good), Some(ty)) = (good, types.get(k as usize)) {
+        path = if r.one_in(2) { any_path(r, good, *ty, 0) } else { good_path(r, good, *ty, 0, 300) };
+        words = site_words(r, good, *ty, &path);
+    }
+    if r.one_in(8) {
+        words.resize(r.below(4) as usize, 7);
+    }
+    let most = room.site.len() as u64;
+    if let Some(extent) = good.map(|good| good.extent(entry as usize, 0)).filter(|extent| *extent <= most) {
+        size = extent;
+    }
+    let mut start = |sheet: &[u8]| {
+        let (less, more) = (r.below(size + 1), (size + r.below(9)).min(most));
+        let length = if r.one_in(8) { r.of(&[size.saturating_sub(1), less, more, more]) } else { size };
+        sheet[..length as usize].to_vec()
+    };
+    let sheets = Sheets { factory: start(&room.factory), site: start(&room.site) };
+    match r.below(8) {
+        0 => Question::SiteFresh(entry, mask),
+        1 => Question::SiteClear(entry, k, mask),
+        2 | 3 => Question::SiteMember(entry, k, mask, sheets),
+        _ => Question::SiteSet(entry, k, mask, words, path, sheets),
+    }
+}
+
+/// `n` questions about site blocks in at most so many bytes, mostly of structs that are fit for one; now and then an entry that is not
+/// there.
+fn some_sites(r: &mut Random, t: &Table, n: usize, most: u64) -> Vec<Question> {
+    let types = t.entries.len().max(1) as u64;
+    let good = model::check(&t.write(&[])).ok();
+    let is_fit = |e: &u32| good.as_ref().is_some_and(|good| good.site_fresh(*e as usize, &mut 0).is_ok());
+    let fit: Vec<u32> = (0..types as u32).filter(is_fit).collect();
+    let room = Sheets { factory: bytes(r, most), site: bytes(r, most) };
+    let mut one = || {
+        let (past, any) = (r.of(&[types, 255, 4_294_967_295]) as u32, r.below(types) as u32);
+        let entry = match r.below(16) {
+            0 => past,
+            1..=3 => any,
+            _ if fit.is_empty() => any,
+            _ => r.of(&fit),
+        };
+        faulty_site(r, good.as_ref(), entry, &room)
+    };
+    (0..n).map(|_| one()).collect()
+}
+
+/// The questions about site blocks. They have random numbers of their own too.
+pub fn site_blocks(seed: u64, plan: &Plan, mut each: impl FnMut(Block)) {
+    let mut r = Random(seed.rotate_left(16));
+    let sheets = |r: &mut Random, length| Sheets { factory: bytes(r, length), site: bytes(r, length) };
+    for t in [site_counts(), site_sorts()] {
+        let good = model::check(&t.write(&[])).ok().expect("an accepted table");
+        let (mut questions, room) = (vec![], sheets(&mut r, 16));
+        // one more than there are
+        for e in 0..=t.entries.len() as u32 {
+            questions.extend(site_of_any(&mut r, e, 1, &room, plan.site_edges));
+        }
+        for e in 0..t.entries.len() {
+            if good.site_fresh(e, &mut 0).is_ok() {
+                questions.extend(site_edges(&mut r, &good, e, plan.site_edges));
+            }
+        }
+        each(Block { file: t.write(&[]), questions });
+    }
+    // no table, and a bad entry
+    for file in [vec![0], table(&[scalar(2), scalar(16)]).write(&[])] {
+        let room = sheets(&mut r, 5);
+        each(Block { file, questions: site_of_any(&mut r, 0, 1 << 32 | 5, &room, 1) });
+    }
+    let (n, kinds) = (plan.site_asked, [0, 1, 2, 3, 3, 4, 4, 5, 13, 14, 15]);
+    for i in 0..plan.sites {
+        let (base, types) = (table(&[scalar(r.of(&kinds))]), 3 + r.below(7) as usize);
+        let t = random_over(&mut r, base, types, if i % 8 == 7 { 60 } else { 12 }, &kinds);
+        let form = if r.one_in(4) { 2 } else { 1 };
+        let most = if r.one_in(40) { plan.site_bytes } else { plan.site_bytes.min(FEW_BYTES) };
+        each(Block { file: named(&mut r, &t).write_as(form, &[]), questions: some_sites(&mut r, &t, n, most) });
+        if i % 4 == 3 {
+            let d = damaged_table(&mut r, &t);
+            each(Block { file: file(&mut r, &d), questions: some_sites(&mut r, &d, n.min(4), most) });
+            let b = file(&mut r, &t);
+            each(Block { file: damaged_file(&mut r, &b), questions: some_sites(&mut r, &t, n.min(3), most) });
+        }
+        if i % 8 == 7 {
+            let deep = nested(&mut r, &[STORED.as_slice(), &LONG].concat());
+            each(Block { file: deep.write(&[]), questions: some_sites(&mut r, &deep, n, most) });
+            let many = 1 + r.below(66);
+            let w = wide(&mut r, many, &kinds);
+            each(Block { file: w.write(&[]), questions: some_sites(&mut r, &w, n, plan.site_bytes) });
         }
     }
 }

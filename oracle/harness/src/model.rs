@@ -1,10 +1,12 @@
 //! Document 01's rules, written from its text: which file is refused, with what number and place, and what the calls answer; and document
-//! 02's on strides, bit fields, vectors of three bools, the uniform profile and scalars of 64 bits. It decides where Lepugaso and the Rust
-//! may differ (the rows of docs/DIFFERENCES.md), and what Lepugaso has to say there.
+//! 02's on strides, bit fields, vectors of three bools, the uniform profile, scalars of 64 bits, the two forms of a file and site blocks. It
+//! decides where Lepugaso and the Rust may differ (the rows of docs/DIFFERENCES.md), and what Lepugaso has to say there.
 use std::collections::BTreeSet;
 
 use crate::file::{Entry, Member, Table};
-use crate::question::{self, Answer, Field, Question, with_buffer, with_part, with_words};
+use crate::question::{
+    self, Answer, Field, Question, Sheets, Shown, with_buffer, with_mask, with_part, with_shown, with_site, with_words,
+};
 use crate::rows::{self, Row};
 use crate::types::NOTHING;
 
@@ -288,6 +290,9 @@ pub fn check(bytes: &[u8]) -> Result<Good, Refusal> {
 
 /// E5's "16".
 const UNIT: u64 = 16;
+
+/// E8: "at most 64 members"
+pub const SETTINGS: u32 = 64;
 
 /// Where a word lies, and in how many bytes.
 #[derive(Clone, Copy)]
@@ -602,6 +607,77 @@ impl Good {
         }
     }
 
+    /// The members of a site block's struct (E8), for buffers of at most so many bytes: 17, 9, 10, then "21, not a struct, an open one, more
+    /// than 64 members or mask bits beyond them, after 10".
+    fn settings(&self, e: usize, mask: u64, length: u64) -> Result<&[Member], (u32, u64)> {
+        self.stored(e, length)?;
+        let x = self.table.entries[e];
+        let beyond = (x.count..SETTINGS).any(|k| has_bit(mask, k));
+        if x.kind != 12 || self.laid[e].open || x.count > SETTINGS || beyond {
+            return Err((21, 0));
+        }
+        Ok(self.table.members_of(&x).expect("members within the table"))
+    }
+
+    /// The type of member k and where it begins: then "15 for either buffer, 11 for k (place 0)".
+    fn setting(&self, e: usize, k: u32, mask: u64, sheets: &Sheets) -> Result<(usize, usize), (u32, u64)> {
+        let lengths = [sheets.factory.len() as u64, sheets.site.len() as u64];
+        let ms = self.settings(e, mask, lengths[0].max(lengths[1]))?;
+        let size = self.laid[e].size.expect("a struct that is not open");
+        if lengths.iter().any(|length| *length < size) {
+            return Err((15, 0));
+        }
+        let m = ms.get(k as usize).ok_or((11, 0))?;
+        Ok((m.ty as usize, members(&self.laid, ms)[k as usize].offset as usize))
+    }
+
+    /// A fresh block: "it takes the entry alone", whatever the mask was.
+    pub fn site_fresh(&self, e: usize, mask: &mut u64) -> Answer {
+        self.settings(e, 0, 0)?;
+        *mask = 0;
+        Ok(0)
+    }
+
+    /// "Clearing drops the bit and moves no byte."
+    pub fn site_clear(&self, e: usize, k: u32, mask: &mut u64) -> Answer {
+        let ms = self.settings(e, *mask, 0)?;
+        if k as usize >= ms.len() {
+            return Err((11, 0));
+        }
+        *mask = (0..SETTINGS).filter(|j| *j != k && has_bit(*mask, *j)).map(|j| 1 << j).sum();
+        Ok(0)
+    }
+
+    /// "Asking for member k hands back its bytes as a part of the site buffer if bit k is set, else of the factory buffer."
+    pub fn site_member(&self, e: usize, k: u32, mask: u64, sheets: &Sheets) -> Result<Shown, (u32, u64)> {
+        let (ty, at) = self.setting(e, k, mask, sheets)?;
+        let on_site = has_bit(mask, k);
+        let of = if on_site { &sheets.site } else { &sheets.factory };
+        let size = self.laid[ty].size.expect("a member that is not open");
+        Ok(Shown { offset: at as u64, part: of[at..at + size as usize].to_vec(), on_site })
+    }
+
+    /// Setting on site: the scalar's offset. The member as it shows is set as its type is, "then set's refusals for path and word", and what
+    /// that makes of it goes to the site buffer.
+    pub fn site_set(
+        &self,
+        e: usize,
+        k: u32,
+        path: &[u32],
+        words: &[u32],
+        mask: &mut u64,
+        sheets: &mut Sheets,
+    ) -> Answer {
+        let (ty, at) = self.setting(e, k, *mask, sheets)?;
+        let mut shown = self.site_member(e, k, *mask, sheets)?;
+        let within = self.set(ty, path, words, &mut shown.part)?;
+        sheets.site[at..at + shown.part.len()].copy_from_slice(&shown.part);
+        if !shown.on_site {
+            *mask += 1 << k;
+        }
+        Ok(shown.offset + within)
+    }
+
     /// Writing words: then 14, 15, 16.
     pub fn write(&self, e: usize, words: &[u32], buffer: &mut [u8]) -> Answer {
         self.stored(e, buffer.len() as u64)?;
@@ -659,6 +735,11 @@ pub fn put(places: &[Place], words: &[u32], buffer: &mut [u8]) {
     for (p, w) in places.iter().zip(words) {
         buffer[p.at as usize..][..p.width as usize].copy_from_slice(&w.to_le_bytes()[..p.width as usize]);
     }
+}
+
+/// "a mask whose bit k says member k was set on site"
+pub fn has_bit(mask: u64, k: u32) -> bool {
+    (mask >> k) % 2 == 1
 }
 
 fn word_at(buffer: &[u8], at: usize) -> u32 {
@@ -763,6 +844,8 @@ fn unchanged(q: &Question, number: u32, place: u64) -> String {
             with_buffer(Err((number, place)), buffer)
         }
         Question::Read(_, words, _) => with_words(Err((number, place)), words),
+        Question::SiteFresh(_, mask) | Question::SiteClear(_, _, mask) => with_mask(Err((number, place)), *mask),
+        Question::SiteSet(_, _, mask, _, _, sheets) => with_site(Err((number, place)), *mask, &sheets.site),
         _ => format!("refused {number} at {place}"),
     }
 }
@@ -844,6 +927,20 @@ pub fn answer(file: &[u8], checked: &Result<Good, Refusal>, nodes: &[u64], q: &Q
         Question::Insert(e, new, field, path, buffer) => {
             let mut buffer = buffer.clone();
             with_buffer(good.insert(*e as usize, path, *new, *field, &mut buffer), &buffer)
+        }
+        Question::SiteFresh(e, mask) => {
+            let mut mask = *mask;
+            with_mask(good.site_fresh(*e as usize, &mut mask), mask)
+        }
+        Question::SiteClear(e, k, mask) => {
+            let mut mask = *mask;
+            with_mask(good.site_clear(*e as usize, *k, &mut mask), mask)
+        }
+        Question::SiteMember(e, k, mask, sheets) => with_shown(good.site_member(*e as usize, *k, *mask, sheets)),
+        Question::SiteSet(e, k, mask, words, path, sheets) => {
+            let (mut mask, mut sheets) = (*mask, sheets.clone());
+            let answer = good.site_set(*e as usize, *k, path, words, &mut mask, &mut sheets);
+            with_site(answer, mask, &sheets.site)
         }
         Question::ExtractU32(..) | Question::InsertU32(..) | Question::Move(..) => unreachable!("answered before"),
     };

@@ -1,7 +1,7 @@
-//! Questions, their lines and those of their answers (oracle/README.md, version 8).
+//! Questions, their lines and those of their answers (oracle/README.md, version 9).
 
-pub const HEAD: &str = "questions 8";
-pub const ANSWERS_HEAD: &str = "answers 8";
+pub const HEAD: &str = "questions 9";
+pub const ANSWERS_HEAD: &str = "answers 9";
 
 #[derive(Clone)]
 pub enum Question {
@@ -31,6 +31,14 @@ pub enum Question {
     InsertU32(u32, u32, Field),
     /// the form to move to, and what the output holds before
     Move(u16, Vec<u8>),
+    /// an entry, and the mask before
+    SiteFresh(u32, u64),
+    /// an entry, a member, and the mask before
+    SiteClear(u32, u32, u64),
+    /// an entry, a member, the mask, and the two buffers
+    SiteMember(u32, u32, u64, Sheets),
+    /// an entry, a member, the mask, the words, the steps, and the two buffers, of all of which the mask and the site's may change
+    SiteSet(u32, u32, u64, Vec<u32>, Vec<u32>, Sheets),
 }
 
 /// A bit field as it is asked for.
@@ -46,6 +54,13 @@ impl Field {
     }
 }
 
+/// The factory buffer and the site buffer of a block.
+#[derive(Clone)]
+pub struct Sheets {
+    pub factory: Vec<u8>,
+    pub site: Vec<u8>,
+}
+
 /// A file and what is asked of it.
 #[derive(Clone)]
 pub struct Block {
@@ -58,6 +73,11 @@ pub type Answer = Result<u64, (u32, u64)>;
 
 fn listed(start: String, numbers: &[u32]) -> String {
     start + &numbers.iter().map(|n| format!(" {n}")).collect::<String>()
+}
+
+/// The low and the high 32 bits of a mask.
+fn halves(mask: u64) -> String {
+    format!("{} {}", mask as u32, mask >> 32)
 }
 
 fn hex(bytes: &[u8]) -> String {
@@ -84,15 +104,23 @@ impl Question {
             Question::ExtractU32(word, field) => format!("extract_u32 {word} {}", field.line()),
             Question::InsertU32(word, new, field) => format!("insert_u32 {word} {new} {}", field.line()),
             Question::Move(form, _) => format!("to_form_{form}"),
+            Question::SiteFresh(e, mask) => format!("site_fresh {e} {}", halves(*mask)),
+            Question::SiteClear(e, k, mask) => format!("site_clear {e} {k} {}", halves(*mask)),
+            Question::SiteMember(e, k, mask, _) => format!("site_member {e} {k} {}", halves(*mask)),
+            Question::SiteSet(e, k, mask, words, path, _) => {
+                listed(listed(format!("site_set {e} {k} {} {}", halves(*mask), words.len()), words), path)
+            }
         }
     }
 
-    /// The question of a line, about this buffer if it is about one.
-    pub fn parse(line: &str, buffer: &[u8]) -> Question {
+    /// The question of a line, about this buffer, and about this factory buffer beside it, if it is about them.
+    pub fn parse(line: &str, buffer: &[u8], factory: &[u8]) -> Question {
         let mut parts = line.split(' ');
         let word = parts.next().unwrap_or("");
         let n: Vec<u32> = parts.map(|p| p.parse().expect("a number")).collect();
         let field = |offset: &u32, count: &u32| Field { offset: *offset, count: *count };
+        let mask = |low: &u32, high: &u32| (*high as u64) << 32 | *low as u64;
+        let sheets = || Sheets { factory: factory.to_vec(), site: buffer.to_vec() };
         match (word, n.as_slice()) {
             ("check", []) => Question::Check,
             ("size", [e]) => Question::Size(*e),
@@ -117,6 +145,13 @@ impl Question {
             ("insert_u32", [word, new, o, c]) => Question::InsertU32(*word, *new, field(o, c)),
             ("to_form_1", []) => Question::Move(1, buffer.to_vec()),
             ("to_form_2", []) => Question::Move(2, buffer.to_vec()),
+            ("site_fresh", [e, l, h]) => Question::SiteFresh(*e, mask(l, h)),
+            ("site_clear", [e, k, l, h]) => Question::SiteClear(*e, *k, mask(l, h)),
+            ("site_member", [e, k, l, h]) => Question::SiteMember(*e, *k, mask(l, h), sheets()),
+            ("site_set", [e, k, l, h, count, rest @ ..]) if *count as usize <= rest.len() => {
+                let (words, path) = rest.split_at(*count as usize);
+                Question::SiteSet(*e, *k, mask(l, h), words.to_vec(), path.to_vec(), sheets())
+            }
             _ => panic!("not a question: {line}"),
         }
     }
@@ -130,18 +165,29 @@ impl Question {
             Question::Write(e, _, _) | Question::Read(e, _, _) => vec![*e],
             Question::View(e, _, _) | Question::Set(e, _, _, _) => vec![*e],
             Question::Extract(e, _, _, _) | Question::Insert(e, _, _, _, _) => vec![*e],
+            Question::SiteFresh(e, _) | Question::SiteClear(e, _, _) => vec![*e],
+            Question::SiteMember(e, _, _, _) | Question::SiteSet(e, _, _, _, _, _) => vec![*e],
             Question::Rank(a, b) => vec![*a, *b],
             Question::Common(list) => list.clone(),
         }
     }
 
-    /// The buffer that the question is about.
+    /// The buffer that the question is about; of two the site's.
     pub fn buffer(&self) -> Option<&[u8]> {
         match self {
             Question::Write(_, _, buffer) | Question::Read(_, _, buffer) => Some(buffer),
             Question::View(_, _, buffer) | Question::Set(_, _, _, buffer) => Some(buffer),
             Question::Extract(_, _, _, buffer) | Question::Insert(_, _, _, _, buffer) => Some(buffer),
             Question::Move(_, buffer) => Some(buffer),
+            Question::SiteMember(_, _, _, sheets) | Question::SiteSet(_, _, _, _, _, sheets) => Some(&sheets.site),
+            _ => None,
+        }
+    }
+
+    /// The factory buffer that the question is about.
+    pub fn factory(&self) -> Option<&[u8]> {
+        match self {
+            Question::SiteMember(_, _, _, sheets) | Question::SiteSet(_, _, _, _, _, sheets) => Some(&sheets.factory),
             _ => None,
         }
     }
@@ -155,6 +201,10 @@ pub fn buffer_line(buffer: &[u8]) -> String {
     format!("buffer {}", hex(buffer)).trim_end().into()
 }
 
+pub fn factory_line(factory: &[u8]) -> String {
+    format!("factory {}", hex(factory)).trim_end().into()
+}
+
 pub fn parse_bytes(hex: &str) -> Vec<u8> {
     let digits: String = hex.split_whitespace().collect();
     (0..digits.len() / 2).map(|i| u8::from_str_radix(&digits[2 * i..2 * i + 2], 16).expect("a byte")).collect()
@@ -163,8 +213,12 @@ pub fn parse_bytes(hex: &str) -> Vec<u8> {
 impl Block {
     pub fn lines(&self) -> String {
         let mut text = file_line(&self.file) + "\n";
-        let mut held = None;
+        let (mut held, mut beside) = (None, None);
         for q in &self.questions {
+            if q.factory().is_some() && q.factory() != beside {
+                beside = q.factory();
+                text += &(factory_line(beside.unwrap()) + "\n");
+            }
             if q.buffer().is_some() && q.buffer() != held {
                 held = q.buffer();
                 text += &(buffer_line(held.unwrap()) + "\n");
@@ -180,14 +234,16 @@ pub fn parse(text: &str) -> Vec<Block> {
     let mut lines = text.lines();
     assert_eq!(lines.next(), Some(HEAD));
     let mut blocks: Vec<Block> = Vec::new();
-    let mut held = Vec::new();
+    let (mut held, mut beside) = (Vec::new(), Vec::new());
     for line in lines {
         if let Some(hex) = line.strip_prefix("file") {
             blocks.push(Block { file: parse_bytes(hex), questions: vec![] });
         } else if let Some(hex) = line.strip_prefix("buffer") {
             held = parse_bytes(hex);
+        } else if let Some(hex) = line.strip_prefix("factory") {
+            beside = parse_bytes(hex);
         } else {
-            blocks.last_mut().expect("a file first").questions.push(Question::parse(line, &held));
+            blocks.last_mut().expect("a file first").questions.push(Question::parse(line, &held, &beside));
         }
     }
     blocks
@@ -215,6 +271,35 @@ pub fn with_words(answer: Answer, words: &[u32]) -> String {
 pub fn with_part(viewed: Result<(u64, Vec<u8>), (u32, u64)>) -> String {
     match viewed {
         Ok((offset, part)) => format!("{offset} {} {}", part.len(), hex(&part)),
+        Err(refusal) => told(Err(refusal)),
+    }
+}
+
+/// What is said of a fresh block and of clearing: its answer, and the mask after it.
+pub fn with_mask(answer: Answer, mask: u64) -> String {
+    format!("{} {mask}", told(answer))
+}
+
+/// What is said of a set on site: its answer, the mask after it, and what the site buffer holds then.
+pub fn with_site(answer: Answer, mask: u64, site: &[u8]) -> String {
+    format!("{} {}", with_mask(answer, mask), hex(site)).trim_end().into()
+}
+
+/// A member that was asked for: its offset, its bytes, and whether they are the site's.
+pub struct Shown {
+    pub offset: u64,
+    pub part: Vec<u8>,
+    pub on_site: bool,
+}
+
+/// What is said of a member that is asked for: its offset, how many bytes it has, which buffer they are of and what they hold; or its
+/// refusal.
+pub fn with_shown(asked: Result<Shown, (u32, u64)>) -> String {
+    match asked {
+        Ok(Shown { offset, part, on_site }) => {
+            let of = if on_site { "site" } else { "factory" };
+            format!("{offset} {} {of} {}", part.len(), hex(&part)).trim_end().into()
+        }
         Err(refusal) => told(Err(refusal)),
     }
 }

@@ -58,6 +58,7 @@ rows! {
     BitFields = "bit-fields",
     Uniform = "uniform",
     Forms = "forms",
+    Site = "site",
 }
 
 /// The Rust writes into a vector of its own: a longer one is not asked for.
@@ -369,6 +370,9 @@ pub fn departure(good: &Good, q: &Question, says: &str) -> Option<(Row, String)>
         Question::Set(e, words, path, buffer) => changed(good, *e as usize, path, words, buffer),
         Question::Extract(..) | Question::Insert(..) => (Row::BitFields, NOTHING.into()),
         Question::Uniform(_) => (Row::Uniform, NOTHING.into()),
+        Question::SiteFresh(..) | Question::SiteClear(..) | Question::SiteMember(..) | Question::SiteSet(..) => {
+            (Row::Site, NOTHING.into())
+        }
         _ => return None,
     };
     (said != says).then_some((row, said))
@@ -382,35 +386,38 @@ pub struct Example {
     pub lepugaso: String,
 }
 
-/// The examples of the document: under a heading `### name` an indented block of a file, perhaps a buffer (the line of either goes on
-/// where the next has a deeper margin), a question and the two answers.
+/// The examples of the document: under a heading `### name` an indented block of a file, perhaps a factory buffer, perhaps a buffer (the
+/// line of each goes on where the next has a deeper margin), a question and the two answers.
 pub fn examples(document: &str) -> Vec<Example> {
     let mut examples = Vec::new();
     let (mut name, mut question, mut rust) = (String::new(), None, String::new());
-    let (mut file, mut buffer) = (Vec::new(), None);
+    // the file, the factory buffer and the buffer, and which of them was begun last
+    let (mut held, mut last) = ([vec![], vec![], vec![]], 0);
     for line in document.lines() {
         if let Some(heading) = line.strip_prefix("### ") {
             name = heading.trim_matches('`').into();
         }
         let Some(said) = line.strip_prefix("    ").filter(|_| !name.is_empty()) else { continue };
         if let Some(hex) = said.strip_prefix("file ") {
-            (file, buffer) = (parse_bytes(hex), None);
+            (held, last) = ([parse_bytes(hex), vec![], vec![]], 0);
+        } else if let Some(hex) = said.strip_prefix("factory") {
+            (held[1], last) = (parse_bytes(hex), 1);
         } else if let Some(hex) = said.strip_prefix("buffer") {
-            buffer = Some(parse_bytes(hex));
+            (held[2], last) = (parse_bytes(hex), 2);
         } else if let Some(hex) = said.strip_prefix("  ") {
-            buffer.as_mut().unwrap_or(&mut file).extend(parse_bytes(hex));
+            held[last].extend(parse_bytes(hex));
         } else if let Some(answer) = said.strip_prefix("Rust: ") {
             rust = answer.into();
         } else if let Some(answer) = said.strip_prefix("Lepugaso: ") {
             let questions = vec![question.take().expect("a question before its answers")];
             examples.push(Example {
                 name: name.clone(),
-                block: Block { file: file.clone(), questions },
+                block: Block { file: held[0].clone(), questions },
                 rust: rust.clone(),
                 lepugaso: answer.into(),
             });
         } else {
-            question = Some(Question::parse(said, buffer.as_deref().unwrap_or(&[])));
+            question = Some(Question::parse(said, &held[2], &held[1]));
         }
     }
     examples
