@@ -1,7 +1,7 @@
 /* How much stack each call takes at the most of three tables of 256 entries, each within the next: nested arrays, nested structs, and both
- * in turn; views, sets and bit fields go by a path through all of them, and what moves to form 1 is the table in form 2. The call runs in a
- * thread whose stack was painted before; what is no longer paint was used, the thread's own start included. Ends with 1 where a call takes
- * more than the header says (LEPUGASO_STACK). */
+ * in turn, for a block the last a struct in any case; views, sets and bit fields go by a path through all of them, and what moves to form 1
+ * is the table in form 2. The call runs in a thread whose stack was painted before; what is no longer paint was used, the thread's own
+ * start included. Ends with 1 where a call takes more than the header says (LEPUGASO_STACK). */
 #include <pthread.h>
 #include <stdio.h>
 #include <stdlib.h>
@@ -13,15 +13,19 @@ enum { ENTRIES = 256, STACK = 1 << 20, PAINT = 0xa5 };
 
 static uint8_t file[12 * ENTRIES + 12 * ENTRIES + 10], form_2[12 * ENTRIES + 16 * ENTRIES + 10], moved[sizeof form_2], buf[16];
 static size_t file_len, form_2_len;
+static uint8_t site[sizeof buf];
+static uint64_t mask;
 static uint32_t words[3] = {1, 2, 3};
 static const uint32_t seven = 7;
 static uint32_t path[ENTRIES - 1];
 static enum {
-    CHECK, SIZE, ALIGN, MIN_SIZE, LAYOUT_OF, UNIFORM, RANK, COMMON, TO_FORM_2, TO_FORM_1, WRITE, READ, VIEW, SET, INSERT, EXTRACT, CALLS
+    CHECK, SIZE, ALIGN, MIN_SIZE, LAYOUT_OF, UNIFORM, RANK, COMMON, TO_FORM_2, TO_FORM_1, WRITE, READ, VIEW, SET, INSERT, EXTRACT,
+    SITE_FRESH, SITE_MEMBER, SITE_CLEAR, SITE_SET, CALLS
 } way;
 static const char *const names[CALLS] = {
-    "check",     "size",  "align", "min_size", "layout_of", "uniform",     "rank",        "common", "to_form_2",
-    "to_form_1", "write", "read",  "view",     "set",       "insert_bits", "extract_bits",
+    "check",      "size",     "align", "min_size", "layout_of", "uniform",     "rank",         "common",     "to_form_2",
+    "to_form_1",  "write",    "read",  "view",     "set",       "insert_bits", "extract_bits", "site_fresh", "site_member",
+    "site_clear", "site_set",
 };
 enum { ARRAYS, STRUCTS, BOTH, TABLES };
 static lepugaso_answer answer;
@@ -38,7 +42,7 @@ static void nest(int table) {
     put(file, 1, 0, 0, 0);
     put(file + 12, 7, 3, 0, 0);
     for (int k = 2; k < ENTRIES; k++) {
-        int is_struct = k == 2 || table == STRUCTS || (table == BOTH && k % 2 == 0);
+        int is_struct = k == 2 || table == STRUCTS || (table == BOTH && k % 2 == 0) || (way >= SITE_FRESH && k == ENTRIES - 1);
         if (is_struct) {
             put(file + 12 * k, 12, 0, (uint8_t)members, 1);
             types[members++] = (uint8_t)(k - 1);
@@ -77,7 +81,16 @@ static void *call(void *unused) {
     case VIEW: answer = lepugaso_view(file, file_len, last, path, ENTRIES - 1, buf, sizeof buf, &part, &part_len); break;
     case SET: answer = lepugaso_set(file, file_len, last, path, ENTRIES - 1, &seven, 1, buf, sizeof buf); break;
     case INSERT: answer = lepugaso_insert_bits(file, file_len, last, path, ENTRIES - 1, 1, 3, 12, buf, sizeof buf); break;
-    default: answer = lepugaso_extract_bits(file, file_len, last, path, ENTRIES - 1, buf, sizeof buf, 0, 12);
+    case EXTRACT: answer = lepugaso_extract_bits(file, file_len, last, path, ENTRIES - 1, buf, sizeof buf, 0, 12); break;
+    case SITE_FRESH: answer = lepugaso_site_fresh(file, file_len, last, &mask); break;
+    case SITE_MEMBER:
+        answer = lepugaso_site_member(file, file_len, last, 0, mask, buf, sizeof buf, site, sizeof site, &part, &part_len);
+        break;
+    case SITE_CLEAR: answer = lepugaso_site_clear(file, file_len, last, 0, &mask); break;
+    default:
+        /* The first step of the path is the member; its bit is clear, so that it is copied. */
+        mask = 0;
+        answer = lepugaso_site_set(file, file_len, last, 0, path + 1, ENTRIES - 2, &seven, 1, buf, sizeof buf, site, sizeof site, &mask);
     }
     return unused;
 }
@@ -96,7 +109,8 @@ static size_t used(int table) {
     while (clean < STACK && stack[clean] == PAINT) clean++;
     free(stack);
     /* What a path leads to lies at 8; the field is what the set before put there, 7, and a bit inserted. */
-    if (answer.refusal || (way >= VIEW && answer.value != (way == EXTRACT ? 15 : 8))) exit(1);
+    int at_path = (way >= VIEW && way <= EXTRACT) || way == SITE_SET;
+    if (answer.refusal || (at_path && answer.value != (way == EXTRACT ? 15 : 8))) exit(1);
     return STACK - clean;
 }
 

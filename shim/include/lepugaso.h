@@ -3,7 +3,8 @@
  * A layout file describes types as numbered entries; every call takes one, as bytes, and asks something of it, but for the four on bit
  * fields of a number. Nothing is kept between calls, nothing is allocated, and any bytes and any numbers may be passed: what cannot be
  * answered is refused with a number. Threads may call at the same time. No call takes more than LEPUGASO_STACK bytes of stack: 130 KiB to
- * write or read types that nest 256 deep, 62 KiB to view, set or use bit fields along such a path, 36 KiB to ask anything else.
+ * write or read types that nest 256 deep, 64 KiB to view, set (also on site) or use bit fields along such a path, 36 KiB to ask anything
+ * else.
  *
  * For x86-64 Linux. Link liblepugaso.a, which needs nothing but memcpy, memmove and memset, or liblepugaso.so.
  *
@@ -106,6 +107,7 @@ typedef struct lepugaso_layout {
 #define LEPUGASO_REFUSED_NO_RANK 18u      /* no rank, no common type, or an empty list */
 #define LEPUGASO_REFUSED_UNIFORM 19u      /* a rule of uniform buffers is broken; place is the entry that breaks it */
 #define LEPUGASO_REFUSED_NAMED 20u        /* a member has a name, which form 1 has no room for */
+#define LEPUGASO_REFUSED_NO_SITE 21u      /* no struct of fixed size and at most 64 members, or mask bits beyond them */
 
 /* How many entries the file has. Refuses 1 to 7. */
 lepugaso_answer lepugaso_check(const uint8_t *file, size_t file_len);
@@ -215,6 +217,38 @@ lepugaso_answer lepugaso_to_form_2(const uint8_t *file, size_t file_len, uint8_t
  * Refuses 1, 2 (the form is not 2), 3 to 7, then 20 (a member has a name), 15 (`out` is below the new length), and leaves `out` as it
  * was. */
 lepugaso_answer lepugaso_to_form_1(const uint8_t *file, size_t file_len, uint8_t *out, size_t out_len);
+
+/* A factory sheet and a site block: two buffers of one struct entry, of fixed size and at most 64 members, and a mask whose bit k, the k-th
+ * lowest, says that member k was set on site. A member is shown in the site buffer if its bit is set, else in the factory buffer. Its bytes
+ * are those of its type's size, whatever size it is given. Only the calls that write the mask change where a member is shown; the three
+ * things are the caller's to keep together. `member` is any number, counted from 0.
+ *
+ * The mask of a fresh block, 0, into `*mask`: every member is the factory's. The value is 0. Refuses 1 to 7, then 8, 9 (the type has no
+ * layout), 10 (it holds a bool), 21 (it is no struct, is open, or has more than 64 members), and leaves `*mask` as it was. */
+lepugaso_answer lepugaso_site_fresh(const uint8_t *file, size_t file_len, uint32_t entry, uint64_t *mask);
+
+/* What shows `member`, as that part of `site` or of `factory`: `*part` is where it begins and `*part_len` how many bytes it has; nothing is
+ * copied. The value is its offset in that buffer, and in the other too. The buffers may overlap in any way.
+ * Refuses 1 to 7, then 8, 17 (a buffer is above 4,294,967,295 bytes), 9, 10, 21 (as for a fresh block, or the mask has bits beyond the
+ * members), 15 (a buffer is below the size), 11 (there is no such member; place is 0). When refused, `*part` is `factory`, null too, and
+ * `*part_len` is 0; at LEPUGASO_BAD_POINTER both stay as they were. */
+lepugaso_answer lepugaso_site_member(const uint8_t *file, size_t file_len, uint32_t entry, uint32_t member, uint64_t mask,
+                                     const uint8_t *factory, size_t factory_len, const uint8_t *site, size_t site_len,
+                                     const uint8_t **part, size_t *part_len);
+
+/* Stores `words` in the one scalar, or atomic, that `path` leads to from `member`'s type, in `site`, and sets the member's bit. If that was
+ * clear, the member's bytes are copied from `factory` first, so that it shows what it showed but for that scalar. The value is the scalar's
+ * offset in `site`. No other bit and no byte outside the member changes. `site` may share no byte with `factory`, nor with anything else.
+ * Refuses as asking for a member does, then 11, 12 or 13 (the first bad step; place is its number in `path`), 14 (the path leads to no
+ * single scalar, or that scalar has another number of words), 16 (the word is above 65,535 for an f16; place is 0), and leaves `site` and
+ * `*mask` as they were. */
+lepugaso_answer lepugaso_site_set(const uint8_t *file, size_t file_len, uint32_t entry, uint32_t member, const uint32_t *path,
+                                  size_t path_len, const uint32_t *words, size_t words_len, const uint8_t *factory, size_t factory_len,
+                                  uint8_t *site, size_t site_len, uint64_t *mask);
+
+/* Drops the bit of `member`, which shows the factory's bytes again; no byte moves. The value is 0. Refuses 1 to 7, then 8, 9, 10, 21, 11 as
+ * asking for a member does, and leaves `*mask` as it was. */
+lepugaso_answer lepugaso_site_clear(const uint8_t *file, size_t file_len, uint32_t entry, uint32_t member, uint64_t *mask);
 
 #ifdef __cplusplus
 }

@@ -468,3 +468,165 @@ pub unsafe extern "C" fn lepugaso_to_form_1(
         _ => BAD_POINTER,
     }
 }
+
+/// The mask of a fresh block, into `mask`.
+///
+/// # Safety
+/// As `lepugaso_check`.
+#[no_mangle]
+pub unsafe extern "C" fn lepugaso_site_fresh(file: *const u8, file_len: usize, entry: u32, mask: *mut u64) -> Crossing {
+    match (Lent::new(file, file_len), Lent::new(mask, 1)) {
+        // SAFETY: the caller lends both, `mask` to be written, and their pointers have passed the tests. No byte of `mask` is the file's.
+        (Some(file), Some(mask)) if mask.is_apart_from(&file) => unsafe {
+            lepugaso_surface_site_fresh(file.start(), file.count(), entry, mask.start())
+        },
+        _ => BAD_POINTER,
+    }
+}
+
+/// What shows a member, as a part of `site` or of `factory`, into `part` and `part_len`.
+///
+/// # Safety
+/// As `lepugaso_check`.
+#[no_mangle]
+pub unsafe extern "C" fn lepugaso_site_member(
+    file: *const u8,
+    file_len: usize,
+    entry: u32,
+    member: u32,
+    mask: u64,
+    factory: *const u8,
+    factory_len: usize,
+    site: *const u8,
+    site_len: usize,
+    part: *mut *const u8,
+    part_len: *mut usize,
+) -> Crossing {
+    match (
+        Lent::new(file, file_len),
+        Lent::new(factory, factory_len),
+        Lent::new(site, site_len),
+        Lent::new(part, 1),
+        Lent::new(part_len, 1),
+    ) {
+        (Some(file), Some(made), Some(own), Some(at), Some(count))
+            if at.is_apart_from(&file)
+                && at.is_apart_from(&made)
+                && at.is_apart_from(&own)
+                && at.is_apart_from(&count)
+                && count.is_apart_from(&file)
+                && count.is_apart_from(&made)
+                && count.is_apart_from(&own) =>
+        {
+            let (mut size, mut shown) = (0, 0);
+            // SAFETY: the caller lends the first three, and their pointers have passed the tests of a slice's. They are only read, so they
+            // may overlap.
+            let answer = unsafe {
+                lepugaso_surface_site_member(
+                    file.start(),
+                    file.count(),
+                    entry,
+                    member,
+                    mask,
+                    made.start(),
+                    made.count(),
+                    own.start(),
+                    own.count(),
+                    &mut size,
+                    &mut shown,
+                )
+            };
+            let from = if shown == 1 { site } else { factory };
+            // SAFETY: the caller lends both to be written, they have passed the tests, and no byte of either is another's. When refused the
+            // value is 0 and the two numbers were left alone: the empty part at the start of `factory`, null if that is.
+            unsafe {
+                at.start().write(from.wrapping_add(answer.value as usize));
+                count.start().write(size as usize);
+            }
+            answer
+        }
+        _ => BAD_POINTER,
+    }
+}
+
+/// The words of the one scalar that a path leads to from a member, in `site`, and its bit.
+///
+/// # Safety
+/// As `lepugaso_check`.
+#[no_mangle]
+pub unsafe extern "C" fn lepugaso_site_set(
+    file: *const u8,
+    file_len: usize,
+    entry: u32,
+    member: u32,
+    path: *const u32,
+    path_len: usize,
+    words: *const u32,
+    words_len: usize,
+    factory: *const u8,
+    factory_len: usize,
+    site: *mut u8,
+    site_len: usize,
+    mask: *mut u64,
+) -> Crossing {
+    match (
+        Lent::new(file, file_len),
+        Lent::new(path, path_len),
+        Lent::new(words, words_len),
+        Lent::new(factory, factory_len),
+        Lent::new(site, site_len),
+        Lent::new(mask, 1),
+    ) {
+        // SAFETY: the caller lends all, `site` and `mask` to be written, and their pointers have passed the tests. No byte of these two is
+        // another's; the others are only read, so they may overlap.
+        (Some(file), Some(path), Some(words), Some(factory), Some(site), Some(mask))
+            if site.is_apart_from(&file)
+                && site.is_apart_from(&path)
+                && site.is_apart_from(&words)
+                && site.is_apart_from(&factory)
+                && site.is_apart_from(&mask)
+                && mask.is_apart_from(&file)
+                && mask.is_apart_from(&path)
+                && mask.is_apart_from(&words)
+                && mask.is_apart_from(&factory) =>
+        unsafe {
+            lepugaso_surface_site_set(
+                file.start(),
+                file.count(),
+                entry,
+                member,
+                path.start(),
+                path.count(),
+                words.start(),
+                words.count(),
+                factory.start(),
+                factory.count(),
+                site.start(),
+                site.count(),
+                mask.start(),
+            )
+        },
+        _ => BAD_POINTER,
+    }
+}
+
+/// Drops the bit of a member.
+///
+/// # Safety
+/// As `lepugaso_check`.
+#[no_mangle]
+pub unsafe extern "C" fn lepugaso_site_clear(
+    file: *const u8,
+    file_len: usize,
+    entry: u32,
+    member: u32,
+    mask: *mut u64,
+) -> Crossing {
+    match (Lent::new(file, file_len), Lent::new(mask, 1)) {
+        // SAFETY: as for a fresh block.
+        (Some(file), Some(mask)) if mask.is_apart_from(&file) => unsafe {
+            lepugaso_surface_site_clear(file.start(), file.count(), entry, member, mask.start())
+        },
+        _ => BAD_POINTER,
+    }
+}

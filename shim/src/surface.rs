@@ -91,4 +91,40 @@ extern "C" {
     pub fn lepugaso_surface_uniform(file: *const u8, file_len: usize, entry: u32) -> Crossing;
     pub fn lepugaso_surface_to_form_2(file: *const u8, file_len: usize, out: *mut u8, out_len: usize) -> Crossing;
     pub fn lepugaso_surface_to_form_1(file: *const u8, file_len: usize, out: *mut u8, out_len: usize) -> Crossing;
+    pub fn lepugaso_surface_site_fresh(file: *const u8, file_len: usize, entry: u32, mask: *mut u64) -> Crossing;
+    pub fn lepugaso_surface_site_clear(
+        file: *const u8,
+        file_len: usize,
+        entry: u32,
+        member: u32,
+        mask: *mut u64,
+    ) -> Crossing;
+    pub fn lepugaso_surface_site_member(
+        file: *const u8,
+        file_len: usize,
+        entry: u32,
+        member: u32,
+        mask: u64,
+        factory: *const u8,
+        factory_len: usize,
+        site: *const u8,
+        site_len: usize,
+        size: *mut u64,
+        shown: *mut u64,
+    ) -> Crossing;
+    pub fn lepugaso_surface_site_set(
+        file: *const u8,
+        file_len: usize,
+        entry: u32,
+        member: u32,
+        path: *const u32,
+        path_len: usize,
+        words: *const u32,
+        words_len: usize,
+        factory: *const u8,
+        factory_len: usize,
+        site: *mut u8,
+        site_len: usize,
+        mask: *mut u64,
+    ) -> Crossing;
 }

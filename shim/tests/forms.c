@@ -40,6 +40,7 @@ static uint32_t *words;
 static lepugaso_layout *out;
 static const uint8_t **part;
 static size_t *part_len;
+static uint64_t *mask;
 
 /* What it holds. */
 struct held {
@@ -48,6 +49,7 @@ struct held {
     lepugaso_layout out;
     const uint8_t *part;
     size_t part_len;
+    uint64_t mask;
 };
 static struct held old;
 
@@ -57,6 +59,7 @@ static void prepare(void) {
     out = (void *)fresh(sizeof *out);
     part = (void *)fresh(sizeof *part);
     part_len = (void *)fresh(sizeof *part_len);
+    mask = (void *)fresh(sizeof *mask);
     for (size_t k = 0; k < ROOM; k++) old.buf[k] = (uint8_t)(37 * k + 11);
     memset(old.words, 0xA5, sizeof old.words);
     old.out = (lepugaso_layout){1, 2, 3, 4};
@@ -69,10 +72,11 @@ static void renew(void) {
     *out = old.out;
     *part = old.part;
     *part_len = old.part_len;
+    *mask = old.mask;
 }
 
 static struct held hold_all(void) {
-    struct held now = {.out = *out, .part = *part, .part_len = *part_len};
+    struct held now = {.out = *out, .part = *part, .part_len = *part_len, .mask = *mask};
     memcpy(now.buf, buf, sizeof now.buf);
     memcpy(now.words, words, sizeof now.words);
     return now;
@@ -101,6 +105,30 @@ static const uint32_t paths[][5] = {
     {3, 1, M(1), 1},            {4, M(1), 1, M(1), 2},      {4, M(1), 1, M(1), M(1)},
 };
 enum { PATHS = sizeof paths / sizeof paths[0] };
+
+/* The questions about a block, put to any entry: most are none, and a mask may have bits beyond the members. */
+static void same_blocks(struct file one, struct file other, uint32_t entry, const uint32_t *const steps[], const uint32_t *given) {
+    static const uint64_t masks[] = {0, 10, UINT64_C(1) << 40};
+    static const uint32_t members[] = {0, 1, 3, 5};
+    for (size_t m = 0; m < sizeof masks / sizeof masks[0]; m++) {
+        old.mask = masks[m];
+        ASK(lepugaso_site_fresh, entry, mask);
+        for (size_t k = 0; k < sizeof members / sizeof members[0]; k++) {
+            uint32_t member = members[k];
+            ASK(lepugaso_site_clear, entry, member, mask);
+            for (size_t length = 24; length <= 124; length += 100) {
+                const uint8_t *factory = buf + ROOM - length;
+                uint8_t *site = buf + ROOM - 2 * length;
+                ASK(lepugaso_site_member, entry, member, masks[m], factory, length, site, length, part, part_len);
+                for (size_t p = 0; p < PATHS; p++) {
+                    uint32_t count = paths[p][0];
+                    ASK(lepugaso_site_set, entry, member, steps[p], count, given, 1, factory, length, site, length, mask);
+                }
+                ASK(lepugaso_site_set, entry, member, NULL, 0, given, 2, factory, length, site, length, mask);
+            }
+        }
+    }
+}
 
 /* Every question about every entry, and about a number that is none's. */
 static void same_answers(struct file one, struct file other) {
@@ -146,6 +174,7 @@ static void same_answers(struct file one, struct file other) {
                 ASK(lepugaso_insert_bits, entry, steps[k], count, 0x5A5, 3, 12, bytes, length);
             }
         }
+        same_blocks(one, other, entry, steps, values[1]);
     }
 }
 
@@ -153,8 +182,8 @@ static void same_answers(struct file one, struct file other) {
 static void same_table(void) {
     struct file file = FILE_OF(named);
     same_answers(FILE_OF(form_1), file);
-    /* 0, 8 to 16, 18 and 19: each of them was met, and none but them. */
-    HOLDS(seen == (1u | 0x1FF00 | 3u << 18));
+    /* 0, 8 to 16, 18, 19 and 21: each of them was met, and none but them. */
+    HOLDS(seen == (1u | 0x1FF00 | 3u << 18 | 1u << 21));
 
     uint8_t *bytes = fresh(96);
     const uint8_t *at;
@@ -166,6 +195,19 @@ static void same_table(void) {
     EXPECT(lepugaso_write(file.bytes, file.length, 8, (const uint32_t[]){1, 2, 3, 4, 5, 65536, 7}, 7, bytes, 96), LEPUGASO_REFUSED_F16_WORD,
            5, 0);
     EXPECT(lepugaso_uniform(file.bytes, file.length, 13), LEPUGASO_REFUSED_UNIFORM, 13, 0);
+
+    /* A vec3<f32> at 32. */
+    uint8_t *site = fresh(96);
+    for (uint8_t k = 0; k < 96; k++) bytes[k] = (uint8_t)(k + 1);
+    EXPECT(lepugaso_site_fresh(file.bytes, file.length, 8, mask), 0, 0, 0);
+    EXPECT(lepugaso_site_set(file.bytes, file.length, 8, 1, (const uint32_t[]){1}, 1, (const uint32_t[]){7}, 1, bytes, 96, site, 96, mask),
+           0, 0, 36);
+    HOLDS(*mask == 2 && memcmp(site + 31, "\0\41\42\43\44\7\0\0\0\51\52\53\54\0", 14) == 0);
+    EXPECT(lepugaso_site_member(file.bytes, file.length, 8, 1, *mask, bytes, 96, site, 96, &at, &count), 0, 0, 32);
+    HOLDS(at == site + 32 && count == 12);
+    EXPECT(lepugaso_site_clear(file.bytes, file.length, 8, 1, mask), 0, 0, 0);
+    HOLDS(*mask == 0);
+    EXPECT(lepugaso_site_fresh(file.bytes, file.length, 10, mask), LEPUGASO_REFUSED_NO_SITE, 0, 0);
 }
 
 typedef lepugaso_answer move(const uint8_t *, size_t, uint8_t *, size_t);

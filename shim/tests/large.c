@@ -12,6 +12,9 @@
 enum { TYPES = 256, MEMBERS = 1024, LENGTH = 12 * (TYPES + MEMBERS) + 10, LENGTH_2 = LENGTH + 4 * MEMBERS, LAST = TYPES - 1 };
 enum { ROWS = 254 * 255 / 2 - 1 + 3 + 254, SIZE = 16 * ROWS, WORDS = 98179, STEPS = 256 };
 
+/* The last type has too many members for a block, so 254 is the deepest: 254 steps lead from its member 3 to the last scalar. */
+enum { BLOCK = LAST - 1, BLOCK_SIZE = 16 * BLOCK, BLOCK_STEPS = STEPS - 2 };
+
 /* `length` bytes, all 0, of which only those of the first and the last pages can be touched. */
 static uint8_t *far(size_t length) {
     size_t room = (length / PAGE + 1) * PAGE, outer = room < 8 * PAGE ? room : 8 * PAGE;
@@ -90,9 +93,10 @@ static void fill_path(void) {
     path[STEPS] = 0;
 }
 
-/* What is asked of the last type, the answer no other type's. */
+/* What is asked of the last type, the answer no other type's; and of the deepest block. */
 static void questions(const uint8_t *file, size_t length) {
     lepugaso_layout *out = (void *)fresh(sizeof *out);
+    uint64_t *mask = (void *)fresh(sizeof *mask);
     EXPECT(lepugaso_check(file, length), 0, 0, TYPES);
     EXPECT(lepugaso_size(file, length, LAST), 0, 0, SIZE);
     EXPECT(lepugaso_align(file, length, LAST), 0, 0, 16);
@@ -102,6 +106,13 @@ static void questions(const uint8_t *file, size_t length) {
     EXPECT(lepugaso_rank(file, length, LAST, LAST), 0, 0, 0);
     EXPECT(lepugaso_common(file, length, (const uint32_t[]){LAST}, 1), 0, 0, LAST);
     EXPECT(lepugaso_uniform(file, length, LAST), 0, 0, 0);
+    *mask = 9;
+    EXPECT(lepugaso_site_fresh(file, length, LAST, mask), LEPUGASO_REFUSED_NO_SITE, 0, 0);
+    HOLDS(*mask == 9);
+    EXPECT(lepugaso_site_clear(file, length, BLOCK, 3, mask), 0, 0, 0);
+    HOLDS(*mask == 1);
+    EXPECT(lepugaso_site_fresh(file, length, BLOCK, mask), 0, 0, 0);
+    HOLDS(*mask == 0);
 }
 
 static void many_words(const uint8_t *file, size_t length) {
@@ -146,13 +157,34 @@ static void many_steps(const uint8_t *file, size_t length) {
     HOLDS(memcmp(buf, rows, SIZE - 4) == 0 && memcmp(buf + SIZE - 4, (const uint8_t[]){0xEF, 0xCD, 0xAB, 0x89}, 4) == 0);
 }
 
+/* A member of the deepest block, and all the way into it. */
+static void deep_member(const uint8_t *file, size_t length) {
+    const void *steps = lent(path + 2, BLOCK_STEPS * sizeof *path), *too_many = lent(path + 2, (BLOCK_STEPS + 1) * sizeof *path);
+    const void *word = lent((const uint32_t[]){0x89ABCDEF}, sizeof(uint32_t));
+    const uint8_t *factory = lent((const uint8_t *)rows + SIZE - BLOCK_SIZE, BLOCK_SIZE), *part;
+    uint8_t *site = fresh(BLOCK_SIZE);
+    uint64_t mask = 4;
+    size_t part_len;
+    EXPECT(lepugaso_site_member(file, length, BLOCK, 3, mask, factory, BLOCK_SIZE, site, BLOCK_SIZE, &part, &part_len), 0, 0, 16);
+    HOLDS(part == factory + 16 && part_len == BLOCK_SIZE - 16);
+    EXPECT(lepugaso_site_set(file, length, BLOCK, 3, too_many, BLOCK_STEPS + 1, word, 1, factory, BLOCK_SIZE, site, BLOCK_SIZE, &mask),
+           LEPUGASO_REFUSED_INDEX_STEP, BLOCK_STEPS, 0);
+    HOLDS(mask == 4 && site[0] == 0 && memcmp(site, site + 1, BLOCK_SIZE - 1) == 0);
+    EXPECT(lepugaso_site_set(file, length, BLOCK, 3, steps, BLOCK_STEPS, word, 1, factory, BLOCK_SIZE, site, BLOCK_SIZE, &mask), 0, 0,
+           BLOCK_SIZE - 4);
+    HOLDS(mask == 12 && site[0] == 0 && memcmp(site, site + 1, 15) == 0 && memcmp(site + 16, factory + 16, BLOCK_SIZE - 20) == 0);
+    HOLDS(memcmp(site + BLOCK_SIZE - 4, (const uint8_t[]){0xEF, 0xCD, 0xAB, 0x89}, 4) == 0);
+}
+
 /* Numbers that are those of no entry, and of one only in their low bits. */
 static void no_entries(const uint8_t *file, size_t length) {
     lepugaso_layout *out = (void *)fresh(sizeof *out);
     uint32_t *word = (void *)fresh(sizeof *word);
-    uint8_t *buf = fresh(4);
+    uint64_t *mask = (void *)fresh(sizeof *mask);
+    uint8_t *buf = fresh(4), *factory = fresh(4);
     *out = (lepugaso_layout){1, 2, 3, 4};
     *word = 5;
+    *mask = 6;
     memcpy(buf, "abcd", 4);
     for (uint32_t bit = 8; bit < 32; bit++) {
         for (uint32_t low = 0; low <= LAST; low += LAST) {
@@ -175,12 +207,38 @@ static void no_entries(const uint8_t *file, size_t length) {
             NO_ENTRY(lepugaso_extract_bits(file, length, entry, NULL, 0, buf, 4, 0, 12));
             NO_ENTRY(lepugaso_insert_bits(file, length, entry, NULL, 0, 7, 0, 12, buf, 4));
             NO_ENTRY(lepugaso_uniform(file, length, entry));
-#undef NO_ENTRY
             HOLDS(part == buf && part_len == 0);
+            NO_ENTRY(lepugaso_site_fresh(file, length, entry, mask));
+            NO_ENTRY(lepugaso_site_member(file, length, entry, 0, *mask, factory, 4, buf, 4, &part, &part_len));
+            NO_ENTRY(lepugaso_site_set(file, length, entry, 0, NULL, 0, word, 1, factory, 4, buf, 4, mask));
+            NO_ENTRY(lepugaso_site_clear(file, length, entry, 0, mask));
+#undef NO_ENTRY
+            HOLDS(part == factory && part_len == 0);
         }
     }
     HOLDS(out->size == 1 && out->align == 2 && out->min_size == 3 && out->stride == 4);
-    HOLDS(*word == 5 && memcmp(buf, "abcd", 4) == 0);
+    HOLDS(*word == 5 && *mask == 6 && memcmp(buf, "abcd", 4) == 0);
+}
+
+/* Members that are none, and masks of members that are none, but for their low bits. */
+static void no_members(const uint8_t *file, size_t length) {
+    const void *word = lent((const uint32_t[]){7}, sizeof(uint32_t));
+    const uint8_t *factory = lent(rows, BLOCK_SIZE), *part;
+    uint8_t *site = fresh(BLOCK_SIZE);
+    for (uint32_t bit = 2; bit < 64; bit++) {
+        uint32_t member = bit < 32 ? 2 + (UINT32_C(1) << bit) : 2;
+        uint32_t refusal = bit < 32 ? LEPUGASO_REFUSED_MEMBER_STEP : LEPUGASO_REFUSED_NO_SITE;
+        uint64_t bits = bit < 32 ? 5 : 5 + (UINT64_C(1) << bit), mask = bits;
+        size_t part_len;
+        EXPECT(lepugaso_site_member(file, length, BLOCK, member, bits, factory, BLOCK_SIZE, site, BLOCK_SIZE, &part, &part_len), refusal, 0,
+               0);
+        HOLDS(part == factory && part_len == 0);
+        EXPECT(lepugaso_site_set(file, length, BLOCK, member, NULL, 0, word, 1, factory, BLOCK_SIZE, site, BLOCK_SIZE, &mask), refusal, 0,
+               0);
+        EXPECT(lepugaso_site_clear(file, length, BLOCK, member, &mask), refusal, 0, 0);
+        HOLDS(mask == bits);
+    }
+    HOLDS(site[0] == 0 && memcmp(site, site + 1, BLOCK_SIZE - 1) == 0);
 }
 
 static const uint8_t few[] = {
@@ -189,6 +247,20 @@ static const uint8_t few[] = {
     ARRAY(1, 70000), /* 2 */
     I64,             /* 3 */
     TRAILER(4, 0),
+};
+
+static const uint8_t blocks[] = {
+    ABSTRACT_INT,          /* 0: no layout */
+    BOOL,                  /* 1 */
+    U32,                   /* 2 */
+    I64,                   /* 3 */
+    STRUCT(0, 2),          /* 4: i64, u32: at 0, 8; 16 bytes */
+    ARRAY(2, 70000),       /* 5 */
+    STRUCT(2, 3),          /* 6: u32, 5, u32: at 0, 4, 280,004; 280,008 bytes */
+    ARRAY(2, 1073741820u), /* 7 */
+    STRUCT(5, 2),          /* 8: 7, u32: at 0, 4,294,967,280; 4,294,967,284 bytes */
+    MEMBER(3), MEMBER(2), MEMBER(2), MEMBER(5), MEMBER(2), MEMBER(7), MEMBER(2),
+    TRAILER(9, 7),
 };
 
 /* Lists whose last number decides. */
@@ -238,12 +310,113 @@ static void large_steps(const uint8_t *file, const uint8_t *large) {
     EXPECT(lepugaso_extract_bits(file, sizeof few, 2, step, 1, buf, SIZE, 8, 12), 0, 0, UINT32_MAX);
 }
 
+/* A block of more than 65,535 bytes, as has one of its members. */
+static void large_block(void) {
+    enum { LONG = 280008, AT = 4 + 4 * (65536 + 3) };
+    const uint8_t *file = lent(blocks, sizeof blocks), *part;
+    const void *word = lent((const uint32_t[]){0x89ABCDEF}, sizeof(uint32_t));
+    uint32_t *step = (void *)fresh(sizeof *step);
+    uint8_t *bytes = fresh(LONG), *site = fresh(LONG);
+    uint64_t mask = 0;
+    size_t part_len;
+    for (size_t k = 0; k < LONG; k++) bytes[k] = (uint8_t)(k * 2654435761u >> 24 | 1);
+    const uint8_t *factory = sealed(bytes, LONG);
+    for (uint32_t bit = 17; bit < 31; bit++) {
+        *step = 3 + (UINT32_C(1) << bit);
+        EXPECT(lepugaso_site_set(file, sizeof blocks, 6, 1, step, 1, word, 1, factory, LONG, site, LONG, &mask), LEPUGASO_REFUSED_INDEX, 0,
+               0);
+    }
+    *step = 65536 + 3;
+    EXPECT(lepugaso_site_set(file, sizeof blocks, 6, 1, step, 1, word, 1, factory, LONG - 1, site, LONG, &mask),
+           LEPUGASO_REFUSED_SHORT_BUFFER, 0, 0);
+    EXPECT(lepugaso_site_set(file, sizeof blocks, 6, 1, step, 1, word, 1, factory, LONG, site, LONG - 1, &mask),
+           LEPUGASO_REFUSED_SHORT_BUFFER, 0, 0);
+    HOLDS(mask == 0 && site[0] == 0 && memcmp(site, site + 1, LONG - 1) == 0);
+    EXPECT(lepugaso_site_set(file, sizeof blocks, 6, 1, step, 1, word, 1, factory, LONG, site, LONG, &mask), 0, 0, AT);
+    HOLDS(mask == 2 && site[3] == 0 && memcmp(site + 4, factory + 4, AT - 4) == 0 && site[LONG - 4] == 0);
+    HOLDS(memcmp(site + AT, (const uint8_t[]){0xEF, 0xCD, 0xAB, 0x89}, 4) == 0);
+    HOLDS(memcmp(site + AT + 4, factory + AT + 4, LONG - AT - 8) == 0);
+    for (uint32_t k = 1; k <= 2; k++) {
+        EXPECT(lepugaso_site_member(file, sizeof blocks, 6, k, mask, factory, LONG, site, LONG, &part, &part_len), 0, 0,
+               k == 1 ? 4 : LONG - 4);
+        HOLDS(k == 1 ? part == site + 4 && part_len == LONG - 8 : part == factory + LONG - 4 && part_len == 4);
+        EXPECT(lepugaso_site_member(file, sizeof blocks, 6, k, mask, factory, LONG - 1, site, LONG, &part, &part_len),
+               LEPUGASO_REFUSED_SHORT_BUFFER, 0, 0);
+        EXPECT(lepugaso_site_member(file, sizeof blocks, 6, k, mask, factory, LONG, site, LONG - 1, &part, &part_len),
+               LEPUGASO_REFUSED_SHORT_BUFFER, 0, 0);
+        HOLDS(part == factory && part_len == 0);
+    }
+}
+
+/* Member 1 of a block of 16 bytes, asked for and set. */
+static void long_block(uint32_t refusal, uint32_t entry, const uint8_t *factory, size_t factory_len, uint8_t *site, size_t site_len) {
+    const uint8_t *file = lent(blocks, sizeof blocks), *part;
+    const void *word = lent((const uint32_t[]){7}, sizeof(uint32_t));
+    uint64_t mask = 0;
+    size_t part_len, at = refusal ? 0 : 8;
+    memset(site, 0, 16);
+    EXPECT(lepugaso_site_member(file, sizeof blocks, entry, 1, mask, factory, factory_len, site, site_len, &part, &part_len), refusal, 0,
+           at);
+    HOLDS(part == factory + at && part_len == (refusal ? 0 : 4));
+    EXPECT(lepugaso_site_set(file, sizeof blocks, entry, 1, NULL, 0, word, 1, factory, factory_len, site, site_len, &mask), refusal, 0, at);
+    HOLDS(mask == (refusal ? 0 : 2) && site[8] == (refusal ? 0 : 7));
+}
+
+/* A block in buffers of 4,294,967,295 bytes, and in longer ones: 17 for either, after 8, before everything else. */
+static void long_blocks(void) {
+    const size_t limit = UINT32_MAX;
+    uint8_t *factory = far(limit + 5), *site = far(limit + 5);
+    for (uint32_t bit = 4; bit < 32; bit++) {
+        long_block(0, 4, factory, (size_t)1 << bit, site, 16);
+        long_block(0, 4, factory, 16, site, (size_t)1 << bit);
+    }
+    long_block(0, 4, factory, limit, site, limit);
+    for (size_t length = limit + 1; length <= limit + 5; length += 4) {
+        for (uint32_t entry = 0; entry <= 4; entry++) {
+            long_block(LEPUGASO_REFUSED_LONG_BUFFER, entry, factory, length, site, 16);
+            long_block(LEPUGASO_REFUSED_LONG_BUFFER, entry, factory, 16, site, length);
+            long_block(LEPUGASO_REFUSED_LONG_BUFFER, entry, factory, length, site, 0);
+            long_block(LEPUGASO_REFUSED_LONG_BUFFER, entry, factory, 0, site, length);
+        }
+        long_block(LEPUGASO_REFUSED_LONG_BUFFER, 4, factory, length, site, length);
+        long_block(LEPUGASO_REFUSED_ENTRY, 9, factory, length, site, 16);
+        long_block(LEPUGASO_REFUSED_ENTRY, 9, factory, 16, site, length);
+    }
+}
+
+/* A block that fills such buffers, and its members. */
+static void largest_block(void) {
+    const size_t size = 4294967284u, at = size - 4;
+    const uint8_t *file = lent(blocks, sizeof blocks), *part;
+    const void *word = lent((const uint32_t[]){7}, sizeof(uint32_t));
+    uint8_t *factory = far(size), *site = far(size);
+    uint64_t mask = 0;
+    size_t part_len;
+    memcpy(factory + at, "abcd", 4);
+    EXPECT(lepugaso_site_member(file, sizeof blocks, 8, 0, mask, factory, size, site, size, &part, &part_len), 0, 0, 0);
+    HOLDS(part == factory && part_len == at);
+    EXPECT(lepugaso_site_member(file, sizeof blocks, 8, 0, 1, factory, size, site, size, &part, &part_len), 0, 0, 0);
+    HOLDS(part == site && part_len == at);
+    EXPECT(lepugaso_site_member(file, sizeof blocks, 8, 1, mask, factory, size, site, size, &part, &part_len), 0, 0, at);
+    HOLDS(part == factory + at && part_len == 4);
+    EXPECT(lepugaso_site_member(file, sizeof blocks, 8, 1, 2, factory, size, site, size, &part, &part_len), 0, 0, at);
+    HOLDS(part == site + at && part_len == 4);
+    EXPECT(lepugaso_site_set(file, sizeof blocks, 8, 1, NULL, 0, word, 1, factory, size - 1, site, size, &mask),
+           LEPUGASO_REFUSED_SHORT_BUFFER, 0, 0);
+    EXPECT(lepugaso_site_set(file, sizeof blocks, 8, 1, NULL, 0, word, 1, factory, size, site, size - 1, &mask),
+           LEPUGASO_REFUSED_SHORT_BUFFER, 0, 0);
+    HOLDS(mask == 0 && memcmp(site + at, "\0\0\0\0", 4) == 0);
+    EXPECT(lepugaso_site_set(file, sizeof blocks, 8, 1, NULL, 0, word, 1, factory, size, site, size, &mask), 0, 0, at);
+    HOLDS(mask == 2 && memcmp(site + at, "\7\0\0\0", 4) == 0 && memcmp(factory + at, "abcd", 4) == 0);
+}
+
 /* Lengths of which the low bits alone, up to the 32nd, would give another answer. */
 static void long_lengths(const uint8_t *file, const uint8_t *large) {
     const size_t most = ((size_t)1 << 32) + STEPS;
     uint32_t word = 7, *many = (void *)far(most * sizeof *many);
     uint8_t *buf = fresh(SIZE), *bytes = (uint8_t *)many;
-    const uint8_t *part;
+    const uint8_t *block = lent(blocks, sizeof blocks), *factory = lent(rows, BLOCK_SIZE), *part;
+    uint64_t mask = 0;
     size_t part_len;
     for (uint32_t bit = 2; bit < 32; bit++) {
         size_t length = (size_t)1 << bit;
@@ -280,6 +453,10 @@ static void long_lengths(const uint8_t *file, const uint8_t *large) {
         EXPECT(lepugaso_write(file, sizeof few, 1, many, 1 + count, buf, 4), LEPUGASO_REFUSED_WORDS, 0, 0);
         EXPECT(lepugaso_set(file, sizeof few, 1, NULL, 0, many, 1 + count, buf, 4), LEPUGASO_REFUSED_WORDS, 0, 0);
         EXPECT(lepugaso_set(file, sizeof few, 3, NULL, 0, many, 2 + count, buf, 8), LEPUGASO_REFUSED_WORDS, 0, 0);
+        EXPECT(lepugaso_site_set(block, sizeof blocks, 4, 1, NULL, 0, many, 1 + count, factory, 16, buf, 16, &mask), LEPUGASO_REFUSED_WORDS,
+               0, 0);
+        EXPECT(lepugaso_site_set(block, sizeof blocks, 4, 0, NULL, 0, many, 2 + count, factory, 16, buf, 16, &mask), LEPUGASO_REFUSED_WORDS,
+               0, 0);
         EXPECT(lepugaso_read(file, sizeof few, 1, buf, 4, many, count), 0, 0, 1);
         HOLDS(memcmp(many, "abcd", 4) == 0); /* as a number no entry's */
         EXPECT(lepugaso_common(file, sizeof few, many, count), LEPUGASO_REFUSED_ENTRY, 0, 0);
@@ -291,7 +468,10 @@ static void long_lengths(const uint8_t *file, const uint8_t *large) {
         EXPECT(lepugaso_set(large, LENGTH, LAST, many, count, &word, 1, buf, SIZE), LEPUGASO_REFUSED_INDEX_STEP, STEPS, 0);
         EXPECT(lepugaso_extract_bits(large, LENGTH, LAST, many, count, buf, SIZE, 0, 12), LEPUGASO_REFUSED_INDEX_STEP, STEPS, 0);
         EXPECT(lepugaso_insert_bits(large, LENGTH, LAST, many, count, 7, 0, 12, buf, SIZE), LEPUGASO_REFUSED_INDEX_STEP, STEPS, 0);
+        EXPECT(lepugaso_site_set(large, LENGTH, BLOCK, 3, many + 2, count - 2, &word, 1, factory, BLOCK_SIZE, buf, BLOCK_SIZE, &mask),
+               LEPUGASO_REFUSED_INDEX_STEP, BLOCK_STEPS, 0);
     }
+    HOLDS(mask == 0);
 }
 
 /* A file moved with the room for it alone, and refused with a byte less. */
@@ -316,6 +496,7 @@ static void moves(uint32_t start) {
     questions(two, length_2);
     many_words(two, length_2);
     many_steps(two, length_2);
+    deep_member(two, length_2);
 }
 
 /* With the most bytes before the types the new length has more than 32 bits, and so has the room. A move that is not refused is not run:
@@ -354,6 +535,7 @@ int main(void) {
         questions(at, length);
         many_words(at, length);
         many_steps(at, length);
+        deep_member(at, length);
         no_entries(at, length);
     }
     moves(0);
@@ -361,6 +543,10 @@ int main(void) {
     far_moves();
     long_lists(file);
     large_steps(file, large);
+    no_members(large, LENGTH);
+    large_block();
+    long_blocks();
+    largest_block();
     long_lengths(file, large);
     return failures != 0;
 }

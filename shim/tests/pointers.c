@@ -3,6 +3,9 @@
 
 static const uint8_t file[] = {U32, F32, TRAILER(2, 0)};
 
+/* 1 is a struct of a u32, and so a block. */
+static const uint8_t form_1[] = {U32, STRUCT(0, 1), MEMBER(0), TRAILER(2, 1)};
+
 #define REFUSED(call) EXPECT(call, LEPUGASO_BAD_POINTER, 0, 0)
 
 /* A file that cannot be, to every call. */
@@ -27,7 +30,13 @@ static void bad_file(const uint8_t *at, size_t length) {
     const uint8_t *part = NULL;
     size_t part_len = 5;
     REFUSED(lepugaso_view(at, length, 0, NULL, 0, bytes, sizeof bytes, &part, &part_len));
+    REFUSED(lepugaso_site_member(at, length, 0, 0, 0, bytes, sizeof bytes, bytes, sizeof bytes, &part, &part_len));
     HOLDS(part == NULL && part_len == 5);
+    uint64_t mask = 5;
+    REFUSED(lepugaso_site_fresh(at, length, 0, &mask));
+    REFUSED(lepugaso_site_set(at, length, 0, 0, NULL, 0, list, 1, bytes, sizeof bytes, buf, sizeof buf, &mask));
+    REFUSED(lepugaso_site_clear(at, length, 0, 0, &mask));
+    HOLDS(mask == 5);
     REFUSED(lepugaso_set(at, length, 0, NULL, 0, list, 1, buf, sizeof buf));
     REFUSED(lepugaso_extract_bits(at, length, 0, NULL, 0, bytes, sizeof bytes, 0, 12));
     REFUSED(lepugaso_insert_bits(at, length, 0, NULL, 0, 1, 0, 12, buf, sizeof buf));
@@ -47,9 +56,10 @@ static void files(void) {
     /* Null with length 0 is an empty file, which is a short one; so is any other pointer with length 0, and it is not looked at. */
     uint32_t list[] = {0}, word;
     lepugaso_layout out;
-    uint8_t buf[] = {6, 7, 8, 9};
+    uint8_t buf[] = {6, 7, 8, 9}, bytes[4] = {0};
     const uint8_t *part;
     size_t part_len;
+    uint64_t mask;
     EXPECT(lepugaso_check(NULL, 0), LEPUGASO_REFUSED_SHORT_FILE, 0, 0);
     EXPECT(lepugaso_size(NULL, 0, 0), LEPUGASO_REFUSED_SHORT_FILE, 0, 0);
     EXPECT(lepugaso_align(NULL, 0, 0), LEPUGASO_REFUSED_SHORT_FILE, 0, 0);
@@ -66,6 +76,11 @@ static void files(void) {
     EXPECT(lepugaso_uniform(NULL, 0, 0), LEPUGASO_REFUSED_SHORT_FILE, 0, 0);
     EXPECT(lepugaso_to_form_2(NULL, 0, buf, sizeof buf), LEPUGASO_REFUSED_SHORT_FILE, 0, 0);
     EXPECT(lepugaso_to_form_1(NULL, 0, buf, sizeof buf), LEPUGASO_REFUSED_SHORT_FILE, 0, 0);
+    EXPECT(lepugaso_site_fresh(NULL, 0, 0, &mask), LEPUGASO_REFUSED_SHORT_FILE, 0, 0);
+    EXPECT(lepugaso_site_member(NULL, 0, 0, 0, 0, buf, sizeof buf, buf, sizeof buf, &part, &part_len), LEPUGASO_REFUSED_SHORT_FILE, 0, 0);
+    EXPECT(lepugaso_site_set(NULL, 0, 0, 0, NULL, 0, list, 1, bytes, sizeof bytes, buf, sizeof buf, &mask), LEPUGASO_REFUSED_SHORT_FILE, 0,
+           0);
+    EXPECT(lepugaso_site_clear(NULL, 0, 0, 0, &mask), LEPUGASO_REFUSED_SHORT_FILE, 0, 0);
     EXPECT(lepugaso_check(last, 0), LEPUGASO_REFUSED_SHORT_FILE, 0, 0);
 }
 
@@ -124,10 +139,12 @@ static void overlaps(void) {
     }
 }
 
-/* Words that cannot be, to the three calls that take some; and as a path. */
+/* Words that cannot be, to the four calls that take some; and as a path. */
 static void bad_words(uint32_t *at, size_t count) {
     static const uint32_t word[] = {1};
+    static const uint8_t bytes[4];
     uint8_t buf[] = {6, 7, 8, 9};
+    uint64_t mask = 0;
     const uint8_t *part = NULL;
     size_t part_len = 5;
     REFUSED(lepugaso_write(file, sizeof file, 0, at, count, buf, sizeof buf));
@@ -148,12 +165,20 @@ static void bad_words(uint32_t *at, size_t count) {
     REFUSED(lepugaso_extract_bits(NULL, 0, 9, at, count, NULL, 0, 0, 12));
     REFUSED(lepugaso_insert_bits(file, sizeof file, 0, at, count, 1, 0, 12, buf, sizeof buf));
     REFUSED(lepugaso_insert_bits(NULL, 0, 9, at, count, 1, 0, 12, NULL, 0));
+    REFUSED(lepugaso_site_set(form_1, sizeof form_1, 1, 0, at, count, word, 1, bytes, sizeof bytes, buf, sizeof buf, &mask));
+    REFUSED(lepugaso_site_set(form_1, sizeof form_1, 1, 0, NULL, 0, at, count, bytes, sizeof bytes, buf, sizeof buf, &mask));
+    REFUSED(lepugaso_site_set(form_1, sizeof form_1, 1, 0, at, count, at, count, bytes, sizeof bytes, buf, sizeof buf, &mask));
+    REFUSED(lepugaso_site_set(NULL, 0, 9, 9, at, count, word, 1, NULL, 0, NULL, 0, &mask));
+    REFUSED(lepugaso_site_set(NULL, 0, 9, 9, NULL, 0, at, count, NULL, 0, NULL, 0, &mask));
+    HOLDS(mask == 0);
     HOLDS(buf[0] == 6 && buf[1] == 7 && buf[2] == 8 && buf[3] == 9);
 }
 
 /* A buffer that cannot be. */
 static void bad_buffer(uint8_t *at, size_t length) {
     uint32_t word = 5;
+    uint64_t mask = 0;
+    uint8_t bytes[] = {6, 7, 8, 9};
     const uint8_t *part = NULL;
     size_t part_len = 5;
     REFUSED(lepugaso_write(file, sizeof file, 0, &word, 1, at, length));
@@ -163,7 +188,18 @@ static void bad_buffer(uint8_t *at, size_t length) {
     HOLDS(word == 5);
     REFUSED(lepugaso_view(file, sizeof file, 0, NULL, 0, at, length, &part, &part_len));
     REFUSED(lepugaso_view(NULL, 0, 9, NULL, 0, at, length, &part, &part_len));
+    /* As the factory, as the site, and as both. */
+    REFUSED(lepugaso_site_member(form_1, sizeof form_1, 1, 0, mask, at, length, bytes, sizeof bytes, &part, &part_len));
+    REFUSED(lepugaso_site_member(form_1, sizeof form_1, 1, 0, mask, bytes, sizeof bytes, at, length, &part, &part_len));
+    REFUSED(lepugaso_site_member(form_1, sizeof form_1, 1, 0, mask, at, length, at, length, &part, &part_len));
+    REFUSED(lepugaso_site_member(NULL, 0, 9, 9, UINT64_MAX, at, length, NULL, 0, &part, &part_len));
+    REFUSED(lepugaso_site_member(NULL, 0, 9, 9, UINT64_MAX, NULL, 0, at, length, &part, &part_len));
     HOLDS(part == NULL && part_len == 5);
+    REFUSED(lepugaso_site_set(form_1, sizeof form_1, 1, 0, NULL, 0, &word, 1, at, length, bytes, sizeof bytes, &mask));
+    REFUSED(lepugaso_site_set(form_1, sizeof form_1, 1, 0, NULL, 0, &word, 1, bytes, sizeof bytes, at, length, &mask));
+    REFUSED(lepugaso_site_set(NULL, 0, 9, 9, NULL, 0, NULL, 0, at, length, NULL, 0, &mask));
+    REFUSED(lepugaso_site_set(NULL, 0, 9, 9, NULL, 0, NULL, 0, NULL, 0, at, length, &mask));
+    HOLDS(mask == 0 && bytes[0] == 6 && bytes[1] == 7 && bytes[2] == 8 && bytes[3] == 9);
     REFUSED(lepugaso_set(file, sizeof file, 0, NULL, 0, &word, 1, at, length));
     REFUSED(lepugaso_set(NULL, 0, 9, NULL, 0, NULL, 0, at, length));
     REFUSED(lepugaso_extract_bits(file, sizeof file, 0, NULL, 0, at, length, 0, 12));
@@ -172,8 +208,18 @@ static void bad_buffer(uint8_t *at, size_t length) {
     REFUSED(lepugaso_insert_bits(NULL, 0, 9, NULL, 0, 1, 0, 12, at, length));
 }
 
-/* Where a view's part goes: both places are tested, and neither is touched if one of them cannot be. */
-static void parts(void) {
+/* The two calls that hand back a part, of a file like `form_1` and a buffer of its entry 1: all 4 bytes of it. */
+typedef lepugaso_answer part_of(const uint8_t *, size_t, const uint8_t *, size_t, const uint8_t **, size_t *);
+static lepugaso_answer viewed(const uint8_t *at, size_t length, const uint8_t *buf, size_t count, const uint8_t **part, size_t *part_len) {
+    return lepugaso_view(at, length, 1, NULL, 0, buf, count, part, part_len);
+}
+static lepugaso_answer shown(const uint8_t *at, size_t length, const uint8_t *buf, size_t count, const uint8_t **part, size_t *part_len) {
+    static const uint8_t site[4];
+    return lepugaso_site_member(at, length, 1, 0, 0, buf, count, site, sizeof site, part, part_len);
+}
+
+/* Where a part goes: both places are tested, and neither is touched if one of them cannot be. */
+static void parts(part_of *ask) {
     uint8_t buf[] = {6, 7, 8, 9};
     struct {
         const uint8_t *part;
@@ -181,32 +227,70 @@ static void parts(void) {
     } out[2] = {{NULL, 5}, {NULL, 5}};
     const uint8_t **odd_part = (const uint8_t **)(void *)((uint8_t *)out + 4);
     size_t *odd_len = (size_t *)(void *)((uint8_t *)out + 12);
-    REFUSED(lepugaso_view(file, sizeof file, 0, NULL, 0, buf, sizeof buf, NULL, &out->part_len));
-    REFUSED(lepugaso_view(file, sizeof file, 0, NULL, 0, buf, sizeof buf, &out->part, NULL));
-    REFUSED(lepugaso_view(file, sizeof file, 0, NULL, 0, buf, sizeof buf, odd_part, &out[1].part_len));
-    REFUSED(lepugaso_view(file, sizeof file, 0, NULL, 0, buf, sizeof buf, &out->part, odd_len));
-    REFUSED(lepugaso_view(file, sizeof file, 0, NULL, 0, buf, sizeof buf, (const uint8_t **)(UINTPTR_MAX - 7), &out->part_len));
-    REFUSED(lepugaso_view(file, sizeof file, 0, NULL, 0, buf, sizeof buf, &out->part, (size_t *)(UINTPTR_MAX - 7)));
+    REFUSED(ask(form_1, sizeof form_1, buf, sizeof buf, NULL, &out->part_len));
+    REFUSED(ask(form_1, sizeof form_1, buf, sizeof buf, &out->part, NULL));
+    REFUSED(ask(form_1, sizeof form_1, buf, sizeof buf, odd_part, &out[1].part_len));
+    REFUSED(ask(form_1, sizeof form_1, buf, sizeof buf, &out->part, odd_len));
+    REFUSED(ask(form_1, sizeof form_1, buf, sizeof buf, (const uint8_t **)(UINTPTR_MAX - 7), &out->part_len));
+    REFUSED(ask(form_1, sizeof form_1, buf, sizeof buf, &out->part, (size_t *)(UINTPTR_MAX - 7)));
     /* Both in one place. */
-    REFUSED(lepugaso_view(file, sizeof file, 0, NULL, 0, buf, sizeof buf, (const uint8_t **)(void *)&out->part_len, &out->part_len));
+    REFUSED(ask(form_1, sizeof form_1, buf, sizeof buf, (const uint8_t **)(void *)&out->part_len, &out->part_len));
     /* Before any number of document 01. */
-    REFUSED(lepugaso_view(NULL, 0, 9, NULL, 0, NULL, 0, NULL, NULL));
+    REFUSED(ask(NULL, 0, NULL, 0, NULL, NULL));
     HOLDS(out->part == NULL && out->part_len == 5);
 
-    EXPECT(lepugaso_view(file, sizeof file, 0, NULL, 0, buf, sizeof buf, &out->part, &out->part_len), 0, 0, 0);
+    EXPECT(ask(form_1, sizeof form_1, buf, sizeof buf, &out->part, &out->part_len), 0, 0, 0);
     HOLDS(out->part == buf && out->part_len == 4);
     /* Refused, the empty part at the start of the buffer, wherever that is and whatever is there; of a null buffer null. */
-    EXPECT(lepugaso_view(file, sizeof file, 0, NULL, 0, buf + 1, 0, &out->part, &out->part_len), LEPUGASO_REFUSED_SHORT_BUFFER, 0, 0);
+    EXPECT(ask(form_1, sizeof form_1, buf + 1, 0, &out->part, &out->part_len), LEPUGASO_REFUSED_SHORT_BUFFER, 0, 0);
     HOLDS(out->part == buf + 1 && out->part_len == 0);
     out->part_len = 5;
-    EXPECT(lepugaso_view(file, sizeof file, 0, NULL, 0, NULL, 0, &out->part, &out->part_len), LEPUGASO_REFUSED_SHORT_BUFFER, 0, 0);
+    EXPECT(ask(form_1, sizeof form_1, NULL, 0, &out->part, &out->part_len), LEPUGASO_REFUSED_SHORT_BUFFER, 0, 0);
     HOLDS(out->part == NULL && out->part_len == 0);
-    EXPECT(lepugaso_view(NULL, 0, 0, NULL, 0, (uint8_t *)UINTPTR_MAX, 0, &out->part, &out->part_len), LEPUGASO_REFUSED_SHORT_FILE, 0, 0);
+    EXPECT(ask(NULL, 0, (uint8_t *)UINTPTR_MAX, 0, &out->part, &out->part_len), LEPUGASO_REFUSED_SHORT_FILE, 0, 0);
     HOLDS(out->part == (uint8_t *)UINTPTR_MAX && out->part_len == 0);
     /* What is empty shares no byte with the place that it lies in. */
-    EXPECT(lepugaso_view(file, sizeof file, 0, NULL, 0, (uint8_t *)out + 3, 0, &out->part, &out->part_len), LEPUGASO_REFUSED_SHORT_BUFFER,
-           0, 0);
+    EXPECT(ask(form_1, sizeof form_1, (uint8_t *)out + 3, 0, &out->part, &out->part_len), LEPUGASO_REFUSED_SHORT_BUFFER, 0, 0);
     HOLDS(out->part == (uint8_t *)out + 3 && out->part_len == 0);
+}
+
+/* A mask that cannot be, to the three calls that write one. */
+static void bad_mask(uint64_t *at) {
+    static const uint32_t word[] = {1};
+    static const uint8_t bytes[4];
+    uint8_t buf[] = {6, 7, 8, 9};
+    REFUSED(lepugaso_site_fresh(form_1, sizeof form_1, 1, at));
+    REFUSED(lepugaso_site_clear(form_1, sizeof form_1, 1, 0, at));
+    REFUSED(lepugaso_site_set(form_1, sizeof form_1, 1, 0, NULL, 0, word, 1, bytes, sizeof bytes, buf, sizeof buf, at));
+    /* Before any number of documents 01 and 02. */
+    REFUSED(lepugaso_site_fresh(NULL, 0, 9, at));
+    REFUSED(lepugaso_site_clear(NULL, 0, 9, 9, at));
+    REFUSED(lepugaso_site_set(NULL, 0, 9, 9, NULL, 0, NULL, 0, NULL, 0, NULL, 0, at));
+    HOLDS(buf[0] == 6 && buf[1] == 7 && buf[2] == 8 && buf[3] == 9);
+}
+
+static void masks(void) {
+    uint64_t two[] = {0, 0};
+    bad_mask(NULL);
+    for (size_t off = 1; off < sizeof two[0]; off++) bad_mask((uint64_t *)(void *)((uint8_t *)two + off));
+    bad_mask((uint64_t *)(UINTPTR_MAX - 7));
+    HOLDS(two[0] == 0 && two[1] == 0);
+
+    /* What is empty shares no byte with the mask that it lies in. */
+    uint8_t *in = (uint8_t *)two + 3, buf[] = {6, 7, 8, 9, 10};
+    uint32_t word = 1, *path = (uint32_t *)(void *)((uint8_t *)two + 4);
+    static const uint8_t bytes[5] = {1, 2, 3, 4, 5};
+    EXPECT(lepugaso_site_fresh(in, 0, 1, two), LEPUGASO_REFUSED_SHORT_FILE, 0, 0);
+    EXPECT(lepugaso_site_clear(in, 0, 1, 0, two), LEPUGASO_REFUSED_SHORT_FILE, 0, 0);
+    EXPECT(lepugaso_site_set(form_1, sizeof form_1, 1, 0, path, 0, &word, 1, bytes, 4, in, 0, two), LEPUGASO_REFUSED_SHORT_BUFFER, 0, 0);
+    EXPECT(lepugaso_site_set(form_1, sizeof form_1, 1, 0, NULL, 0, path, 0, bytes, 4, buf, 4, two), LEPUGASO_REFUSED_WORDS, 0, 0);
+    EXPECT(lepugaso_site_set(form_1, sizeof form_1, 1, 0, NULL, 0, &word, 1, in, 0, buf, 4, two), LEPUGASO_REFUSED_SHORT_BUFFER, 0, 0);
+    EXPECT(lepugaso_site_set(form_1, sizeof form_1, 1, 0, NULL, 0, &word, 1, (uint8_t *)UINTPTR_MAX, 0, NULL, 0, two),
+           LEPUGASO_REFUSED_SHORT_BUFFER, 0, 0);
+    HOLDS(two[0] == 0 && two[1] == 0 && buf[0] == 6);
+    /* A buffer is of bytes, and may begin anywhere. */
+    EXPECT(lepugaso_site_set(form_1, sizeof form_1, 1, 0, NULL, 0, &word, 1, bytes + 1, 4, buf + 1, 4, two), 0, 0, 0);
+    HOLDS(two[0] == 1 && two[1] == 0 && buf[0] == 6 && buf[1] == 1 && buf[4] == 0);
 }
 
 static void words_and_buffers(void) {
@@ -272,12 +356,13 @@ static void words_and_buffers(void) {
 /* Regions within one piece of memory. A file of a u32 and of two of them; words, or a buffer, for the two, and some of each that are lent
  * and left alone. */
 static const uint8_t pair[] = {U32, VECTOR(2, 0), TRAILER(2, 0)};
-enum { MEMORY = 160, FILE_AT = 20, READ_AT = 88, SPARE = 1 };
+enum { MEMORY = 256, FILE_AT = 20, READ_AT = 88, SPARE = 1 };
 union memory {
     uint8_t bytes[MEMORY];
     uint32_t words[MEMORY / 4];
     const uint8_t *parts[MEMORY / sizeof(uint8_t *)];
     size_t lengths[MEMORY / sizeof(size_t)];
+    uint64_t masks[MEMORY / sizeof(uint64_t)];
 };
 
 static int shares(size_t a, size_t a_len, size_t b, size_t b_len) { return a < b + b_len && b < a + a_len; }
@@ -374,6 +459,79 @@ static void wide_overlaps(void) {
     }
 }
 
+/* The same of a block of one member, two u32; all that a call is lent lies apart in `m`, but for what moves. */
+static const uint8_t pairs[] = {U32, VECTOR(2, 0), STRUCT(0, 1), MEMBER(1), TRAILER(3, 1)};
+enum { PATH_AT = 92, WORD_AT = 112, FACTORY_AT = 130, SITE_AT = 153, MASK_AT = 176, BLOCK = 8 + SPARE };
+
+static union memory block_memory(void) {
+    union memory m = filled_memory();
+    memcpy(m.bytes + FILE_AT, pairs, sizeof pairs);
+    m.words[PATH_AT / 4] = 1;
+    m.masks[MASK_AT / 8] = 0;
+    return m;
+}
+
+/* Whether a region shares a byte with what a set only reads. */
+static int shares_read(size_t at, size_t length) {
+    return shares(at, length, FILE_AT, sizeof pairs) || shares(at, length, PATH_AT, 4) || shares(at, length, WORD_AT, 4) ||
+           shares(at, length, FACTORY_AT, BLOCK);
+}
+
+/* A set with the site and the mask at these places, good or refused. */
+static void block_set(int shared, size_t site, size_t mask) {
+    union memory m = block_memory(), expected;
+    if (!shared) m.masks[mask / 8] = 0;
+    expected = m;
+    if (!shared) {
+        memcpy(expected.bytes + site, m.bytes + FACTORY_AT, 4);
+        memcpy(expected.bytes + site + 4, m.bytes + WORD_AT, 4);
+        expected.masks[mask / 8] = 1;
+    }
+    EXPECT(lepugaso_site_set(m.bytes + FILE_AT, sizeof pairs, 2, 0, &m.words[PATH_AT / 4], 1, &m.words[WORD_AT / 4], 1,
+                             m.bytes + FACTORY_AT, BLOCK, m.bytes + site, BLOCK, &m.masks[mask / 8]),
+           shared ? LEPUGASO_BAD_POINTER : 0, 0, shared ? 0 : 4);
+    HOLDS(memcmp(&m, &expected, sizeof m) == 0);
+}
+
+/* The site at each place, and the mask. */
+static void block_overlaps(void) {
+    for (size_t at = 0; at + BLOCK <= MEMORY; at++) block_set(shares_read(at, BLOCK) || shares(at, BLOCK, MASK_AT, 8), at, MASK_AT);
+    for (size_t at = 0; at < MEMORY; at += 8) {
+        block_set(shares_read(at, 8) || shares(at, 8, SITE_AT, BLOCK), SITE_AT, at);
+
+        int shared = shares(at, 8, FILE_AT, sizeof pairs);
+        union memory m = block_memory(), expected;
+        if (!shared) m.masks[at / 8] = 1;
+        expected = m;
+        if (!shared) expected.masks[at / 8] = 0;
+        EXPECT(lepugaso_site_clear(m.bytes + FILE_AT, sizeof pairs, 2, 0, &m.masks[at / 8]), shared ? LEPUGASO_BAD_POINTER : 0, 0, 0);
+        HOLDS(memcmp(&m, &expected, sizeof m) == 0);
+        if (!shared) m.masks[at / 8] = 7;
+        EXPECT(lepugaso_site_fresh(m.bytes + FILE_AT, sizeof pairs, 2, &m.masks[at / 8]), shared ? LEPUGASO_BAD_POINTER : 0, 0, 0);
+        HOLDS(memcmp(&m, &expected, sizeof m) == 0);
+    }
+}
+
+/* A place for the part that shows a member, or for its length, at each place. */
+static void shown_overlaps(void) {
+    enum { OUT = 8 };
+    for (size_t at = 0; at + OUT <= MEMORY; at += OUT) {
+        for (uint64_t turn = 0; turn < 4; turn++) {
+            int which = turn % 2, on = turn / 2;
+            union memory m = block_memory(), expected = m;
+            const uint8_t *part = NULL, *expected_part = m.bytes + (on ? SITE_AT : FACTORY_AT);
+            size_t part_len = 5, expected_len = 8;
+            int shared = shares(at, OUT, FILE_AT, sizeof pairs) || shares(at, OUT, FACTORY_AT, BLOCK) || shares(at, OUT, SITE_AT, BLOCK);
+            if (!shared) memcpy(expected.bytes + at, which ? (void *)&expected_len : (void *)&expected_part, OUT);
+            EXPECT(lepugaso_site_member(m.bytes + FILE_AT, sizeof pairs, 2, 0, on, m.bytes + FACTORY_AT, BLOCK, m.bytes + SITE_AT, BLOCK,
+                                        which ? &part : &m.parts[at / OUT], which ? &m.lengths[at / OUT] : &part_len),
+                   shared ? LEPUGASO_BAD_POINTER : 0, 0, 0);
+            HOLDS(memcmp(&m, &expected, sizeof m) == 0);
+            HOLDS(which ? part == (shared ? NULL : expected_part) : part_len == (shared ? 5 : expected_len));
+        }
+    }
+}
+
 /* What is only read may overlap: words, and a buffer, that lie within the file. */
 static void read_only_overlaps(void) {
     union memory m = filled_memory();
@@ -404,10 +562,22 @@ static void read_only_overlaps(void) {
     /* And a field of the file itself, by a path in it: its first byte is U32's kind. */
     EXPECT(lepugaso_extract_bits(m.bytes + FILE_AT, sizeof pair, 1, &m.words[FILE_AT / 4 + 1], 1, m.bytes + FILE_AT, sizeof pair, 1, 31), 0,
            0, 1);
+    /* A path, a word and a factory in the file; and a file that is the factory and the site of its own block. */
+    uint64_t mask = 0;
+    m = block_memory();
+    EXPECT(lepugaso_site_set(m.bytes + FILE_AT, sizeof pairs, 2, 0, &m.words[FILE_AT / 4 + 1], 1, &m.words[FILE_AT / 4 + 3], 1,
+                             m.bytes + FILE_AT, sizeof pairs, buf, sizeof buf, &mask),
+           0, 0, 0);
+    HOLDS(mask == 1 && memcmp(buf, pairs + 12, 4) == 0 && memcmp(buf + 4, pairs + 4, 4) == 0);
+    for (mask = 0; mask < 2; mask++) {
+        EXPECT(lepugaso_site_member(m.bytes + FILE_AT, sizeof pairs, 2, 0, mask, m.bytes + FILE_AT, sizeof pairs, m.bytes + FILE_AT,
+                                    sizeof pairs, &part, &part_len),
+               0, 0, 0);
+        HOLDS(part == m.bytes + FILE_AT && part_len == 8);
+    }
 }
 
-/* One table in both forms, to be moved from either to the other. */
-static const uint8_t form_1[] = {U32, STRUCT(0, 1), MEMBER(0), TRAILER(2, 1)};
+/* The same table in form 2: each is moved to the other. */
 static const uint8_t form_2[] = {U32, STRUCT(0, 1), NAMED(0, MEMBER(0)), TRAILER_2(2, 1)};
 
 /* Where a moved file cannot go. */
@@ -478,10 +648,14 @@ int main(void) {
     results();
     overlaps();
     words_and_buffers();
-    parts();
+    parts(viewed);
+    parts(shown);
+    masks();
     writable_overlaps();
     path_overlaps();
     wide_overlaps();
+    block_overlaps();
+    shown_overlaps();
     read_only_overlaps();
     moves();
     moved_overlaps();
