@@ -48,11 +48,11 @@ pub record FormWitnesses : Type 0 where
   pub old-reader : oldTrailer (namedFile 0 0 0) ≡ refused 2 0
 
 -- the bytes of a file are bytes
-unfoldable allBytes : List ℕ → Bool
+unfoldable pub allBytes : List ℕ → Bool
 allBytes [] = true
 allBytes (b ∷ bs) = ltb b 256 && allBytes bs
 
-byte-at : (bs : List ℕ) → allBytes bs ≡ true → (i : ℕ) → getD bs i 0 < 256
+pub byte-at : (bs : List ℕ) → allBytes bs ≡ true → (i : ℕ) → getD bs i 0 < 256
 unfolding allBytes
 byte-at [] h i = omega arith
 byte-at (b ∷ bs) h zero = ltb-true b 256 (both-hold (ltb b 256) (allBytes bs) h .0)

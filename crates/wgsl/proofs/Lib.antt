@@ -61,8 +61,16 @@ pub mod WideCase
 pub mod FormCase
 pub mod SiteMask
 pub mod SiteWitness
+pub mod CleanWitness
 pub mod Site
 pub mod SiteCase
+pub mod CleanCase
+pub mod CleanByte
+pub mod CleanPath
+pub mod CleanCount
+pub mod CleanWord
+pub mod CleanCall
+pub mod CleanSame
 pub mod BitFieldCase
 pub mod Bit
 pub mod FieldAt

@@ -40,13 +40,14 @@ unfolding number-of step-code
 code-word (index i) h = omega arith
 code-word (member i) h = omega arith
 
-codes-words : (steps : List Step) → Below (2 ^ 31) steps → Words (map step-code steps)
+-- Steps whose numbers have 31 bits have codes of 32 bits,
+pub codes-words : (steps : List Step) → Below (2 ^ 31) steps → Words (map step-code steps)
 unfolding Below Words
 codes-words [] h = tt
 codes-words (s ∷ steps) h = (code-word s (h .0), codes-words steps (h .1))
 
--- steps whose numbers have 31 bits are read back from their codes
-codes-read : (steps : List Step) → Below (2 ^ 31) steps → map stepOf (map step-code steps) ≡ steps
+-- and are read back from them.
+pub codes-read : (steps : List Step) → Below (2 ^ 31) steps → map stepOf (map step-code steps) ≡ steps
 unfolding Below
 codes-read [] h = refl
 codes-read (s ∷ steps) h = cc (stepOf-code s (h .0), codes-read steps (h .1))

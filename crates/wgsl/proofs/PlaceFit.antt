@@ -24,6 +24,7 @@ use Rattle.wgsl.specs.BitFieldCall.{integerOf, integerAt, extractCall, i
 use Rattle.wgsl.specs.Uniform.{mayLive, uniformCall}
 use Rattle.wgsl.specs.Form.{toForm2, toForm1, formIs, putOut, moveOnCall, moveBackCall}
 use Rattle.wgsl.specs.Site.{blockEntry, blockIn, memberOf, freshCall, memberCall, copiedIn, siteSetCall, clearCall}
+use Rattle.wgsl.specs.Clean.{cleanType, cleanCall}
 use Rattle.wgsl.specs.Claim.{PlaceFits, PlacesFit}
 use Rattle.wgsl.proofs.Said.{good-not-refused, then-cases, refuse-cases, orRefuse-good, orRefuse-refused}
 use Rattle.wgsl.proofs.Accepted.{refused-place}
@@ -221,6 +222,12 @@ fits-site-set f e k steps ws mask factory site =
     omega (arith, walk-place 0 (m .offset) (m .shape) (map stepOf steps) number place q))
     (λ u g. fits-then (setTarget u ws (copiedIn m mask k factory site)) _ (fits-set-target u ws _) (λ d q. fits-good _)))
 
+-- cleaning
+fits-clean : (f : List ℕ) (e : ℕ) (b : List ℕ) → PlaceFits (cleanCall f e b)
+unfolding cleanCall cleanType
+fits-clean f e b =
+    fits-then (entryFor true f e b) _ (fits-for true f e b) (λ t q. fits-refuse _ _ _ _ (omega arith) (λ ok. fits-good _))
+
 -- a question about one entry
 fits-asked : {A : Type 0} (f : List ℕ) (e : ℕ) (answer : Ty → Said A) → ((t : Ty) → PlaceFits (answer t)) → PlaceFits (_>>=_ (entryOf f e) answer)
 fits-asked f e answer h = fits-then (entryOf f e) answer (fits-entry f e) (λ t q. h t)
@@ -256,4 +263,5 @@ places-fit f =
       site-clear = fits-clear f;
       site-member = fits-member f;
       site-set = fits-site-set f;
+      clean = fits-clean f;
     }

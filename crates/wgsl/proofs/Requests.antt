@@ -1,7 +1,7 @@
 -- What is claimed of the definitions of document 02, request by request. Each proof is one citation: read the statements.
 --
 -- Here: E1, strides; E2, bit fields; E4, vectors of three bools; E5, the uniform profile; E6, scalars of 64 bits; E7, the two forms of a
--- file; E8, factory sheet and site block. That the places of refusals fit and what the calls have in common with those of 01 stands in Claims.
+-- file; E8, factory sheet and site block; E9, the gaps cleaned. That the places of refusals fit and what the calls have in common with those of 01 stands in Claims.
 -- Assumes nothing.
 use Prim.Native.Nat.{ℕ, _+_, _-_, _*_, _%_, _^_, _<_, _≤_, max, min}
 use mathlib.Core.Bool.{true, false, cond}
@@ -17,8 +17,8 @@ use Rattle.wgsl.specs.Types.{Scalar, Ty, array, runtime, everywhere}
 use Rattle.wgsl.specs.Size.{present, widthOf, sizeOf, alignOf, ownStrideOf, isStorable}
 use Rattle.wgsl.specs.Said.{good, refused}
 use Rattle.wgsl.specs.Rule.{isWellFormed, typesOf}
-use Rattle.wgsl.specs.Place.{shapeOf, spanOf, one, Place, wordsFor, wordPlaces, wordCount, wordsRead}
-use Rattle.wgsl.specs.Call.{Done, entryFor, setCall}
+use Rattle.wgsl.specs.Place.{shapeOf, spanOf, one, elementsIn, Place, wordsFor, wordPlaces, places, wordCount, wordsRead}
+use Rattle.wgsl.specs.Call.{Done, entryOf, entryFor, readCall, writeCall, setCall}
 use Rattle.wgsl.specs.Path.{Target, walk, stepOf}
 use Rattle.wgsl.specs.Rank.{scalarRank}
 use Rattle.wgsl.specs.BitField.{startOf, bitsOf, bitAt, extractedU32, extractedI32, repeatedTop, inserted, signedOf, bitExtracted, bitInserted}
@@ -27,9 +27,11 @@ use Rattle.wgsl.specs.BitFieldCall.{isInteger, isSigned, FoundInteger, i
 use Rattle.wgsl.specs.Uniform.{reaches, uniformCall}
 use Rattle.wgsl.specs.File.{Trailer, trailerOf, checkTrailer}
 use Rattle.wgsl.specs.Form.{memberPlace, nameAt, toForm1, toForm2, filled, moveOnCall, moveBackCall, oldTrailer}
-use Rattle.wgsl.specs.Claim.{Holds, together, IsStride, ByElement, HoldsBool, LaidOut, GoodIf, CanField, Reaches, CanUniform, LowestBroken, SameReached, SameAnswers, OfForm, CanMoveOn, CanMoveBack, PlaceFits, memberStep}
+use Rattle.wgsl.specs.Claim.{Holds, together, IsStride, ByElement, HoldsBool, LaidOut, Stored, HasRoom, GoodIf, CanField, Reaches, CanUniform, LowestBroken, SameReached, SameAnswers, OfForm, CanMoveOn, CanMoveBack, PlaceFits, memberStep}
 use Rattle.wgsl.specs.Site.{blockIn, memberOf, SiteDone, freshCall, memberCall, siteSetCall, clearCall}
 use Rattle.wgsl.specs.SiteClaim.{IsBlock, SetOnSite, Cleared}
+use Rattle.wgsl.specs.Clean.{isCovered, CleanDone, cleanCall}
+use Rattle.wgsl.specs.CleanClaim.{OnPath, extentIn, CanClean, Cleans}
 use Rattle.wgsl.specs.Demand.{Given, Leading, Words, SetThenRead}
 use Rattle.wgsl.specs.StrideCase.{strideCasesPass}
 use Rattle.wgsl.specs.BoolCase.{boolCasesPass}
@@ -37,6 +39,7 @@ use Rattle.wgsl.specs.UniformCase.{uniformCasesPass}
 use Rattle.wgsl.specs.WideCase.{wideCasesPass}
 use Rattle.wgsl.specs.FormCase.{formCasesPass}
 use Rattle.wgsl.specs.SiteCase.{siteCasesPass}
+use Rattle.wgsl.specs.CleanCase.{cleanCasesPass}
 use Rattle.wgsl.proofs.Stride as stride
 use Rattle.wgsl.proofs.StrideCase.{stride-cases-pass}
 use Rattle.wgsl.proofs.BitField as field
@@ -54,6 +57,10 @@ use Rattle.wgsl.proofs.MoveCall as moves
 use Rattle.wgsl.proofs.FormCase.{form-cases-pass}
 use Rattle.wgsl.proofs.Site as blocks
 use Rattle.wgsl.proofs.SiteCase.{site-cases-pass}
+use Rattle.wgsl.proofs.CleanPath as clean-path
+use Rattle.wgsl.proofs.CleanCall as clean-call
+use Rattle.wgsl.proofs.CleanSame as clean-same
+use Rattle.wgsl.proofs.CleanCase.{clean-cases-pass}
 
 -- ---- E1: strides
 
@@ -326,3 +333,32 @@ site-member-inside f e mask factory site t k m b h = blocks.member-inside f e ma
 -- The edges of the four calls.
 pub site-cases : T siteCasesPass
 site-cases = site-cases-pass
+
+-- ---- E9: clean the gaps
+
+-- "every byte of a storable entry's extent that no scalar path covers": the bytes that the places of the words cover, by which cleaning is
+-- defined, are exactly those of the scalars that paths lead to. "For open types" too.
+pub covered-by-path : {f : List ℕ} {e : ℕ} {b : List ℕ} {t : Ty} → Stored f e b t → HasRoom t b → (i : ℕ) → (isCovered (places (elementsIn (length b) t) t) i ≡ true → OnPath f e b i) × (OnPath f e b i → isCovered (places (elementsIn (length b) t) t) i ≡ true)
+covered-by-path = clean-path.covered-by-path
+
+-- "Refusals: 8, 17, 9, 10, 15, none new": cleaning is good exactly if none of these is due.
+pub clean-good-if : (f : List ℕ) (e : ℕ) (b : List ℕ) → GoodIf (cleanCall f e b) (CanClean f e b)
+clean-good-if = clean-call.clean-good-if
+
+-- "zeroes, in place, every byte of a storable entry's extent that no scalar path covers, and returns how many bytes it changed and the offset
+-- of the first (the extent itself if none). The count is the number of places where before and after differ, never more than the extent less
+-- the scalars' bytes. All words read as before; doing it again changes 0."
+pub clean-did : {f : List ℕ} {e : ℕ} {b : List ℕ} {d : CleanDone} → cleanCall f e b ≡ good d → Cleans f e b d
+clean-did = clean-call.clean-did
+
+-- "file comparisons fail": two buffers that hold the same words hold, once cleaned, the same bytes in the extent;
+pub clean-same-words : (f : List ℕ) (e : ℕ) (b b′ ws : List ℕ) {d d′ : CleanDone} {r : Done} {t : Ty} → entryOf f e ≡ good t → cleanCall f e b ≡ good d → cleanCall f e b′ ≡ good d′ → readCall f e b ws ≡ good r → readCall f e b′ ws ≡ good r → ((i : ℕ) → getD b i 0 < 256) → ((i : ℕ) → getD b′ i 0 < 256) → (extentIn t b ≡ extentIn t b′) × (take (extentIn t b) (d .contents) ≡ take (extentIn t b) (d′ .contents))
+clean-same-words = clean-same.clean-same-words
+
+-- and a buffer cleaned is what writing the words that are read from it leaves.
+pub clean-is-write : (f : List ℕ) (e : ℕ) (b ws : List ℕ) {d : CleanDone} {r : Done} {t : Ty} → entryOf f e ≡ good t → cleanCall f e b ≡ good d → readCall f e b ws ≡ good r → ((i : ℕ) → getD b i 0 < 256) → writeCall f e (take (r .value) (r .contents)) b ≡ good (record { value = extentIn t b; contents = d .contents })
+clean-is-write = clean-same.clean-is-write
+
+-- Each kind of gap, and the edges of the refusals.
+pub clean-cases : T cleanCasesPass
+clean-cases = clean-cases-pass

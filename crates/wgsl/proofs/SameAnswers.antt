@@ -17,6 +17,7 @@ use Rattle.wgsl.specs.Call.{checkOf, entryOf, entryFor, sizeCall, alignC
 use Rattle.wgsl.specs.BitFieldCall.{integerAt, extractCall, insertCall}
 use Rattle.wgsl.specs.Uniform.{memberTypes, refersTo, uniformCall}
 use Rattle.wgsl.specs.Site.{blockEntry, blockIn, freshCall, memberCall, siteSetCall, clearCall}
+use Rattle.wgsl.specs.Clean.{cleanCall}
 use Rattle.wgsl.specs.Claim.{Reaches, SameReached, SameAnswers}
 use Rattle.wgsl.proofs.Said.{then-refused}
 use Rattle.wgsl.proofs.Accepted.{accepted}
@@ -103,7 +104,7 @@ module _ {f g : List ℕ} (same : SameEntries f g) (types : typesOf f ≡ typesO
   member-same e k mask factory site = rw (block-same e mask (max (length factory) (length site))) refl
 
   pub same-answers : SameAnswers f g
-  unfolding checkOf sizeCall alignCall minSizeCall layoutCall readCall writeCall viewCall setCall extractCall insertCall rankCall commonCall freshCall clearCall siteSetCall
+  unfolding checkOf sizeCall alignCall minSizeCall layoutCall readCall writeCall viewCall setCall extractCall insertCall rankCall commonCall freshCall clearCall siteSetCall cleanCall
   same-answers = record {
     check = rw types refl;
     size = λ e. rw (entry-same e) refl;
@@ -124,4 +125,5 @@ module _ {f g : List ℕ} (same : SameEntries f g) (types : typesOf f ≡ typesO
     site-clear = λ e k mask. rw (block-same e mask 0) refl;
     site-member = member-same;
     site-set = λ e k steps ws mask factory site. rw (member-same e k mask factory site) refl;
+    clean = λ e b. rw (for-same true e b) refl;
   }

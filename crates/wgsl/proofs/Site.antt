@@ -237,8 +237,8 @@ fresh-shows f e mask h =
 
 -- ---- bytes
 
--- what is set from p on lies there
-sets-inside : (vs b : List ℕ) (p j : ℕ) → j < length vs → p + length vs ≤ length b → getD (sets b p vs) (p + j) 0 ≡ getD vs j 0
+-- What is set from p on lies there.
+pub sets-inside : (vs b : List ℕ) (p j : ℕ) → j < length vs → p + length vs ≤ length b → getD (sets b p vs) (p + j) 0 ≡ getD vs j 0
 sets-inside [] b p j h room = absurd (omega arith)
 sets-inside (v ∷ vs) b p zero h room =
     let at : p + 0 ≡ p = omega arith in

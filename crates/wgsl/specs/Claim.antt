@@ -25,6 +25,7 @@ use Rattle.wgsl.specs.BitFieldCall.{isInteger, extractCall, insertCall}
 use Rattle.wgsl.specs.Listing.{listed}
 use Rattle.wgsl.specs.Form.{nameAt, toForm2, toForm1, moveOnCall, moveBackCall}
 use Rattle.wgsl.specs.Site.{freshCall, memberCall, siteSetCall, clearCall}
+use Rattle.wgsl.specs.Clean.{cleanCall}
 use Rattle.wgsl.specs.Uniform.{isUniform, refersTo, isBroken, uniformCall}
 
 -- ---- bytes
@@ -306,6 +307,7 @@ pub record PlacesFit (f : List ℕ) : Type 0 where
   pub site-clear : (e k mask : ℕ) → PlaceFits (clearCall f e k mask)
   pub site-member : (e k mask : ℕ) (factory site : List ℕ) → PlaceFits (memberCall f e k mask factory site)
   pub site-set : (e k : ℕ) (steps ws : List ℕ) (mask : ℕ) (factory site : List ℕ) → PlaceFits (siteSetCall f e k steps ws mask factory site)
+  pub clean : (e : ℕ) (b : List ℕ) → PlaceFits (cleanCall f e b)
 
 -- ---- two files with the same answers
 
@@ -331,6 +333,7 @@ pub record SameAnswers (f g : List ℕ) : Type 0 where
   pub site-clear : (e k mask : ℕ) → clearCall f e k mask ≡ clearCall g e k mask
   pub site-member : (e k mask : ℕ) (factory site : List ℕ) → memberCall f e k mask factory site ≡ memberCall g e k mask factory site
   pub site-set : (e k : ℕ) (steps ws : List ℕ) (mask : ℕ) (factory site : List ℕ) → siteSetCall f e k steps ws mask factory site ≡ siteSetCall g e k steps ws mask factory site
+  pub clean : (e : ℕ) (b : List ℕ) → cleanCall f e b ≡ cleanCall g e b
 
 -- ---- the two forms
 

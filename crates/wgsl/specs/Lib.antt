@@ -17,9 +17,11 @@ pub mod BitFieldCall
 pub mod Uniform
 pub mod Form
 pub mod Site
+pub mod Clean
 pub mod Claim
 pub mod SiteClaim
 pub mod Demand
+pub mod CleanClaim
 pub mod Case
 pub mod StrideCase
 pub mod BoolCase
@@ -27,4 +29,5 @@ pub mod UniformCase
 pub mod WideCase
 pub mod FormCase
 pub mod SiteCase
+pub mod CleanCase
 pub mod Shapes
