@@ -1,6 +1,6 @@
 -- No slack: what an answer says, number and place included, tells which answer it is. So two answers that a claim allows are the same.
 --
--- In order: anything that tells itself; refusals; a number or a refusal; a number or a length beside what was lent; the mask of a site block, and
+-- In order: anything that tells itself; refusals; a number or a refusal; a number or a length beside what was lent; what cleaning changed; the mask of a site block, and
 -- its buffer; the four numbers of an entry; a target or a refusal; a part of the buffer.
 -- Assumes nothing.
 use Prim.Native.Nat.{ℕ}
@@ -12,13 +12,16 @@ use Rattle.wgsl.specs.Said.{Said, good, refused}
 use Rattle.wgsl.specs.Path as path
 use Rattle.wgsl.specs.Call as call
 use Rattle.wgsl.specs.Call.{partOf, partStart}
+use Rattle.wgsl.specs.Clean.{CleanDone, cleanAfter}
 use Rattle.wgsl.specs.Site.{SiteDone, siteAnswer, siteAfter, maskSet, zeroOf, maskAfter}
 use Rattle.said.specs.Refusal.{numberOf, placeOf}
 use Rattle.said.specs.declared.refusal.Refusal.{Refusal}
 use Rattle.said.specs.declared.refusal.Refusal.the-variants.{Short, Form, Counts, Length, Rule, Given, Large, Missing, Absent, Unstorable, NoMember, PastEnd, NoIndex, Count, Buffer, Word, Long, NoRank, NotUniform, Named, NoSite}
-use Rattle.said.specs.Answer.{saidNumber, saidMoved, maybeOf, saidAnswer}
+use Rattle.said.specs.Answer.{saidNumber, saidMoved, gapsOf, saidCleaned, maybeOf, saidAnswer}
 use Rattle.said.specs.declared.answer.Number.{Number}
 use Rattle.said.specs.declared.answer.Moved.{Moved}
+use Rattle.said.specs.declared.answer.Gaps.{Gaps}
+use Rattle.said.specs.declared.answer.Cleaned.{Cleaned}
 use Rattle.said.specs.declared.answer.Maybe.{Maybe}
 use Rattle.said.specs.declared.answer.Answer.{Answer}
 use Rattle.said.specs.declared.target.Target.{Target}
@@ -98,6 +101,20 @@ length-told (Moved.Refused r) = ap Moved.Refused (refusal-told r)
 -- Two results that a claim of a move allows are the same, the answer and the contents of what was lent.
 pub single-moved : (before : List ℕ) (said : Said call.Done) (a b : Moved) (x y : List ℕ) → saidMoved a ≡ call.answerOf said → saidMoved b ≡ call.answerOf said → x ≡ call.contentsOf before said → y ≡ call.contentsOf before said → (a ≡ b) × (x ≡ y)
 single-moved before said a b x y p q r s = (single saidMoved lengthFrom length-told a b p q, r ∙ sym s)
+
+-- ---- what cleaning changed, beside what was lent
+
+abbrev cleanedFrom : Said Gaps → Cleaned
+cleanedFrom (good g) = Cleaned.Is g
+cleanedFrom (refused number place) = Cleaned.Refused (refusalFrom place number)
+
+cleaned-told : (a : Cleaned) → cleanedFrom (saidCleaned a) ≡ a
+cleaned-told (Cleaned.Is g) = refl
+cleaned-told (Cleaned.Refused r) = ap Cleaned.Refused (refusal-told r)
+
+-- Two results that the claim of clean allows are the same, the answer and the contents of the buffer.
+pub single-cleaned : (before : List ℕ) (said : Said CleanDone) (a b : Cleaned) (x y : List ℕ) → saidCleaned a ≡ gapsOf said → saidCleaned b ≡ gapsOf said → x ≡ cleanAfter before said → y ≡ cleanAfter before said → (a ≡ b) × (x ≡ y)
+single-cleaned before said a b x y p q r s = (single saidCleaned cleanedFrom cleaned-told a b p q, r ∙ sym s)
 
 -- ---- the mask of a site block, and its buffer
 

@@ -1,4 +1,4 @@
-// The answers of the questions: a number or a refusal, and all numbers of an entry or a refusal. What they say is specs/Answer.
+// The answers of calls: a number or a refusal, a length, what cleaning changed, all numbers of an entry. What they say is specs/Answer.
 use crate::refusal::Refusal;
 
 // A number, or a refusal.
@@ -10,6 +10,17 @@ pub enum Number {
 // The length of a file that a move made, which need not fit 32 bits, or a refusal.
 pub enum Moved {
     Is(usize),
+    Refused(Refusal),
+}
+
+// What cleaning changed: how many bytes, and the offset of the first, which is the extent where none did.
+pub struct Gaps {
+    pub changed: u32,
+    pub first: u32,
+}
+
+pub enum Cleaned {
+    Is(Gaps),
     Refused(Refusal),
 }
 

@@ -6,3 +6,4 @@ pub mod CallSteps
 pub mod EntryFor
 pub mod Tailed
 pub mod Meant
+pub mod MeantReady

@@ -15,8 +15,10 @@ use Rattle.wgsl.specs.Size.{isPresent, sizeOf, alignOf, isPlain, hasLayout, isS
 use Rattle.wgsl.specs.Said.{Said, good, refused}
 use Rattle.wgsl.specs.Place.{extentOf, whole, shapeOf, spanOf, Place, placesOf, repeated, places, wordCount, written, wordsRead, checkWords}
 use Rattle.wgsl.specs.Shapes.{shapeWords}
+use Rattle.wgsl.specs.Claim.{Ordered}
 use Rattle.wgsl.proofs.Absent.{both-hold, present-some}
 use Rattle.wgsl.proofs.Laid.{laid}
+use Rattle.wgsl.proofs.Shape.{places-ordered}
 use Rattle.wgsl.proofs.Count.{places-words}
 use Rattle.wgsl.proofs.Opened.{opened-extent}
 use Rattle.layout_values.specs.declared.value.Value.{Value}
@@ -46,6 +48,14 @@ module _ {ms : List ℕ} {table : List (List ℕ)} {e : ℕ} {l : Value} {t : Ty
       let both = both-hold (isPresent (alignOf t)) (isOpen t || isPresent (sizeOf t)) has-layout in
       let a = present-some (alignOf t) (both .0) in
       laid n t (a .0) (r .well-formed) (a .1) (both .1) .span
+
+  -- Its places are in rising order, share no byte and lie inside its extent.
+  pub ready-ordered : (n : ℕ) → Ordered (places n t) 0 (extentOf n t)
+  unfolding hasLayout places
+  ready-ordered n =
+      let both = both-hold (isPresent (alignOf t)) (isOpen t || isPresent (sizeOf t)) has-layout in
+      let a = present-some (alignOf t) (both .0) in
+      rw (← ready-span n) (rw zero-add at (places-ordered (shapeOf n t) 0 (laid n t (a .0) (r .well-formed) (a .1) (both .1) .sound)))
 
   -- Its layout counts its fixed words.
   pub ready-words : wordCount 0 t ≡ wordsIn l

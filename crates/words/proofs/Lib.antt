@@ -1,4 +1,3 @@
 pub mod Zeros
-pub mod MeantReady
 pub mod ReadType
 pub mod WriteType

@@ -1,4 +1,4 @@
--- What `allow` says decides (crates/walk_decide, proofs/EntryFor); the entry has what is asked (proofs/MeantReady). Assumes nothing.
+-- What `allow` says decides (crates/walk_decide, proofs/EntryFor); the entry has what is asked (its proofs/MeantReady). Assumes nothing.
 use Prim.Native.Nat.{_≤_}
 use mathlib.Core.Path.{_≡_, sym, _∙_}
 use mathlib.Core.Bool.{true}
@@ -12,8 +12,8 @@ use Rattle.said.specs.Refusal.{numberOf, placeOf}
 use Rattle.said.proofs.Answered.{answered-refused, answered-same}
 use Rattle.walk_decide.specs.Meant.{Meant}
 use Rattle.walk_decide.proofs.EntryFor.{for-refused, for-stored}
+use Rattle.walk_decide.proofs.MeantReady.{entry-ready, entry-tailed}
 use Rattle.walk_decide.proofs.Meant.{entry-value, entry-well-formed}
-use Rattle.words.proofs.MeantReady.{entry-ready, entry-tailed}
 use Rattle.words.proofs.WriteType.{write-refused, write-allowed}
 use borrow.Author.Needs.{needs}
 use Rattle.words.proofs.writing.write_entry_at.Statement.{statement}

@@ -1,4 +1,4 @@
--- What reading and writing ask of the entry that a call means (crates/walk_decide, specs/Meant).
+-- What writing, reading and cleaning ask of the entry that a call means (specs/Meant).
 -- Assumes nothing.
 use Prim.Native.Nat.{ℕ}
 use mathlib.Core.Bool.{true}
