@@ -1,7 +1,8 @@
 // The public calls, in one place. None has a `requires`: any bytes of any length and any numbers are answered. Each answers a number or a
 // refusal (`said::answer::Number`), but for `layout`, which answers all four numbers of an entry (`said::answer::Answer`), `view_at`, which
 // answers a target (`said::target::Walked`), the two views, which hand back a part of the buffer that they were lent, the four calls on
-// numbers alone, which answer a number, and the two moves, which answer a length (`said::answer::Moved`).
+// numbers alone, which answer a number, the two moves, which answer a length (`said::answer::Moved`), and `clean`, which answers what it
+// changed (`said::answer::Cleaned`).
 
 // How many entries an accepted file has; else 1 to 7.
 pub use layout_ask::check;
@@ -17,6 +18,8 @@ pub use convert_ask::rank;
 // The words of an entry into a buffer (the byte count), and out of one (the word count); else 1 to 10, 14 to 17.
 pub use words::reading::read;
 pub use words::writing::write;
+// The gaps of an entry in a buffer become zero (how many bytes changed, and the first of them); else 1 to 10, 15, 17.
+pub use gaps::clean;
 // What a path leads to (its offset, its bytes and its scalar); the same as that part of the buffer, to be read or to be written; else 1
 // to 9, 11 to 13, 15, 17.
 pub use paths::view::view;

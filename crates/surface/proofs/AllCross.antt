@@ -8,6 +8,7 @@ use Rattle.wgsl.specs.Said.{Said, good, refused}
 use Rattle.wgsl.specs.Path.{Target}
 use Rattle.wgsl.specs.Call.{Layout, Done, answerOf, offsetOf}
 use Rattle.wgsl.specs.Site.{SiteDone, siteAnswer, zeroOf}
+use Rattle.wgsl.specs.Clean.{CleanDone, changedOf}
 use Rattle.wgsl.specs.Claim.{PlaceFits}
 use Rattle.wgsl.proofs.Said.{good-not-refused}
 use Rattle.wgsl.proofs.Claims.{refused-places-fit}
@@ -43,6 +44,11 @@ unfolding zeroOf
 zero-fits (good mask) h number place e = good-not-refused refl e
 zero-fits (refused n p) h number place e = h number place cc
 
+changed-fits : (said : Said CleanDone) → PlaceFits said → PlaceFits (changedOf said)
+unfolding changedOf
+changed-fits (good d) h number place e = good-not-refused refl e
+changed-fits (refused n p) h number place e = h number place cc
+
 -- Every refusal of every call crosses whole.
 pub all-cross : (f : List ℕ) → AllCross f
 all-cross f =
@@ -68,4 +74,5 @@ all-cross f =
       site-clear = λ e k mask. whole _ (zero-fits _ (fits .site-clear e k mask));
       site-member = λ e k mask factory site. whole _ (offset-fits _ (fits .site-member e k mask factory site));
       site-set = λ e k steps ws mask factory site. whole _ (site-fits _ (fits .site-set e k steps ws mask factory site));
+      clean = λ e b. whole _ (changed-fits _ (fits .clean e b));
     }

@@ -1,3 +1,4 @@
 -- What is claimed of the exports together.
 pub mod AllCross
 pub mod Viewed
+pub mod Cleaned

@@ -16,6 +16,7 @@ use Rattle.wgsl.specs.BitFieldCall.{extractCall, insertCall}
 use Rattle.wgsl.specs.Uniform.{uniformCall}
 use Rattle.wgsl.specs.Form.{moveOnCall, moveBackCall}
 use Rattle.wgsl.specs.Site.{freshCall, memberCall, siteSetCall, siteAnswer, clearCall, zeroOf}
+use Rattle.wgsl.specs.Clean.{cleanCall, changedOf}
 use Rattle.surface.specs.declared.Crossing.{Crossing}
 
 -- 0 and the value, or the refusal's number and place
@@ -78,3 +79,4 @@ pub record AllCross (f : List ℕ) : Type 0 where
   pub site-clear : (e k mask : ℕ) → CrossesWhole (zeroOf (clearCall f e k mask))
   pub site-member : (e k mask : ℕ) (factory site : List ℕ) → CrossesWhole (offsetOf (memberCall f e k mask factory site))
   pub site-set : (e k : ℕ) (steps ws : List ℕ) (mask : ℕ) (factory site : List ℕ) → CrossesWhole (siteAnswer (siteSetCall f e k steps ws mask factory site))
+  pub clean : (e : ℕ) (b : List ℕ) → CrossesWhole (changedOf (cleanCall f e b))

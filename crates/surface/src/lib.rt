@@ -1,6 +1,7 @@
 // The exports for C: numbers and slices in, one struct of 16 bytes out. Nothing is decided here. The shim declares each of them again, in
 // Rust (shim/src/surface.rs); a test holds it to this file.
 use said::answer::Answer;
+use said::answer::Cleaned;
 use said::answer::Maybe;
 use said::answer::Moved;
 use said::answer::Number;
@@ -15,6 +16,7 @@ ghost use Rattle.wgsl.specs.BitFieldCall.{extractCall, insertCall};
 ghost use Rattle.wgsl.specs.Uniform.{uniformCall};
 ghost use Rattle.wgsl.specs.Form.{moveOnCall, moveBackCall};
 ghost use Rattle.wgsl.specs.Site.{freshCall, clearCall, memberCall, siteSetCall, zeroOf, maskAfter, siteAnswer, siteAfter, maskSet};
+ghost use Rattle.wgsl.specs.Clean.{cleanCall, changedOf, firstAfter, cleanAfter};
 ghost use Rattle.said.specs.Answer.{saidNumber, saidMoved, maybeOf};
 ghost use Rattle.surface.specs.Crossing.{crossed, crossedMaybe, told, laidOut, sizeOut, siteOut};
 
@@ -364,4 +366,25 @@ pub extern "C" fn lepugaso_surface_site_set(
     ensures mask { λ r. ⌜ now (mask .exit) ≡ maskSet (now (mask .entry)) (siteSetCall (now (file .entry)) entry member (now (path .entry)) (now (words .entry)) (now (mask .entry)) (now (factory .entry)) (now (site .entry))) ⌝ }
 {
     cross(lepugaso::site_set(file, entry, member, path, words, factory, site, mask))
+}
+
+// A good answer is how many bytes changed, and `first` the offset of the first.
+#[no_mangle]
+pub extern "C" fn lepugaso_surface_clean(
+    file: &[u8],
+    entry: u32,
+    buf: &mut [u8],
+    first: &mut u64,
+) -> Crossing
+    ensures answer { λ r. ⌜ r ≡ crossed (changedOf (cleanCall (now (file .entry)) entry (now (buf .entry)))) ⌝ }
+    ensures buffer { λ r. ⌜ now (buf .exit) ≡ cleanAfter (now (buf .entry)) (cleanCall (now (file .entry)) entry (now (buf .entry))) ⌝ }
+    ensures first { λ r. ⌜ now (first .exit) ≡ firstAfter (now (first .entry)) (cleanCall (now (file .entry)) entry (now (buf .entry))) ⌝ }
+{
+    match lepugaso::clean(file, entry, buf) {
+        Cleaned::Is(g) => {
+            *first = g.first as u64;
+            cross(Number::Is(g.changed))
+        }
+        Cleaned::Refused(r) => cross(Number::Refused(r)),
+    }
 }
