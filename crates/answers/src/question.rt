@@ -4,6 +4,7 @@ use crate::lines::numbers;
 use crate::lines::same;
 use crate::say::say;
 use crate::say::say_bytes;
+use crate::say::say_cleaned;
 use crate::say::say_layout;
 use crate::say::say_mask;
 use crate::say::say_moved;
@@ -14,6 +15,7 @@ use crate::say::say_walked;
 use crate::say::say_words;
 use lepugaso::align;
 use lepugaso::check;
+use lepugaso::clean;
 use lepugaso::common;
 use lepugaso::extract_bits;
 use lepugaso::extract_bits_u32;
@@ -137,6 +139,16 @@ fn answer_insert(
     let p = copy(held, &mut buffer);
     let n = p.count;
     say_plain(insert_bits(file, entry, path, newbits, offset, count, &mut buffer[..n]));
+    say_bytes(&buffer[..n]);
+    say(b"\n");
+}
+
+// Cleans a copy of the buffer, and says what the copy holds then.
+fn answer_clean(file: &[u8], entry: u32, held: &[u8]) {
+    let mut buffer = io::buffer();
+    let p = copy(held, &mut buffer);
+    let n = p.count;
+    say_cleaned(clean(file, entry, &mut buffer[..n]));
     say_bytes(&buffer[..n]);
     say(b"\n");
 }
@@ -343,6 +355,11 @@ pub fn answer_line<'a>(file: &[u8], held: &'a [u8], factory: &'a [u8], line: &[u
         }
         if same(&line[..word], b"to_form_2") {
             return answer_move(file, false, held);
+        }
+    }
+    if n == 1 {
+        if same(&line[..word], b"clean") {
+            return answer_clean(file, ns[0], held);
         }
     }
     if 0 < n {

@@ -2,6 +2,7 @@
 use crate::lines::spell;
 use libc::STDOUT_FILENO;
 use said::answer::Answer;
+use said::answer::Cleaned;
 use said::answer::Maybe;
 use said::answer::Moved;
 use said::answer::Number;
@@ -38,6 +39,18 @@ pub fn say_moved(m: Moved) {
             io::print_decimal(STDOUT_FILENO, v as u64);
         }
         Moved::Refused(r) => say_refused(r),
+    }
+}
+
+// What cleaning changed, how many bytes and the offset of the first, without the end of its line.
+pub fn say_cleaned(c: Cleaned) {
+    match c {
+        Cleaned::Is(g) => {
+            io::print_decimal(STDOUT_FILENO, g.changed as u64);
+            say(b" ");
+            io::print_decimal(STDOUT_FILENO, g.first as u64);
+        }
+        Cleaned::Refused(r) => say_refused(r),
     }
 }
 

@@ -37,6 +37,10 @@ const PLAN: Plan = Plan {
     sites: 8000,
     site_asked: 12,
     site_bytes: 4096,
+    clean_edges: 1,
+    clean_small: 3,
+    cleans: 6000,
+    clean_asked: 12,
 };
 
 const RECORDED: Plan = Plan {
@@ -47,7 +51,7 @@ const RECORDED: Plan = Plan {
     random: 60,
     limits: 20,
     large: 0,
-    damaged: 160,
+    damaged: 120,
     rounds: 1,
     fields: 1,
     packed: 1,
@@ -64,6 +68,10 @@ const RECORDED: Plan = Plan {
     sites: 6,
     site_asked: 3,
     site_bytes: 24,
+    clean_edges: 4,
+    clean_small: 0,
+    cleans: 4,
+    clean_asked: 3,
 };
 
 fn read(path: &str) -> String {
@@ -112,6 +120,7 @@ pub fn ask(seed: u64, document: &str, folder: &str) -> bool {
     generate::long_blocks(seed, &PLAN, &mut put);
     generate::form_blocks(seed, &PLAN, &mut put);
     generate::site_blocks(seed, &PLAN, &mut put);
+    generate::clean_blocks(seed, &PLAN, &mut put);
     flush(&mut text);
     println!("{files:9} files in all, seed {seed}");
     true
@@ -243,6 +252,7 @@ pub fn record(document: &str, folder: &str) -> bool {
     generate::long_blocks(1, &RECORDED, |b| blocks.push(b));
     generate::form_blocks(1, &RECORDED, |b| blocks.push(b));
     generate::site_blocks(1, &RECORDED, |b| blocks.push(b));
+    generate::clean_blocks(1, &RECORDED, |b| blocks.push(b));
     let questions = blocks.iter().fold(format!("{HEAD}\n"), |s, b| s + &b.lines());
     let rust = answer(&questions);
     let mut rust = rust.lines();

@@ -1,7 +1,7 @@
 //! The questions: all small tables over a menu, random tables, tables at the limits, damaged copies; and on each of them what can be
 //! asked, buffers and words on each side of their edges.
 use crate::file::{Entry, Member, Table};
-use crate::model::{self, Good, Laid, Stand};
+use crate::model::{self, Good, Laid, Stand, Tail};
 use crate::question::{Block, Field, Question, Sheets};
 use crate::rows;
 
@@ -1297,6 +1297,15 @@ pub struct Plan {
     /// questions on each of them, and the longest buffers there
     pub site_asked: usize,
     pub site_bytes: u64,
+    /// of the buffers with gaps of entries made by hand: one of so many
+    pub clean_edges: u64,
+    /// all tables of at most so many entries over the menu, without and with an i64, in each the gaps of its last entry
+    pub clean_small: usize,
+    /// random tables of which entries are cleaned; for each four two damaged ones, for each eight a nested one and one near the rules of the
+    /// uniform profile
+    pub cleans: usize,
+    /// questions on each of them
+    pub clean_asked: usize,
 }
 
 pub fn blocks(seed: u64, plan: &Plan, mut each: impl FnMut(Block)) {
@@ -1935,6 +1944,232 @@ pub fn site_blocks(seed: u64, plan: &Plan, mut each: impl FnMut(Block)) {
             let many = 1 + r.below(66);
             let w = wide(&mut r, many, &kinds);
             each(Block { file: w.write(&[]), questions: some_sites(&mut r, &w, n, plan.site_bytes) });
+        }
+    }
+}
+
+/// Entries with gaps of every sort: after a vec3, a column and an element, before a member, after it where its size is given, and at the end
+/// of a struct; of structs alone, in arrays, small and not, and within each other; before a runtime array and in its elements. Entries with
+/// none. And what can't be cleaned: what has no layout, what holds a bool.
+fn gap_sorts() -> Table {
+    let over = |kind, columns, rows, reference, count| (entry(kind, columns, rows, reference, count), vec![]);
+    let (array, runtime) = (|of, count| over(9, 0, 0, of, count), |of| over(10, 0, 0, of, 0));
+    let of = |ms: Vec<Member>| (entry(12, 0, 0, 0, 0), ms);
+    let plain = |ty| member(ty, None, None);
+    let all = |types: &[u16]| of(types.iter().map(|ty| plain(*ty)).collect());
+    table(&[
+        // f32, f16, u32, i64
+        scalar(3),
+        scalar(4),
+        scalar(2),
+        scalar(13),
+        // 4 to 8: vectors and matrices of three rows; a matrix without gaps
+        over(7, 0, 3, 0, 0),
+        over(7, 0, 3, 1, 0),
+        over(8, 3, 3, 0, 0),
+        over(8, 2, 3, 1, 0),
+        over(8, 2, 2, 0, 0),
+        // 9 to 11: arrays of them
+        array(4, 2),
+        array(5, 3),
+        array(6, 2),
+        over(11, 0, 0, 2, 0),
+        // 13 to 17: structs of which the end, or what comes before a member, is a gap, of 2 or of 4 bytes, and arrays of them
+        all(&[2, 4, 0]),
+        all(&[1, 2, 1]),
+        array(14, 3),
+        all(&[0, 3, 12]),
+        array(16, 3),
+        // 18 to 21: sizes and aligns given; within each other
+        of(vec![member(0, Some(7), None), member(1, Some(9), None), member(2, None, Some(32)), plain(12)]),
+        array(18, 2),
+        of(vec![plain(1), plain(14), plain(1), plain(9), plain(7), member(16, Some(30), None), plain(1)]),
+        array(15, 2),
+        // 22 and 23: a struct that is mostly its end
+        of(vec![member(0, None, Some(32))]),
+        array(22, 2),
+        // 24 to 31: runtime arrays, and structs that end in one, with a gap before it or without
+        runtime(4),
+        runtime(14),
+        runtime(16),
+        runtime(1),
+        all(&[2, 24]),
+        of(vec![plain(1), member(27, None, Some(8))]),
+        all(&[3, 1, 25]),
+        all(&[14, 26]),
+        // 32 and on: bool, an abstract scalar, a vec3 of i64, what holds them, open and not; an array that is too long
+        scalar(0),
+        scalar(5),
+        over(7, 0, 3, 3, 0),
+        over(7, 0, 3, 32, 0),
+        all(&[2, 32]),
+        runtime(32),
+        all(&[1, 37]),
+        array(0, 1 << 29),
+    ])
+}
+
+/// Some of a list: one of so many, and one in any case.
+fn some_of(r: &mut Random, one_of: u64, list: Vec<Question>) -> Vec<Question> {
+    let kept = r.below(list.len() as u64) as usize;
+    list.into_iter().enumerate().filter(|(i, _)| *i == kept || r.one_in(one_of)).map(|(_, q)| q).collect()
+}
+
+/// A buffer of which some bytes, one of so many, became 0.
+fn with_zeros(r: &mut Random, buffer: &[u8], one_of: u64) -> Vec<u8> {
+    buffer.iter().map(|b| if r.one_in(one_of) { 0 } else { *b }).collect()
+}
+
+/// The same buffer with the gaps of entry `e` clean, as far as it can be cleaned, and where the gaps are.
+fn without_gaps(good: &Good, e: usize, buffer: &[u8]) -> (Vec<u8>, Vec<usize>) {
+    let (mut clean, mut marked) = (buffer.to_vec(), vec![1; buffer.len()]);
+    let _ = (good.clean(e, &mut clean), good.clean(e, &mut marked));
+    (clean, (0..buffer.len()).filter(|k| marked[*k] == 0).collect())
+}
+
+/// Buffers of entry `e` with `n` elements, which are cleaned: rubbish of each length at an edge; no rubbish in the gaps, and rubbish in the
+/// first byte of them, the last, any and all but the first alone; zeros here and there, and nothing else. Of these one of so many.
+fn gap_edges(r: &mut Random, good: &Good, e: usize, n: u64, one_of: u64) -> Vec<Question> {
+    let (entry, extent) = (e as u32, good.extent(e, n));
+    let ask = |buffer: &[u8]| Question::Clean(entry, buffer.to_vec());
+    if extent > MOST_BYTES - 12 || !good.has_layout(e) || good.laid[e].holds_bool {
+        let room = bytes(r, 24);
+        return some_of(r, one_of, [0, 9, 24].map(|length| ask(&room[..length])).to_vec());
+    }
+    let mut lengths = vec![extent - 1, extent, extent + 1, extent + 2 + r.below(9)];
+    // an element fewer, and one more and almost
+    if let Some(Tail { stride, .. }) = good.laid[e].tail.filter(|t| extent + t.stride <= MOST_BYTES) {
+        lengths.extend([extent - stride, extent + stride - 1, extent + stride]);
+    }
+    let room = bytes(r, *lengths.iter().max().expect("a length"));
+    let mut qs: Vec<Question> = lengths.into_iter().map(|length| ask(&room[..length as usize])).collect();
+    let room = &room[..r.of(&[extent, extent, extent + 1]) as usize];
+    let (clean, gaps) = without_gaps(good, e, room);
+    qs.extend([ask(&clean), ask(&vec![0; room.len()]), ask(&with_zeros(r, room, 2)), ask(&with_zeros(r, room, 8))]);
+    if let (Some(first), Some(last)) = (gaps.first(), gaps.last()) {
+        for at in [*first, *last, r.of(&gaps)] {
+            let mut one = clean.clone();
+            one[at] = room[at];
+            qs.push(ask(&one));
+        }
+        let mut others = room.to_vec();
+        others[*first] = 0;
+        qs.push(ask(&others));
+    }
+    some_of(r, one_of, qs)
+}
+
+/// The same of an open entry with one element and with some, of another once.
+fn all_gap_edges(r: &mut Random, good: &Good, e: usize, one_of: u64) -> Vec<Question> {
+    let counts = if good.laid[e].open { vec![1, 2 + r.below(4)] } else { vec![0] };
+    counts.into_iter().flat_map(|n| gap_edges(r, good, e, n, one_of)).collect()
+}
+
+/// A cleaning of an entry that may not be fit for it: of rubbish, of rubbish and zeros, of a clean buffer or of one with rubbish in one of
+/// its bytes; the buffer may be short, or longer. Of a small value mostly.
+fn faulty_clean(r: &mut Random, good: Option<&Good>, entry: u32) -> Question {
+    let (e, mut length) = (entry as usize, r.below(20));
+    let good = good.filter(|g| e < g.laid.len());
+    if let Some(good) = good {
+        let n = if good.laid[e].open { r.of(&[0, 1, 1, 2, 3, 7]) } else { 0 };
+        let most = if r.one_in(40) { MOST_BYTES } else { FEW_BYTES };
+        if good.extent(e, n) <= most {
+            length = good.extent(e, n);
+        }
+    }
+    if r.one_in(3) {
+        let (less, more) = (r.below(length + 1), (length + r.below(20)).min(MOST_BYTES));
+        length = r.of(&[length.saturating_sub(1), less, more, more]);
+    }
+    let rubbish = bytes(r, length);
+    let clean = good.map_or(rubbish.clone(), |good| without_gaps(good, e, &rubbish).0);
+    let buffer = match r.below(8) {
+        0 => clean,
+        1 | 2 if length > 0 => {
+            let (mut one, at) = (clean, r.below(length) as usize);
+            one[at] = 255 - one[at];
+            one
+        }
+        3 => with_zeros(r, &rubbish, 2),
+        4 => with_zeros(r, &rubbish, 8),
+        _ => rubbish,
+    };
+    Question::Clean(entry, buffer)
+}
+
+/// `n` cleanings, mostly of entries that are fit for it and not scalars; now and then an entry that is not there.
+fn some_cleans(r: &mut Random, t: &Table, n: usize) -> Vec<Question> {
+    let types = t.entries.len().max(1) as u64;
+    let good = model::check(&t.write(&[])).ok();
+    let is_fit = |e: &u32| {
+        let (kind, good) = (t.entries[*e as usize].kind, good.as_ref()?);
+        let l = good.laid[*e as usize];
+        (l.has_layout() && !l.holds_bool && !model::is_scalar(kind)).then_some(())
+    };
+    let fit: Vec<u32> = (0..t.entries.len() as u32).filter(|e| is_fit(e).is_some()).collect();
+    let mut one = || {
+        let (past, any) = (r.of(&[types, 255, 4_294_967_295]) as u32, r.below(types) as u32);
+        let entry = match r.below(32) {
+            0 => past,
+            1..=6 => any,
+            _ if fit.is_empty() => any,
+            7..=16 => *fit.last().expect("one that is fit"),
+            _ => r.of(&fit),
+        };
+        faulty_clean(r, good.as_ref(), entry)
+    };
+    (0..n).map(|_| one()).collect()
+}
+
+/// The questions about cleaning. They have random numbers of their own too.
+pub fn clean_blocks(seed: u64, plan: &Plan, mut each: impl FnMut(Block)) {
+    let mut r = Random(!seed.rotate_left(16));
+    let t = gap_sorts();
+    let good = model::check(&t.write(&[])).ok().expect("an accepted table");
+    let mut questions: Vec<Question> =
+        (0..t.entries.len()).flat_map(|e| all_gap_edges(&mut r, &good, e, plan.clean_edges)).collect();
+    // one buffer for all of them; and one entry more than there are
+    let (room, types) = (bytes(&mut r, 128), t.entries.len() as u32);
+    questions.extend([types, 255, u32::MAX].map(|e| Question::Clean(e, vec![])));
+    questions.extend((0..=types).map(|e| Question::Clean(e, room.clone())));
+    each(Block { file: t.write(&[]), questions });
+    // no table, and a bad entry
+    for file in [vec![0], table(&[scalar(2), scalar(16)]).write(&[])] {
+        each(Block { file, questions: [0, 9].map(|n| Question::Clean(0, vec![7; n])).to_vec() });
+    }
+    for t in [long(), long_ones()].concat().into_iter().take(2 * plan.long) {
+        let good = model::check(&t.write(&[])).ok().expect("an accepted table");
+        let questions = all_gap_edges(&mut r, &good, t.entries.len() - 1, 1);
+        each(Block { file: t.write(&[]), questions });
+    }
+    for kinds in [SHORT.as_slice(), &[2, 4, 5, 13]] {
+        for t in small_over(plan.clean_small, kinds) {
+            let good = model::check(&t.write(&[])).ok().expect("an accepted table");
+            let questions = all_gap_edges(&mut r, &good, t.entries.len() - 1, 1);
+            each(Block { file: t.write(&[]), questions });
+        }
+    }
+    for t in at_limits().into_iter().take(plan.large) {
+        each(Block { file: t.write(&[]), questions: some_cleans(&mut r, &t, plan.limits) });
+    }
+    let (n, kinds) = (plan.clean_asked, [0, 1, 2, 3, 3, 4, 4, 4, 5, 13, 14, 15]);
+    for i in 0..plan.cleans {
+        let (base, types) = (table(&[scalar(r.of(&kinds))]), 3 + r.below(8) as usize);
+        let t = random_over(&mut r, base, types, if i % 8 == 7 { 60 } else { 12 }, &kinds);
+        let form = if r.one_in(4) { 2 } else { 1 };
+        each(Block { file: named(&mut r, &t).write_as(form, &[]), questions: some_cleans(&mut r, &t, n) });
+        if i % 4 == 3 {
+            let d = damaged_table(&mut r, &t);
+            each(Block { file: file(&mut r, &d), questions: some_cleans(&mut r, &d, n.min(4)) });
+            let b = file(&mut r, &t);
+            each(Block { file: damaged_file(&mut r, &b), questions: some_cleans(&mut r, &t, n.min(3)) });
+        }
+        if i % 8 == 7 {
+            let deep = nested(&mut r, &[STORED.as_slice(), &LONG].concat());
+            each(Block { file: deep.write(&[]), questions: some_cleans(&mut r, &deep, n) });
+            let types = 4 + r.below(8) as usize;
+            let near = uniform_table(&mut r, types);
+            each(Block { file: near.write(&[]), questions: some_cleans(&mut r, &near, n) });
         }
     }
 }

@@ -1,11 +1,12 @@
 //! Document 01's rules, written from its text: which file is refused, with what number and place, and what the calls answer; and document
-//! 02's on strides, bit fields, vectors of three bools, the uniform profile, scalars of 64 bits, the two forms of a file and site blocks. It
-//! decides where Lepugaso and the Rust may differ (the rows of docs/DIFFERENCES.md), and what Lepugaso has to say there.
+//! 02's on strides, bit fields, vectors of three bools, the uniform profile, scalars of 64 bits, the two forms of a file, site blocks and
+//! cleaning. It decides where Lepugaso and the Rust may differ (the rows of docs/DIFFERENCES.md), and what Lepugaso has to say there.
 use std::collections::BTreeSet;
 
 use crate::file::{Entry, Member, Table};
 use crate::question::{
-    self, Answer, Field, Question, Sheets, Shown, with_buffer, with_mask, with_part, with_shown, with_site, with_words,
+    self, Answer, Field, Question, Sheets, Shown, with_buffer, with_gaps, with_mask, with_part, with_shown, with_site,
+    with_words,
 };
 use crate::rows::{self, Row};
 use crate::types::NOTHING;
@@ -517,6 +518,34 @@ impl Good {
         Ok(t.offset)
     }
 
+    /// Marks the bytes of every scalar that a path leads to from what begins at `at`.
+    fn cover(&self, stand: Stand, n: u64, at: u64, covered: &mut [bool]) {
+        if let Some(scalar) = self.scalar(stand) {
+            let size = self.laid[scalar].size.expect("a scalar that may be stored");
+            return covered[at as usize..][..size as usize].fill(true);
+        }
+        let members = self.member_count(stand);
+        for number in 0..members.or(self.parts(stand, n)).unwrap_or(0) {
+            let part = self.enter(stand, n, members.is_some(), number);
+            self.cover(part.stand, n, at + part.offset, covered);
+        }
+    }
+
+    /// Cleaning (E9): then 15. "zeroes, in place, every byte of a storable entry's extent that no scalar path covers"; "For open types the
+    /// extent is the array offset plus whole elements." The extent.
+    pub fn clean(&self, e: usize, buffer: &mut [u8]) -> Answer {
+        self.stored(e, buffer.len() as u64)?;
+        let (whole, n) = self.target(e, &[], buffer.len() as u64)?;
+        let mut covered = vec![false; self.extent(e, n) as usize];
+        self.cover(whole.stand, n, 0, &mut covered);
+        for (byte, is_covered) in buffer.iter_mut().zip(&covered) {
+            if !is_covered {
+                *byte = 0;
+            }
+        }
+        Ok(covered.len() as u64)
+    }
+
     /// The scalar of a field at a path, its offset and whether it is signed: as for setting, with 14 for what is not one i32 or u32, or
     /// an atomic of one.
     fn integer(&self, e: usize, path: &[u32], length: u64) -> Result<(u64, bool), (u32, u64)> {
@@ -844,6 +873,7 @@ fn unchanged(q: &Question, number: u32, place: u64) -> String {
             with_buffer(Err((number, place)), buffer)
         }
         Question::Read(_, words, _) => with_words(Err((number, place)), words),
+        Question::Clean(_, buffer) => with_gaps(Err((number, place)), buffer, buffer),
         Question::SiteFresh(_, mask) | Question::SiteClear(_, _, mask) => with_mask(Err((number, place)), *mask),
         Question::SiteSet(_, _, mask, _, _, sheets) => with_site(Err((number, place)), *mask, &sheets.site),
         _ => format!("refused {number} at {place}"),
@@ -922,6 +952,10 @@ pub fn answer(file: &[u8], checked: &Result<Good, Refusal>, nodes: &[u64], q: &Q
         Question::Set(e, words, path, buffer) => {
             let mut buffer = buffer.clone();
             with_buffer(good.set(*e as usize, path, words, &mut buffer), &buffer)
+        }
+        Question::Clean(e, buffer) => {
+            let mut after = buffer.clone();
+            with_gaps(good.clean(*e as usize, &mut after), buffer, &after)
         }
         Question::Extract(e, field, path, buffer) => question::told(good.extract(*e as usize, path, *field, buffer)),
         Question::Insert(e, new, field, path, buffer) => {

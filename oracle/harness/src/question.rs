@@ -1,7 +1,7 @@
-//! Questions, their lines and those of their answers (oracle/README.md, version 9).
+//! Questions, their lines and those of their answers (oracle/README.md, version 10).
 
-pub const HEAD: &str = "questions 9";
-pub const ANSWERS_HEAD: &str = "answers 9";
+pub const HEAD: &str = "questions 10";
+pub const ANSWERS_HEAD: &str = "answers 10";
 
 #[derive(Clone)]
 pub enum Question {
@@ -21,6 +21,8 @@ pub enum Question {
     View(u32, Vec<u32>, Vec<u8>),
     /// an entry, the words, the steps, and what the buffer holds before
     Set(u32, Vec<u32>, Vec<u32>, Vec<u8>),
+    /// an entry, and what the buffer holds before
+    Clean(u32, Vec<u8>),
     /// an entry, the field, the steps, and the buffer
     Extract(u32, Field, Vec<u32>, Vec<u8>),
     /// an entry, the new value, the field, the steps, and what the buffer holds before
@@ -99,6 +101,7 @@ impl Question {
             Question::Read(e, words, _) => listed(format!("read {e}"), words),
             Question::View(e, path, _) => listed(format!("view {e}"), path),
             Question::Set(e, words, path, _) => listed(listed(format!("set {e} {}", words.len()), words), path),
+            Question::Clean(e, _) => format!("clean {e}"),
             Question::Extract(e, field, path, _) => listed(format!("extract {e} {}", field.line()), path),
             Question::Insert(e, new, field, path, _) => listed(format!("insert {e} {new} {}", field.line()), path),
             Question::ExtractU32(word, field) => format!("extract_u32 {word} {}", field.line()),
@@ -137,6 +140,7 @@ impl Question {
                 let (words, path) = rest.split_at(*count as usize);
                 Question::Set(*e, words.to_vec(), path.to_vec(), buffer.to_vec())
             }
+            ("clean", [e]) => Question::Clean(*e, buffer.to_vec()),
             ("extract", [e, o, c, path @ ..]) => Question::Extract(*e, field(o, c), path.to_vec(), buffer.to_vec()),
             ("insert", [e, new, o, c, path @ ..]) => {
                 Question::Insert(*e, *new, field(o, c), path.to_vec(), buffer.to_vec())
@@ -163,7 +167,7 @@ impl Question {
             Question::Size(e) | Question::Align(e) | Question::MinSize(e) => vec![*e],
             Question::Layout(e) | Question::Uniform(e) => vec![*e],
             Question::Write(e, _, _) | Question::Read(e, _, _) => vec![*e],
-            Question::View(e, _, _) | Question::Set(e, _, _, _) => vec![*e],
+            Question::View(e, _, _) | Question::Set(e, _, _, _) | Question::Clean(e, _) => vec![*e],
             Question::Extract(e, _, _, _) | Question::Insert(e, _, _, _, _) => vec![*e],
             Question::SiteFresh(e, _) | Question::SiteClear(e, _, _) => vec![*e],
             Question::SiteMember(e, _, _, _) | Question::SiteSet(e, _, _, _, _, _) => vec![*e],
@@ -178,7 +182,7 @@ impl Question {
             Question::Write(_, _, buffer) | Question::Read(_, _, buffer) => Some(buffer),
             Question::View(_, _, buffer) | Question::Set(_, _, _, buffer) => Some(buffer),
             Question::Extract(_, _, _, buffer) | Question::Insert(_, _, _, _, buffer) => Some(buffer),
-            Question::Move(_, buffer) => Some(buffer),
+            Question::Clean(_, buffer) | Question::Move(_, buffer) => Some(buffer),
             Question::SiteMember(_, _, _, sheets) | Question::SiteSet(_, _, _, _, _, sheets) => Some(&sheets.site),
             _ => None,
         }
@@ -260,6 +264,15 @@ pub fn told(answer: Answer) -> String {
 /// What is said of a write, of a set, of an insertion or of a move: its answer, and what the buffer holds after it.
 pub fn with_buffer(answer: Answer, buffer: &[u8]) -> String {
     format!("{} {}", told(answer), hex(buffer)).trim_end().into()
+}
+
+/// What is said of cleaning so many bytes: how many of the buffer's differ after it and the first of them, all that were cleaned if none
+/// does, or its refusal; and what the buffer holds after it.
+pub fn with_gaps(extent: Answer, before: &[u8], after: &[u8]) -> String {
+    let changed: Vec<usize> = (0..before.len()).filter(|k| before[*k] != after[*k]).collect();
+    let first = extent.map(|extent| changed.first().map_or(extent, |k| *k as u64));
+    let count = if first.is_ok() { format!("{} ", changed.len()) } else { String::new() };
+    count + &with_buffer(first, after)
 }
 
 /// What is said of a read: its answer, and what the words hold after it.

@@ -2,8 +2,8 @@
 //! does with a buffer instead; the document's own examples are read here too.
 use crate::file::{Member, Table};
 use crate::model::{self, Good, Laid, Stand, Target, members};
-use crate::question::{Answer, Block, Question, parse_bytes, with_buffer, with_part, with_words};
-use crate::types::{NOTHING, PANICS};
+use crate::question::{Answer, Block, Question, parse_bytes, with_buffer, with_gaps, with_part, with_words};
+use crate::types::{NOTHING, PANICS, put_front};
 
 macro_rules! rows {
     ($($row:ident = $name:literal),* $(,)?) => {
@@ -178,11 +178,7 @@ fn written(good: &Good, e: usize, words: &[u32], buffer: &[u8]) -> (Row, String)
             let refusal = if good.rust[e].has_layout() { 10 } else { 9 };
             return (Row::Vec3Bool, with_buffer(Err((refusal, 0)), &buffer));
         }
-        Made::Bytes(bytes) if bytes.len() > buffer.len() => Err((15, 0)),
-        Made::Bytes(bytes) => {
-            buffer[..bytes.len()].copy_from_slice(&bytes);
-            Ok(bytes.len() as u64)
-        }
+        Made::Bytes(bytes) => put_front(&bytes, &mut buffer),
     };
     (if good.has_layout(e) { Row::StructEnd } else { Row::Vec3Of64 }, with_buffer(answer, &buffer))
 }
@@ -346,11 +342,27 @@ fn changed(good: &Good, e: usize, path: &[u32], words: &[u32], buffer: &[u8]) ->
         _ => Row::SetGaps,
     };
     let mut after = buffer.to_vec();
-    if bytes.len() > after.len() {
-        return (row, refused((15, 0)));
-    }
-    after[..bytes.len()].copy_from_slice(&bytes);
-    (row, with_buffer(Ok(held.offset(good, e, &t)), &after))
+    let put = put_front(&bytes, &mut after);
+    (row, with_buffer(put.map(|_| held.offset(good, e, &t)), &after))
+}
+
+/// The row of a cleaning, and what the Rust says of it; none where it writes what it read as 01 does.
+fn cleaned(good: &Good, e: usize, buffer: &[u8]) -> Option<(Row, String)> {
+    let mut after = buffer.to_vec();
+    let unread = good.clean(e, &mut after.clone()).is_err();
+    let (row, extent) = match held(good, e, buffer) {
+        Err(refusal) => (early(good, e), Err(refusal)),
+        Ok(held) => {
+            let bytes = made_of(good, Stand::Entry(e), held.n, &held.words);
+            let row = match () {
+                _ if unread || held.early > 0 => early(good, e),
+                _ if bytes != padded(good, Stand::Entry(e), held.n, &held.words) => Row::StructEnd,
+                _ => return None,
+            };
+            (row, put_front(&bytes, &mut after))
+        }
+    };
+    Some((row, with_gaps(extent, buffer, &after)))
 }
 
 /// The row of a question on a table that 01 accepts, of an entry that it has, and what the Rust says of it; none where that is what 01
@@ -368,6 +380,7 @@ pub fn departure(good: &Good, q: &Question, says: &str) -> Option<(Row, String)>
         }
         Question::View(e, path, buffer) => viewed(good, *e as usize, path, buffer),
         Question::Set(e, words, path, buffer) => changed(good, *e as usize, path, words, buffer),
+        Question::Clean(e, buffer) => cleaned(good, *e as usize, buffer)?,
         Question::Extract(..) | Question::Insert(..) => (Row::BitFields, NOTHING.into()),
         Question::Uniform(_) => (Row::Uniform, NOTHING.into()),
         Question::SiteFresh(..) | Question::SiteClear(..) | Question::SiteMember(..) | Question::SiteSet(..) => {

@@ -12,7 +12,7 @@ use wgsl_types::ty::{StructMemberType, StructType, Ty, Type};
 
 use crate::file::{Entry, Table};
 use crate::model::{Good, Refusal};
-use crate::question::{Answer, Question, with_buffer, with_part, with_words};
+use crate::question::{Answer, Question, with_buffer, with_gaps, with_part, with_words};
 use crate::rows::VAST;
 
 /// The Rust's types are trees without sharing: a type of more nodes is not built.
@@ -250,16 +250,19 @@ fn unshared(ty: &Type) -> Option<u32> {
     if !laid { Some(9) } else { holds_bool(ty).then_some(10) }
 }
 
+/// Puts the Rust's bytes to the front of a buffer, where they fit: how many.
+pub fn put_front(bytes: &[u8], buffer: &mut [u8]) -> Answer {
+    let front = buffer.get_mut(..bytes.len()).ok_or((15, 0))?;
+    front.copy_from_slice(bytes);
+    Ok(bytes.len() as u64)
+}
+
 /// The Rust's bytes of a value go to the front of the buffer.
 fn write(ty: &Type, n: u64, words: &[u32], buffer: &[u8]) -> Option<String> {
     let mut buffer = buffer.to_vec();
     let answer: Answer = match value(ty, n, &mut words.iter().copied())?.to_buffer() {
         None => Err((unshared(ty).unwrap_or(0), 0)),
-        Some(bytes) if bytes.len() > buffer.len() => Err((15, 0)),
-        Some(bytes) => {
-            buffer[..bytes.len()].copy_from_slice(&bytes);
-            Ok(bytes.len() as u64)
-        }
+        Some(bytes) => put_front(&bytes, &mut buffer),
     };
     Some(with_buffer(answer, &buffer))
 }
@@ -366,16 +369,21 @@ fn set(ty: &Type, path: &[u32], words: &[u32], buffer: &[u8]) -> Option<String> 
             Err(error) => Err(part(&value, path).err().unwrap_or((number(error), 0))),
             Ok(()) => {
                 let bytes = value.to_buffer().expect("what was read can be written");
-                if bytes.len() > after.len() {
-                    Err((15, 0))
-                } else {
-                    after[..bytes.len()].copy_from_slice(&bytes);
-                    Ok(offset(ty, path, buffer.len()))
-                }
+                put_front(&bytes, &mut after).map(|_| offset(ty, path, buffer.len()))
             }
         },
     };
     Some(with_buffer(answer, &after))
+}
+
+/// The Rust reads the buffer, and its bytes of the value go to the front of the buffer: it has no other way to clean.
+fn clean(ty: &Type, buffer: &[u8]) -> String {
+    let mut after = buffer.to_vec();
+    let extent = match Instance::from_buffer(buffer, ty) {
+        None => Err((unshared(ty).unwrap_or(15), 0)),
+        Some(value) => put_front(&value.to_buffer().expect("what was read can be written"), &mut after),
+    };
+    with_gaps(extent, buffer, &after)
 }
 
 /// What the Rust says of a question; `NOTHING` where it has no type, or no value, to be asked about. Buffers are asked about on tables
@@ -411,6 +419,10 @@ pub fn answer(types: &[Option<Type>], checked: &Result<Good, Refusal>, q: &Quest
         Question::Set(e, words, path, buffer) => {
             let (_, ty) = checked.as_ref().ok().zip(of(e))?;
             set(ty, path, words, buffer)
+        }
+        Question::Clean(e, buffer) => {
+            let (_, ty) = checked.as_ref().ok().zip(of(e))?;
+            Some(clean(ty, buffer))
         }
         // The six files have no such function.
         Question::Uniform(_) | Question::Move(..) => None,
