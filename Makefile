@@ -37,6 +37,6 @@ compare:
 record:
 	@oracle/record $(GIVEN)
 
-# How long writing, reading, views and sets take, beside wgsl-types and memcpy, in one process.
+# How long writing, reading, views and sets take, beside wgsl-types and memcpy, in one process; cleaning, beside a loop in C.
 bench: shim
 	@bench/run $(GIVEN)

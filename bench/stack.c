@@ -1,7 +1,7 @@
 /* How much stack each call takes at the most of three tables of 256 entries, each within the next: nested arrays, nested structs, and both
- * in turn, for a block the last a struct in any case; views, sets and bit fields go by a path through all of them, and what moves to form 1
- * is the table in form 2. The call runs in a thread whose stack was painted before; what is no longer paint was used, the thread's own
- * start included. Ends with 1 where a call takes more than the header says (LEPUGASO_STACK). */
+ * in turn, for a block the last a struct in any case; views, sets and bit fields go by a path through all of them, what is cleaned is a gap
+ * within all of them, and what moves to form 1 is the table in form 2. The call runs in a thread whose stack was painted before; what is no
+ * longer paint was used, the thread's own start included. Ends with 1 where a call takes more than the header says (LEPUGASO_STACK). */
 #include <pthread.h>
 #include <stdio.h>
 #include <stdlib.h>
@@ -14,18 +14,18 @@ enum { ENTRIES = 256, STACK = 1 << 20, PAINT = 0xa5 };
 static uint8_t file[12 * ENTRIES + 12 * ENTRIES + 10], form_2[12 * ENTRIES + 16 * ENTRIES + 10], moved[sizeof form_2], buf[16];
 static size_t file_len, form_2_len;
 static uint8_t site[sizeof buf];
-static uint64_t mask;
+static uint64_t mask, first;
 static uint32_t words[3] = {1, 2, 3};
 static const uint32_t seven = 7;
 static uint32_t path[ENTRIES - 1];
 static enum {
-    CHECK, SIZE, ALIGN, MIN_SIZE, LAYOUT_OF, UNIFORM, RANK, COMMON, TO_FORM_2, TO_FORM_1, WRITE, READ, VIEW, SET, INSERT, EXTRACT,
-    SITE_FRESH, SITE_MEMBER, SITE_CLEAR, SITE_SET, CALLS
+    CHECK, SIZE, ALIGN, MIN_SIZE, LAYOUT_OF, UNIFORM, RANK, COMMON, TO_FORM_2, TO_FORM_1, WRITE, READ, CLEAN, VIEW, SET, INSERT,
+    EXTRACT, SITE_FRESH, SITE_MEMBER, SITE_CLEAR, SITE_SET, CALLS
 } way;
 static const char *const names[CALLS] = {
-    "check",      "size",     "align", "min_size", "layout_of", "uniform",     "rank",         "common",     "to_form_2",
-    "to_form_1",  "write",    "read",  "view",     "set",       "insert_bits", "extract_bits", "site_fresh", "site_member",
-    "site_clear", "site_set",
+    "check",       "size",       "align",    "min_size", "layout_of", "uniform", "rank",        "common",       "to_form_2",
+    "to_form_1",   "write",      "read",     "clean",    "view",      "set",     "insert_bits", "extract_bits", "site_fresh",
+    "site_member", "site_clear", "site_set",
 };
 enum { ARRAYS, STRUCTS, BOTH, TABLES };
 static lepugaso_answer answer;
@@ -78,6 +78,10 @@ static void *call(void *unused) {
     case TO_FORM_1: answer = lepugaso_to_form_1(form_2, form_2_len, moved, sizeof moved); break;
     case WRITE: answer = lepugaso_write(file, file_len, last, words, 3, buf, sizeof buf); break;
     case READ: answer = lepugaso_read(file, file_len, last, buf, sizeof buf, words, 3); break;
+    case CLEAN:
+        memset(buf + 12, 1, 4);
+        answer = lepugaso_clean(file, file_len, last, buf, sizeof buf, &first);
+        break;
     case VIEW: answer = lepugaso_view(file, file_len, last, path, ENTRIES - 1, buf, sizeof buf, &part, &part_len); break;
     case SET: answer = lepugaso_set(file, file_len, last, path, ENTRIES - 1, &seven, 1, buf, sizeof buf); break;
     case INSERT: answer = lepugaso_insert_bits(file, file_len, last, path, ENTRIES - 1, 1, 3, 12, buf, sizeof buf); break;
@@ -108,9 +112,10 @@ static size_t used(int table) {
     if (pthread_create(&thread, &attributes, call, NULL) || pthread_join(thread, NULL)) exit(2);
     while (clean < STACK && stack[clean] == PAINT) clean++;
     free(stack);
-    /* What a path leads to lies at 8; the field is what the set before put there, 7, and a bit inserted. */
+    /* What a path leads to lies at 8; the field is what the set before put there, 7, and a bit inserted. The gap is the vec3's. */
     int at_path = (way >= VIEW && way <= EXTRACT) || way == SITE_SET;
     if (answer.refusal || (at_path && answer.value != (way == EXTRACT ? 15 : 8))) exit(1);
+    if (way == CLEAN && (answer.value != 4 || first != 12)) exit(1);
     return STACK - clean;
 }
 

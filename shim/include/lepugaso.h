@@ -2,9 +2,9 @@
  *
  * A layout file describes types as numbered entries; every call takes one, as bytes, and asks something of it, but for the four on bit
  * fields of a number. Nothing is kept between calls, nothing is allocated, and any bytes and any numbers may be passed: what cannot be
- * answered is refused with a number. Threads may call at the same time. No call takes more than LEPUGASO_STACK bytes of stack: 130 KiB to
- * write or read types that nest 256 deep, 64 KiB to view, set (also on site) or use bit fields along such a path, 36 KiB to ask anything
- * else.
+ * answered is refused with a number. Threads may call at the same time. No call takes more than LEPUGASO_STACK bytes of stack: 132 KiB to
+ * write, read or clean types that nest 256 deep, 64 KiB to view, set (also on site) or use bit fields along such a path, 36 KiB to ask
+ * anything else.
  *
  * For x86-64 Linux. Link liblepugaso.a, which needs nothing but memcpy, memmove and memset, or liblepugaso.so.
  *
@@ -249,6 +249,16 @@ lepugaso_answer lepugaso_site_set(const uint8_t *file, size_t file_len, uint32_t
 /* Drops the bit of `member`, which shows the factory's bytes again; no byte moves. The value is 0. Refuses 1 to 7, then 8, 9, 10, 21, 11 as
  * asking for a member does, and leaves `*mask` as it was. */
 lepugaso_answer lepugaso_site_clear(const uint8_t *file, size_t file_len, uint32_t entry, uint32_t member, uint64_t *mask);
+
+/* Makes 0 every byte of entry `entry` at the front of `buf` that holds no scalar: after a vec3<f32> in an array, after a matrix's column of
+ * three, before a member, at the end of a struct, what a given size leaves over. The value is how many bytes changed; those that were 0 do
+ * not count. `*first` is the offset of the first that did. If none did, it is how many bytes the entry has in `buf`: its size, or of an
+ * open type up to where the next element would begin after the last that `buf` has whole. Later bytes of `buf` stay, and all words read as
+ * before: cleaned, two entries of the same words have the same bytes, and cleaning again changes 0.
+ * Refuses 1 to 7, then 8, 17 (the buffer is above 4,294,967,295 bytes), 9 (the type has no layout), 10 (it holds a bool), 15 (the buffer is
+ * below the size, or has no whole element), and leaves `buf` and `*first` as they were.
+ * A struct {u32, vec3<f32>, f32} has 12 such bytes, from 4 on: if none is 0, the value is 12 and `*first` 4; again, they are 0 and 32. */
+lepugaso_answer lepugaso_clean(const uint8_t *file, size_t file_len, uint32_t entry, uint8_t *buf, size_t buf_len, uint64_t *first);
 
 #ifdef __cplusplus
 }

@@ -630,3 +630,36 @@ pub unsafe extern "C" fn lepugaso_site_clear(
         _ => BAD_POINTER,
     }
 }
+
+/// Zero into every byte of an entry's type at the front of `buf` that no scalar covers, and the offset of the first that changed into
+/// `first`.
+///
+/// # Safety
+/// As `lepugaso_check`.
+#[no_mangle]
+pub unsafe extern "C" fn lepugaso_clean(
+    file: *const u8,
+    file_len: usize,
+    entry: u32,
+    buf: *mut u8,
+    buf_len: usize,
+    first: *mut u64,
+) -> Crossing {
+    match (Lent::new(file, file_len), Lent::new(buf, buf_len), Lent::new(first, 1)) {
+        // SAFETY: the caller lends all three, `buf` and `first` to be written, and their pointers have passed the tests. No byte of these
+        // two is another's.
+        (Some(file), Some(buf), Some(first))
+            if buf.is_apart_from(&file) && buf.is_apart_from(&first) && first.is_apart_from(&file) =>
+        unsafe {
+            lepugaso_surface_clean(
+                file.start(),
+                file.count(),
+                entry,
+                buf.start(),
+                buf.count(),
+                first.start(),
+            )
+        },
+        _ => BAD_POINTER,
+    }
+}

@@ -127,4 +127,12 @@ extern "C" {
         site_len: usize,
         mask: *mut u64,
     ) -> Crossing;
+    pub fn lepugaso_surface_clean(
+        file: *const u8,
+        file_len: usize,
+        entry: u32,
+        buf: *mut u8,
+        buf_len: usize,
+        first: *mut u64,
+    ) -> Crossing;
 }

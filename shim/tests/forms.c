@@ -40,7 +40,7 @@ static uint32_t *words;
 static lepugaso_layout *out;
 static const uint8_t **part;
 static size_t *part_len;
-static uint64_t *mask;
+static uint64_t *mask, *first;
 
 /* What it holds. */
 struct held {
@@ -49,7 +49,7 @@ struct held {
     lepugaso_layout out;
     const uint8_t *part;
     size_t part_len;
-    uint64_t mask;
+    uint64_t mask, first;
 };
 static struct held old;
 
@@ -60,10 +60,12 @@ static void prepare(void) {
     part = (void *)fresh(sizeof *part);
     part_len = (void *)fresh(sizeof *part_len);
     mask = (void *)fresh(sizeof *mask);
+    first = (void *)fresh(sizeof *first);
     for (size_t k = 0; k < ROOM; k++) old.buf[k] = (uint8_t)(37 * k + 11);
     memset(old.words, 0xA5, sizeof old.words);
     old.out = (lepugaso_layout){1, 2, 3, 4};
     old.part_len = 5;
+    old.first = 6;
 }
 
 static void renew(void) {
@@ -73,10 +75,11 @@ static void renew(void) {
     *part = old.part;
     *part_len = old.part_len;
     *mask = old.mask;
+    *first = old.first;
 }
 
 static struct held hold_all(void) {
-    struct held now = {.out = *out, .part = *part, .part_len = *part_len, .mask = *mask};
+    struct held now = {.out = *out, .part = *part, .part_len = *part_len, .mask = *mask, .first = *first};
     memcpy(now.buf, buf, sizeof now.buf);
     memcpy(now.words, words, sizeof now.words);
     return now;
@@ -162,6 +165,7 @@ static void same_answers(struct file one, struct file other) {
                 ASK(lepugaso_write, entry, values[1], counts[k], bytes, length);
                 ASK(lepugaso_read, entry, bytes, length, words + MOST - counts[k], counts[k]);
             }
+            ASK(lepugaso_clean, entry, bytes, length, first);
         }
         for (size_t length = 24; length <= 224; length += 100) {
             uint8_t *bytes = buf + ROOM - length;
@@ -208,6 +212,12 @@ static void same_table(void) {
     EXPECT(lepugaso_site_clear(file.bytes, file.length, 8, 1, mask), 0, 0, 0);
     HOLDS(*mask == 0);
     EXPECT(lepugaso_site_fresh(file.bytes, file.length, 10, mask), LEPUGASO_REFUSED_NO_SITE, 0, 0);
+
+    /* 26 of the 96 bytes are a scalar's, and the first that is none's lies at 4. */
+    EXPECT(lepugaso_clean(file.bytes, file.length, 8, bytes, 96, first), 0, 0, 70);
+    HOLDS(*first == 4 && bytes[3] == 4 && bytes[4] == 0 && memcmp(bytes + 31, "\0\41\42\43\44\45\46\47\50\51\52\53\54\0", 14) == 0);
+    EXPECT(lepugaso_clean(file.bytes, file.length, 8, bytes, 96, first), 0, 0, 0);
+    HOLDS(*first == 96);
 }
 
 typedef lepugaso_answer move(const uint8_t *, size_t, uint8_t *, size_t);

@@ -133,6 +133,30 @@ static void many_words(const uint8_t *file, size_t length) {
     HOLDS(memcmp(read, words, sizeof words) == 0);
 }
 
+/* The gaps of the last type, full of rubbish; then the last byte of the last of them alone. */
+static void many_gaps(const uint8_t *file, size_t length) {
+    enum { GAPS = 4 * (4 * ROWS - WORDS), LAST_GAP = SIZE - 16 - 4 };
+    uint8_t *buf = fresh(SIZE), *rubbish = fresh(SIZE);
+    uint64_t *first = (void *)fresh(sizeof *first);
+    size_t count = 0;
+    memcpy(rubbish, rows, SIZE);
+    for (size_t k = 0; k < 4 * ROWS; k++) {
+        if (rows[k] == 0) memset(rubbish + 4 * k, 0xA5, 4), count += 4;
+    }
+    HOLDS(count == GAPS);
+    memcpy(buf, rubbish, SIZE);
+    *first = 5;
+    EXPECT(lepugaso_clean(file, length, LAST, buf, SIZE - 1, first), LEPUGASO_REFUSED_SHORT_BUFFER, 0, 0);
+    HOLDS(*first == 5 && memcmp(buf, rubbish, SIZE) == 0);
+    EXPECT(lepugaso_clean(file, length, LAST, buf, SIZE, first), 0, 0, GAPS);
+    HOLDS(*first == 12 && memcmp(buf, rows, SIZE) == 0);
+    EXPECT(lepugaso_clean(file, length, LAST, buf, SIZE, first), 0, 0, 0);
+    HOLDS(*first == SIZE && memcmp(buf, rows, SIZE) == 0);
+    buf[LAST_GAP + 3] = 1;
+    EXPECT(lepugaso_clean(file, length, LAST, buf, SIZE, first), 0, 0, 1);
+    HOLDS(*first == LAST_GAP + 3 && memcmp(buf, rows, SIZE) == 0);
+}
+
 static void many_steps(const uint8_t *file, size_t length) {
     const void *steps = lent(path, STEPS * sizeof *path), *too_many = lent(path, sizeof path);
     const void *word = lent((const uint32_t[]){0x89ABCDEF}, sizeof(uint32_t));
@@ -180,11 +204,12 @@ static void deep_member(const uint8_t *file, size_t length) {
 static void no_entries(const uint8_t *file, size_t length) {
     lepugaso_layout *out = (void *)fresh(sizeof *out);
     uint32_t *word = (void *)fresh(sizeof *word);
-    uint64_t *mask = (void *)fresh(sizeof *mask);
+    uint64_t *mask = (void *)fresh(sizeof *mask), *first = (void *)fresh(sizeof *first);
     uint8_t *buf = fresh(4), *factory = fresh(4);
     *out = (lepugaso_layout){1, 2, 3, 4};
     *word = 5;
     *mask = 6;
+    *first = 7;
     memcpy(buf, "abcd", 4);
     for (uint32_t bit = 8; bit < 32; bit++) {
         for (uint32_t low = 0; low <= LAST; low += LAST) {
@@ -212,12 +237,13 @@ static void no_entries(const uint8_t *file, size_t length) {
             NO_ENTRY(lepugaso_site_member(file, length, entry, 0, *mask, factory, 4, buf, 4, &part, &part_len));
             NO_ENTRY(lepugaso_site_set(file, length, entry, 0, NULL, 0, word, 1, factory, 4, buf, 4, mask));
             NO_ENTRY(lepugaso_site_clear(file, length, entry, 0, mask));
+            NO_ENTRY(lepugaso_clean(file, length, entry, buf, 4, first));
 #undef NO_ENTRY
             HOLDS(part == factory && part_len == 0);
         }
     }
     HOLDS(out->size == 1 && out->align == 2 && out->min_size == 3 && out->stride == 4);
-    HOLDS(*word == 5 && *mask == 6 && memcmp(buf, "abcd", 4) == 0);
+    HOLDS(*word == 5 && *mask == 6 && *first == 7 && memcmp(buf, "abcd", 4) == 0);
 }
 
 /* Members that are none, and masks of members that are none, but for their low bits. */
@@ -260,6 +286,20 @@ static const uint8_t blocks[] = {
     ARRAY(2, 1073741820u), /* 7 */
     STRUCT(5, 2),          /* 8: 7, u32: at 0, 4,294,967,280; 4,294,967,284 bytes */
     MEMBER(3), MEMBER(2), MEMBER(2), MEMBER(5), MEMBER(2), MEMBER(7), MEMBER(2),
+    TRAILER(9, 7),
+};
+
+static const uint8_t gapped[] = {
+    ABSTRACT_INT,          /* 0: no layout */
+    BOOL,                  /* 1 */
+    U32,                   /* 2 */
+    F16,                   /* 3 */
+    STRUCT(0, 2),          /* 4: f16, u32: at 0, 4; 8 bytes */
+    ARRAY(2, 1073741819u), /* 5 */
+    STRUCT(2, 3),          /* 6: f16, 5, f16: at 0, 4, 4,294,967,280; 4,294,967,284 bytes */
+    RUNTIME_ARRAY(2),      /* 7 */
+    STRUCT(5, 2),          /* 8: f16, 7: at 0, 4 */
+    MEMBER(3), MEMBER(2), MEMBER(3), MEMBER(5), MEMBER(3), MEMBER(3), MEMBER(7),
     TRAILER(9, 7),
 };
 
@@ -410,6 +450,48 @@ static void largest_block(void) {
     HOLDS(mask == 2 && memcmp(site + at, "\7\0\0\0", 4) == 0 && memcmp(factory + at, "abcd", 4) == 0);
 }
 
+/* Buffers of up to 4,294,967,295 bytes, and longer ones: 17, after 8, before everything else. Most of these bytes cannot be touched: what
+ * has no gap is not looked at. */
+static void far_gaps(void) {
+    const size_t limit = UINT32_MAX, size = 4294967284u, whole = 4294967292u;
+    const uint8_t *file = lent(gapped, sizeof gapped);
+    uint64_t *first = (void *)fresh(sizeof *first);
+    uint8_t *buf = far(limit + 5);
+    for (uint32_t bit = 3; bit < 32; bit++) {
+        buf[3] = 1;
+        EXPECT(lepugaso_clean(file, sizeof gapped, 4, buf, (size_t)1 << bit, first), 0, 0, 1);
+        HOLDS(*first == 3 && buf[3] == 0);
+    }
+    memset(buf, 1, 8);
+    memset(buf + size - 4, 1, 8);
+    *first = 5;
+    EXPECT(lepugaso_clean(file, sizeof gapped, 6, buf, size - 1, first), LEPUGASO_REFUSED_SHORT_BUFFER, 0, 0);
+    for (size_t length = limit + 1; length <= limit + 5; length += 4) {
+        for (uint32_t entry = 0; entry < 9; entry++) {
+            EXPECT(lepugaso_clean(file, sizeof gapped, entry, buf, length, first), LEPUGASO_REFUSED_LONG_BUFFER, 0, 0);
+        }
+        EXPECT(lepugaso_clean(file, sizeof gapped, 9, buf, length, first), LEPUGASO_REFUSED_ENTRY, 0, 0);
+    }
+    EXPECT(lepugaso_clean(file, sizeof gapped, 0, buf, limit, first), LEPUGASO_REFUSED_ABSENT, 0, 0);
+    EXPECT(lepugaso_clean(file, sizeof gapped, 1, buf, limit, first), LEPUGASO_REFUSED_NOT_STORABLE, 0, 0);
+    HOLDS(*first == 5 && memcmp(buf, "\1\1\1\1\1\1\1\1", 8) == 0 && memcmp(buf + size - 4, buf, 8) == 0);
+
+    EXPECT(lepugaso_clean(file, sizeof gapped, 6, buf, limit, first), 0, 0, 4);
+    HOLDS(*first == 2 && memcmp(buf, "\1\1\0\0\1\1\1\1", 8) == 0 && memcmp(buf + size - 4, buf, 8) == 0);
+    buf[size - 1] = 1;
+    EXPECT(lepugaso_clean(file, sizeof gapped, 6, buf, size, first), 0, 0, 1);
+    HOLDS(*first == size - 1 && buf[size - 1] == 0);
+    EXPECT(lepugaso_clean(file, sizeof gapped, 6, buf, size, first), 0, 0, 0);
+    HOLDS(*first == size);
+    buf[3] = 1;
+    EXPECT(lepugaso_clean(file, sizeof gapped, 7, buf, limit, first), 0, 0, 0);
+    HOLDS(*first == whole && buf[3] == 1);
+    EXPECT(lepugaso_clean(file, sizeof gapped, 8, buf, limit, first), 0, 0, 1);
+    HOLDS(*first == 3 && buf[3] == 0);
+    EXPECT(lepugaso_clean(file, sizeof gapped, 8, buf, limit, first), 0, 0, 0);
+    HOLDS(*first == whole);
+}
+
 /* Lengths of which the low bits alone, up to the 32nd, would give another answer. */
 static void long_lengths(const uint8_t *file, const uint8_t *large) {
     const size_t most = ((size_t)1 << 32) + STEPS;
@@ -495,6 +577,7 @@ static void moves(uint32_t start) {
     moved(lepugaso_to_form_1, sealed(two, length_2), length_2, one, length);
     questions(two, length_2);
     many_words(two, length_2);
+    many_gaps(two, length_2);
     many_steps(two, length_2);
     deep_member(two, length_2);
 }
@@ -534,6 +617,7 @@ int main(void) {
         size_t length = starts[k] + (size_t)LENGTH;
         questions(at, length);
         many_words(at, length);
+        many_gaps(at, length);
         many_steps(at, length);
         deep_member(at, length);
         no_entries(at, length);
@@ -547,6 +631,7 @@ int main(void) {
     large_block();
     long_blocks();
     largest_block();
+    far_gaps();
     long_lengths(file, large);
     return failures != 0;
 }

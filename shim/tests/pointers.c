@@ -37,6 +37,9 @@ static void bad_file(const uint8_t *at, size_t length) {
     REFUSED(lepugaso_site_set(at, length, 0, 0, NULL, 0, list, 1, bytes, sizeof bytes, buf, sizeof buf, &mask));
     REFUSED(lepugaso_site_clear(at, length, 0, 0, &mask));
     HOLDS(mask == 5);
+    uint64_t first = 5;
+    REFUSED(lepugaso_clean(at, length, 0, buf, sizeof buf, &first));
+    HOLDS(first == 5);
     REFUSED(lepugaso_set(at, length, 0, NULL, 0, list, 1, buf, sizeof buf));
     REFUSED(lepugaso_extract_bits(at, length, 0, NULL, 0, bytes, sizeof bytes, 0, 12));
     REFUSED(lepugaso_insert_bits(at, length, 0, NULL, 0, 1, 0, 12, buf, sizeof buf));
@@ -59,7 +62,7 @@ static void files(void) {
     uint8_t buf[] = {6, 7, 8, 9}, bytes[4] = {0};
     const uint8_t *part;
     size_t part_len;
-    uint64_t mask;
+    uint64_t mask, first;
     EXPECT(lepugaso_check(NULL, 0), LEPUGASO_REFUSED_SHORT_FILE, 0, 0);
     EXPECT(lepugaso_size(NULL, 0, 0), LEPUGASO_REFUSED_SHORT_FILE, 0, 0);
     EXPECT(lepugaso_align(NULL, 0, 0), LEPUGASO_REFUSED_SHORT_FILE, 0, 0);
@@ -81,6 +84,7 @@ static void files(void) {
     EXPECT(lepugaso_site_set(NULL, 0, 0, 0, NULL, 0, list, 1, bytes, sizeof bytes, buf, sizeof buf, &mask), LEPUGASO_REFUSED_SHORT_FILE, 0,
            0);
     EXPECT(lepugaso_site_clear(NULL, 0, 0, 0, &mask), LEPUGASO_REFUSED_SHORT_FILE, 0, 0);
+    EXPECT(lepugaso_clean(NULL, 0, 0, buf, sizeof buf, &first), LEPUGASO_REFUSED_SHORT_FILE, 0, 0);
     EXPECT(lepugaso_check(last, 0), LEPUGASO_REFUSED_SHORT_FILE, 0, 0);
 }
 
@@ -177,7 +181,7 @@ static void bad_words(uint32_t *at, size_t count) {
 /* A buffer that cannot be. */
 static void bad_buffer(uint8_t *at, size_t length) {
     uint32_t word = 5;
-    uint64_t mask = 0;
+    uint64_t mask = 0, first = 5;
     uint8_t bytes[] = {6, 7, 8, 9};
     const uint8_t *part = NULL;
     size_t part_len = 5;
@@ -206,6 +210,9 @@ static void bad_buffer(uint8_t *at, size_t length) {
     REFUSED(lepugaso_extract_bits(NULL, 0, 9, NULL, 0, at, length, 0, 12));
     REFUSED(lepugaso_insert_bits(file, sizeof file, 0, NULL, 0, 1, 0, 12, at, length));
     REFUSED(lepugaso_insert_bits(NULL, 0, 9, NULL, 0, 1, 0, 12, at, length));
+    REFUSED(lepugaso_clean(file, sizeof file, 0, at, length, &first));
+    REFUSED(lepugaso_clean(NULL, 0, 9, at, length, &first));
+    HOLDS(first == 5);
 }
 
 /* The two calls that hand back a part, of a file like `form_1` and a buffer of its entry 1: all 4 bytes of it. */
@@ -291,6 +298,34 @@ static void masks(void) {
     /* A buffer is of bytes, and may begin anywhere. */
     EXPECT(lepugaso_site_set(form_1, sizeof form_1, 1, 0, NULL, 0, &word, 1, bytes + 1, 4, buf + 1, 4, two), 0, 0, 0);
     HOLDS(two[0] == 1 && two[1] == 0 && buf[0] == 6 && buf[1] == 1 && buf[4] == 0);
+}
+
+/* A place for the first changed byte that cannot be. */
+static void bad_first(uint64_t *at) {
+    uint8_t buf[] = {6, 7, 8, 9};
+    REFUSED(lepugaso_clean(form_1, sizeof form_1, 1, buf, sizeof buf, at));
+    /* Before any number of documents 01 and 02. */
+    REFUSED(lepugaso_clean(NULL, 0, 9, NULL, 0, at));
+    HOLDS(buf[0] == 6 && buf[1] == 7 && buf[2] == 8 && buf[3] == 9);
+}
+
+static void firsts(void) {
+    uint64_t two[] = {5, 5};
+    bad_first(NULL);
+    for (size_t off = 1; off < sizeof two[0]; off++) bad_first((uint64_t *)(void *)((uint8_t *)two + off));
+    bad_first((uint64_t *)(UINTPTR_MAX - 7));
+
+    /* What is empty shares no byte with what it lies in, and is not looked at. */
+    uint8_t *in = (uint8_t *)two + 3, buf[] = {6, 7, 8, 9, 10};
+    EXPECT(lepugaso_clean(in, 0, 1, buf, sizeof buf, two), LEPUGASO_REFUSED_SHORT_FILE, 0, 0);
+    EXPECT(lepugaso_clean(buf + 1, 0, 1, buf, sizeof buf, two), LEPUGASO_REFUSED_SHORT_FILE, 0, 0);
+    EXPECT(lepugaso_clean(form_1, sizeof form_1, 1, in, 0, two), LEPUGASO_REFUSED_SHORT_BUFFER, 0, 0);
+    EXPECT(lepugaso_clean(form_1, sizeof form_1, 1, (uint8_t *)UINTPTR_MAX, 0, two), LEPUGASO_REFUSED_SHORT_BUFFER, 0, 0);
+    EXPECT(lepugaso_clean(form_1, sizeof form_1, 1, NULL, 0, two), LEPUGASO_REFUSED_SHORT_BUFFER, 0, 0);
+    HOLDS(two[0] == 5 && two[1] == 5);
+    /* A buffer is of bytes, and may begin anywhere. */
+    EXPECT(lepugaso_clean(form_1, sizeof form_1, 1, buf + 1, 4, two), 0, 0, 0);
+    HOLDS(two[0] == 4 && two[1] == 5 && buf[0] == 6 && buf[1] == 7 && buf[4] == 10);
 }
 
 static void words_and_buffers(void) {
@@ -532,6 +567,35 @@ static void shown_overlaps(void) {
     }
 }
 
+/* A cleaning of {f16, u32}, whose gap is its bytes 2 and 3, with the file, the buffer and the place for the first changed byte at these
+ * places: refused exactly where two of them share a byte. */
+static void clean_at(size_t file_at, size_t buf, size_t first) {
+    static const uint8_t gapped[] = {F16, U32, STRUCT(0, 2), MEMBER(0), MEMBER(1), TRAILER(3, 2)};
+    enum { LENT = 8 + SPARE };
+    int shared = shares(buf, LENT, file_at, sizeof gapped) || shares(first, 8, file_at, sizeof gapped) || shares(buf, LENT, first, 8);
+    union memory m = filled_memory(), expected;
+    memcpy(m.bytes + file_at, gapped, sizeof gapped);
+    expected = m;
+    if (!shared) {
+        memset(expected.bytes + buf + 2, 0, 2);
+        expected.masks[first / 8] = 2;
+    }
+    EXPECT(lepugaso_clean(m.bytes + file_at, sizeof gapped, 2, m.bytes + buf, LENT, &m.masks[first / 8]), shared ? LEPUGASO_BAD_POINTER : 0,
+           0, shared ? 0 : 2);
+    HOLDS(memcmp(&m, &expected, sizeof m) == 0);
+}
+
+static void clean_overlaps(void) {
+    for (size_t buf = 0; buf + 8 + SPARE < MEMORY; buf++) clean_at(FILE_AT, buf, MASK_AT);
+    /* So that it touches what is before it and behind it too. */
+    for (size_t first = 0; first < MEMORY; first += 8) {
+        for (size_t off = 0; off < 8; off++) {
+            clean_at(FILE_AT + off, SITE_AT, first);
+            clean_at(FILE_AT, SITE_AT + off, first);
+        }
+    }
+}
+
 /* What is only read may overlap: words, and a buffer, that lie within the file. */
 static void read_only_overlaps(void) {
     union memory m = filled_memory();
@@ -651,11 +715,13 @@ int main(void) {
     parts(viewed);
     parts(shown);
     masks();
+    firsts();
     writable_overlaps();
     path_overlaps();
     wide_overlaps();
     block_overlaps();
     shown_overlaps();
+    clean_overlaps();
     read_only_overlaps();
     moves();
     moved_overlaps();
