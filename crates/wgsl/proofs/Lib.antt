@@ -62,9 +62,17 @@ pub mod FormCase
 pub mod SiteMask
 pub mod SiteWitness
 pub mod CleanWitness
+pub mod OrderWitness
 pub mod Site
 pub mod SiteCase
 pub mod CleanCase
+pub mod OrderCase
+pub mod OrderList
+pub mod OrderMember
+pub mod OrderAligned
+pub mod OrderPlanned
+pub mod OrderChosen
+pub mod OrderCall
 pub mod CleanByte
 pub mod CleanPath
 pub mod CleanCount

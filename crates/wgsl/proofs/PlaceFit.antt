@@ -25,6 +25,7 @@ use Rattle.wgsl.specs.Uniform.{mayLive, uniformCall}
 use Rattle.wgsl.specs.Form.{toForm2, toForm1, formIs, putOut, moveOnCall, moveBackCall}
 use Rattle.wgsl.specs.Site.{blockEntry, blockIn, memberOf, freshCall, memberCall, copiedIn, siteSetCall, clearCall}
 use Rattle.wgsl.specs.Clean.{cleanType, cleanCall}
+use Rattle.wgsl.specs.Order.{membersIn, structMembers, newEnd, planMembers, planCall, orderCall}
 use Rattle.wgsl.specs.Claim.{PlaceFits, PlacesFit}
 use Rattle.wgsl.proofs.Said.{good-not-refused, then-cases, refuse-cases, orRefuse-good, orRefuse-refused}
 use Rattle.wgsl.proofs.Accepted.{refused-place}
@@ -228,6 +229,20 @@ unfolding cleanCall cleanType
 fits-clean f e b =
     fits-then (entryFor true f e b) _ (fits-for true f e b) (λ t q. fits-refuse _ _ _ _ (omega arith) (λ ok. fits-good _))
 
+-- member orders
+fits-members : (f : List ℕ) (e : ℕ) → PlaceFits (structMembers f e)
+unfolding structMembers
+fits-members f e = fits-then (entryOf f e) _ (fits-entry f e) (λ t q. fits-or _ _ _ (omega arith))
+
+fits-plan : (f : List ℕ) (e : ℕ) (lent : List ℕ) → PlaceFits (planCall f e lent)
+unfolding planCall planMembers
+fits-plan f e lent =
+    fits-then (structMembers f e) _ (fits-members f e) (λ ms q. fits-refuse _ _ _ _ (omega arith) (λ ok. fits-good _))
+
+fits-order : (f : List ℕ) (e : ℕ) (order : List ℕ) → PlaceFits (orderCall f e order)
+unfolding orderCall
+fits-order f e order = fits-then (structMembers f e) _ (fits-members f e) (λ ms q. fits-or _ _ _ (omega arith))
+
 -- a question about one entry
 fits-asked : {A : Type 0} (f : List ℕ) (e : ℕ) (answer : Ty → Said A) → ((t : Ty) → PlaceFits (answer t)) → PlaceFits (_>>=_ (entryOf f e) answer)
 fits-asked f e answer h = fits-then (entryOf f e) answer (fits-entry f e) (λ t q. h t)
@@ -264,4 +279,6 @@ places-fit f =
       site-member = fits-member f;
       site-set = fits-site-set f;
       clean = fits-clean f;
+      plan-order = fits-plan f;
+      check-order = fits-order f;
     }

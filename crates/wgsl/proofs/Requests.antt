@@ -1,22 +1,22 @@
 -- What is claimed of the definitions of document 02, request by request. Each proof is one citation: read the statements.
 --
 -- Here: E1, strides; E2, bit fields; E4, vectors of three bools; E5, the uniform profile; E6, scalars of 64 bits; E7, the two forms of a
--- file; E8, factory sheet and site block; E9, the gaps cleaned. That the places of refusals fit and what the calls have in common with those of 01 stands in Claims.
+-- file; E8, factory sheet and site block; E9, the gaps cleaned; E10, a better member order. That the places of refusals fit and what the calls have in common with those of 01 stands in Claims.
 -- Assumes nothing.
 use Prim.Native.Nat.{ℕ, _+_, _-_, _*_, _%_, _^_, _<_, _≤_, max, min}
 use mathlib.Core.Bool.{true, false, cond}
-use mathlib.Core.List.{List, _∷_, [], map}
+use mathlib.Core.List.{List, _∷_, [], _++_, map}
 use mathlib.Core.Option.{Option, some}
 use mathlib.Core.Path.{_≡_}
 use lib.Dec.{T}
 use lib.IntN.{pos, _-ℤ_}
-use lib.ListN.{length, getD, getElem?, take}
+use lib.ListN.{length, getD, getElem?, take, drop}
 use Rattle.wgsl.specs.Number.{load}
 use Rattle.wgsl.specs.Round.{up, limit}
-use Rattle.wgsl.specs.Types.{Scalar, Ty, array, runtime, everywhere}
+use Rattle.wgsl.specs.Types.{Scalar, Ty, array, runtime, struct, Members, everywhere}
 use Rattle.wgsl.specs.Size.{present, widthOf, sizeOf, alignOf, ownStrideOf, isStorable}
 use Rattle.wgsl.specs.Said.{good, refused}
-use Rattle.wgsl.specs.Rule.{isWellFormed, typesOf}
+use Rattle.wgsl.specs.Rule.{isWellFormed, countOf, typesOf}
 use Rattle.wgsl.specs.Place.{shapeOf, spanOf, one, elementsIn, Place, wordsFor, wordPlaces, places, wordCount, wordsRead}
 use Rattle.wgsl.specs.Call.{Done, entryOf, entryFor, readCall, writeCall, setCall}
 use Rattle.wgsl.specs.Path.{Target, walk, stepOf}
@@ -40,6 +40,9 @@ use Rattle.wgsl.specs.WideCase.{wideCasesPass}
 use Rattle.wgsl.specs.FormCase.{formCasesPass}
 use Rattle.wgsl.specs.SiteCase.{siteCasesPass}
 use Rattle.wgsl.specs.CleanCase.{cleanCasesPass}
+use Rattle.wgsl.specs.Order.{plannedOrder, planCall, endOf, orderCall}
+use Rattle.wgsl.specs.OrderClaim.{IsPlanned, CanPlan, Accepted, CanOrder}
+use Rattle.wgsl.specs.OrderCase.{orderCasesPass}
 use Rattle.wgsl.proofs.Stride as stride
 use Rattle.wgsl.proofs.StrideCase.{stride-cases-pass}
 use Rattle.wgsl.proofs.BitField as field
@@ -61,6 +64,9 @@ use Rattle.wgsl.proofs.CleanPath as clean-path
 use Rattle.wgsl.proofs.CleanCall as clean-call
 use Rattle.wgsl.proofs.CleanSame as clean-same
 use Rattle.wgsl.proofs.CleanCase.{clean-cases-pass}
+use Rattle.wgsl.proofs.OrderPlanned as planned
+use Rattle.wgsl.proofs.OrderCall as order-call
+use Rattle.wgsl.proofs.OrderCase.{order-cases-pass}
 
 -- ---- E1: strides
 
@@ -362,3 +368,44 @@ clean-is-write = clean-same.clean-is-write
 -- Each kind of gap, and the edges of the refusals.
 pub clean-cases : T cleanCasesPass
 clean-cases = clean-cases-pass
+
+-- ---- E10: a better member order
+
+-- "the order by falling member alignment, ties as they stood, a runtime array kept last": the planner's list has every member position and
+-- nothing else, and whatever stands in it goes before all that stands after it;
+pub planned-order : (k : ℕ) (ms : Members) → everywhere isWellFormed (struct k ms) ≡ true → IsPlanned ms (plannedOrder ms)
+planned-order = planned.planned-order
+
+-- no other list is so;
+pub planned-one : {ms : Members} {a b : List ℕ} → IsPlanned ms a → IsPlanned ms b → a ≡ b
+planned-one = planned.planned-one
+
+-- and it has as many positions as there are members.
+pub planned-length : (k : ℕ) (ms : Members) → everywhere isWellFormed (struct k ms) ≡ true → length (plannedOrder ms) ≡ countOf ms
+planned-length = planned.planned-length
+
+-- "9 where the entry isn't a struct; then, from the planner, 14 where the lent list is shorter than the members": the planner is good exactly
+-- if none of these is due,
+pub plan-good-if : (f : List ℕ) (e : ℕ) (lent : List ℕ) → GoodIf (planCall f e lent) (CanPlan f e lent)
+plan-good-if = order-call.plan-good-if
+
+-- and then it answers how many members there are and puts that order into the list; later places stay.
+pub plan-leaves : {f : List ℕ} {e : ℕ} {lent : List ℕ} (c : CanPlan f e lent) → planCall f e lent ≡ good (record { value = countOf (c .members); contents = plannedOrder (c .members) ++ drop (countOf (c .members)) lent })
+plan-leaves = order-call.plan-leaves
+
+-- "accepted exactly if": "every member position appears once", "a runtime array is still last, no number passes 01's limit", "and the end is
+-- smaller"; "from the checker 23 for any order not accepted, wrong lengths included".
+pub order-good-if : (f : List ℕ) (e : ℕ) (order : List ℕ) → GoodIf (orderCall f e order) (CanOrder f e order)
+order-good-if = order-call.order-good-if
+
+-- "An accepted order answers the new end.": the end of the struct with its members in that order, laid out as any struct is.
+pub order-answers : {f : List ℕ} {e : ℕ} {order : List ℕ} (c : CanOrder f e order) → orderCall f e order ≡ good (endOf e (c .new))
+order-answers = order-call.order-answers
+
+-- An order makes one list of members.
+pub order-new-one : {k : ℕ} {ms : Members} {order : List ℕ} {new other : Members} → Accepted k ms order new → Accepted k ms order other → new ≡ other
+order-new-one = order-call.order-new-one
+
+-- An order with no gain and orders with one, each way not to be accepted, and the edges of the refusals.
+pub order-cases : T orderCasesPass
+order-cases = order-cases-pass

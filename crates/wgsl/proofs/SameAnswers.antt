@@ -18,6 +18,7 @@ use Rattle.wgsl.specs.BitFieldCall.{integerAt, extractCall, insertCall}
 use Rattle.wgsl.specs.Uniform.{memberTypes, refersTo, uniformCall}
 use Rattle.wgsl.specs.Site.{blockEntry, blockIn, freshCall, memberCall, siteSetCall, clearCall}
 use Rattle.wgsl.specs.Clean.{cleanCall}
+use Rattle.wgsl.specs.Order.{structMembers, planCall, orderCall}
 use Rattle.wgsl.specs.Claim.{Reaches, SameReached, SameAnswers}
 use Rattle.wgsl.proofs.Said.{then-refused}
 use Rattle.wgsl.proofs.Accepted.{accepted}
@@ -104,7 +105,7 @@ module _ {f g : List ℕ} (same : SameEntries f g) (types : typesOf f ≡ typesO
   member-same e k mask factory site = rw (block-same e mask (max (length factory) (length site))) refl
 
   pub same-answers : SameAnswers f g
-  unfolding checkOf sizeCall alignCall minSizeCall layoutCall readCall writeCall viewCall setCall extractCall insertCall rankCall commonCall freshCall clearCall siteSetCall cleanCall
+  unfolding checkOf sizeCall alignCall minSizeCall layoutCall readCall writeCall viewCall setCall extractCall insertCall rankCall commonCall freshCall clearCall siteSetCall cleanCall structMembers planCall orderCall
   same-answers = record {
     check = rw types refl;
     size = λ e. rw (entry-same e) refl;
@@ -126,4 +127,6 @@ module _ {f g : List ℕ} (same : SameEntries f g) (types : typesOf f ≡ typesO
     site-member = member-same;
     site-set = λ e k steps ws mask factory site. rw (member-same e k mask factory site) refl;
     clean = λ e b. rw (for-same true e b) refl;
+    plan-order = λ e lent. rw (entry-same e) refl;
+    check-order = λ e order. rw (entry-same e) refl;
   }

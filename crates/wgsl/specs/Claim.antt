@@ -26,6 +26,7 @@ use Rattle.wgsl.specs.Listing.{listed}
 use Rattle.wgsl.specs.Form.{nameAt, toForm2, toForm1, moveOnCall, moveBackCall}
 use Rattle.wgsl.specs.Site.{freshCall, memberCall, siteSetCall, clearCall}
 use Rattle.wgsl.specs.Clean.{cleanCall}
+use Rattle.wgsl.specs.Order.{planCall, orderCall}
 use Rattle.wgsl.specs.Uniform.{isUniform, refersTo, isBroken, uniformCall}
 
 -- ---- bytes
@@ -308,6 +309,8 @@ pub record PlacesFit (f : List ℕ) : Type 0 where
   pub site-member : (e k mask : ℕ) (factory site : List ℕ) → PlaceFits (memberCall f e k mask factory site)
   pub site-set : (e k : ℕ) (steps ws : List ℕ) (mask : ℕ) (factory site : List ℕ) → PlaceFits (siteSetCall f e k steps ws mask factory site)
   pub clean : (e : ℕ) (b : List ℕ) → PlaceFits (cleanCall f e b)
+  pub plan-order : (e : ℕ) (lent : List ℕ) → PlaceFits (planCall f e lent)
+  pub check-order : (e : ℕ) (order : List ℕ) → PlaceFits (orderCall f e order)
 
 -- ---- two files with the same answers
 
@@ -334,6 +337,8 @@ pub record SameAnswers (f g : List ℕ) : Type 0 where
   pub site-member : (e k mask : ℕ) (factory site : List ℕ) → memberCall f e k mask factory site ≡ memberCall g e k mask factory site
   pub site-set : (e k : ℕ) (steps ws : List ℕ) (mask : ℕ) (factory site : List ℕ) → siteSetCall f e k steps ws mask factory site ≡ siteSetCall g e k steps ws mask factory site
   pub clean : (e : ℕ) (b : List ℕ) → cleanCall f e b ≡ cleanCall g e b
+  pub plan-order : (e : ℕ) (lent : List ℕ) → planCall f e lent ≡ planCall g e lent
+  pub check-order : (e : ℕ) (order : List ℕ) → orderCall f e order ≡ orderCall g e order
 
 -- ---- the two forms
 

@@ -18,10 +18,12 @@ pub mod Uniform
 pub mod Form
 pub mod Site
 pub mod Clean
+pub mod Order
 pub mod Claim
 pub mod SiteClaim
 pub mod Demand
 pub mod CleanClaim
+pub mod OrderClaim
 pub mod Case
 pub mod StrideCase
 pub mod BoolCase
@@ -30,4 +32,5 @@ pub mod WideCase
 pub mod FormCase
 pub mod SiteCase
 pub mod CleanCase
+pub mod OrderCase
 pub mod Shapes
