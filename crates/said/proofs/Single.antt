@@ -16,7 +16,7 @@ use Rattle.wgsl.specs.Clean.{CleanDone, cleanAfter}
 use Rattle.wgsl.specs.Site.{SiteDone, siteAnswer, siteAfter, maskSet, zeroOf, maskAfter}
 use Rattle.said.specs.Refusal.{numberOf, placeOf}
 use Rattle.said.specs.declared.refusal.Refusal.{Refusal}
-use Rattle.said.specs.declared.refusal.Refusal.the-variants.{Short, Form, Counts, Length, Rule, Given, Large, Missing, Absent, Unstorable, NoMember, PastEnd, NoIndex, Count, Buffer, Word, Long, NoRank, NotUniform, Named, NoSite}
+use Rattle.said.specs.declared.refusal.Refusal.the-variants.{Short, Form, Counts, Length, Rule, Given, Large, Missing, Absent, Unstorable, NoMember, PastEnd, NoIndex, Count, Buffer, Word, Long, NoRank, NotUniform, Named, NoSite, NoOrder}
 use Rattle.said.specs.Answer.{saidNumber, saidMoved, gapsOf, saidCleaned, maybeOf, saidAnswer}
 use Rattle.said.specs.declared.answer.Number.{Number}
 use Rattle.said.specs.declared.answer.Moved.{Moved}
@@ -39,9 +39,9 @@ unfoldable pub refusalFrom : ℕ → ℕ → Refusal
 refusalFrom place number =
     getD
     (Short ∷ Short ∷ Form ∷ Counts ∷ Length ∷ Rule place ∷ Given place ∷ Large place ∷ Missing ∷ Absent ∷ Unstorable
-    ∷ NoMember place ∷ PastEnd place ∷ NoIndex place ∷ Count ∷ Buffer ∷ Word place ∷ Long ∷ NoRank ∷ NotUniform place ∷ Named ∷ [])
+    ∷ NoMember place ∷ PastEnd place ∷ NoIndex place ∷ Count ∷ Buffer ∷ Word place ∷ Long ∷ NoRank ∷ NotUniform place ∷ Named ∷ NoSite ∷ NoSite ∷ [])
     number
-    NoSite
+    NoOrder
 
 pub refusal-told : (r : Refusal) → refusalFrom (placeOf r) (numberOf r) ≡ r
 unfolding refusalFrom
@@ -66,6 +66,7 @@ refusal-told NoRank = refl
 refusal-told (NotUniform entry) = refl
 refusal-told Named = refl
 refusal-told NoSite = refl
+refusal-told NoOrder = refl
 
 -- ---- a number or a refusal
 
@@ -77,14 +78,14 @@ number-told : (a : Number) → numberFrom (saidNumber a) ≡ a
 number-told (Number.Is n) = refl
 number-told (Number.Refused r) = ap Number.Refused (refusal-told r)
 
--- Two numbers that a claim of check, size, align, min_size, rank, common or uniform allows are the same.
+-- Two numbers that a claim of check, size, align, min_size, rank, common, uniform or check_order allows are the same.
 pub single-number : {said : Said ℕ} (a b : Number) → saidNumber a ≡ said → saidNumber b ≡ said → a ≡ b
 single-number = single saidNumber numberFrom number-told
 
 -- ---- a number beside what was lent
 
--- Two results that a claim of write, read or set allows are the same, the answer and the contents of what was lent. `said` is what
--- `writeCall`, `readCall` or `setCall` says, and `before` what was lent.
+-- Two results that a claim of write, read, set or plan_order allows are the same, the answer and the contents of what was lent. `said` is
+-- what `writeCall`, `readCall`, `setCall` or `planCall` says, and `before` what was lent.
 pub single-done : (before : List ℕ) (said : Said call.Done) (a b : Number) (x y : List ℕ) → saidNumber a ≡ call.answerOf said → saidNumber b ≡ call.answerOf said → x ≡ call.contentsOf before said → y ≡ call.contentsOf before said → (a ≡ b) × (x ≡ y)
 single-done before said a b x y p q r s = (single-number a b p q, r ∙ sym s)
 

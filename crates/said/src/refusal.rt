@@ -39,6 +39,8 @@ pub enum Refusal {
     Named,
     // 21: no struct of fixed size and at most 64 members, or mask bits beyond them
     NoSite,
+    // 23: an order of members that is not accepted
+    NoOrder,
 }
 
 pub fn number(r: Refusal) -> u32
@@ -66,6 +68,7 @@ pub fn number(r: Refusal) -> u32
         Refusal::NotUniform(_) => 19,
         Refusal::Named => 20,
         Refusal::NoSite => 21,
+        Refusal::NoOrder => 23,
     }
 }
 

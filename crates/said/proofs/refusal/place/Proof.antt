@@ -8,7 +8,7 @@ use denote.Enum.Declared.{tagOf}
 use Rattle.said.proofs.refusal.Refusal as refusal
 use Rattle.said.specs.Refusal.{placeOf}
 use Rattle.said.specs.declared.refusal.Refusal.{Refusal}
-use Rattle.said.specs.declared.refusal.Refusal.the-variants.{Short, Form, Counts, Length, Rule, Given, Large, Missing, Absent, Unstorable, NoMember, PastEnd, NoIndex, Count, Buffer, Word, Long, NoRank, NotUniform, Named, NoSite}
+use Rattle.said.specs.declared.refusal.Refusal.the-variants.{Short, Form, Counts, Length, Rule, Given, Large, Missing, Absent, Unstorable, NoMember, PastEnd, NoIndex, Count, Buffer, Word, Long, NoRank, NotUniform, Named, NoSite, NoOrder}
 use Rattle.said.proofs.refusal.place.Statement.{statement}
 use Rattle.said.proofs.refusal.place.Tie as tie
 
@@ -38,7 +38,7 @@ returns-8 c = rw (c .before .r8 .given .1)
 
 -- the numbers of the variants without a place
 abbrev keys : List ℕ
-keys = 0 ∷ 1 ∷ 2 ∷ 3 ∷ 7 ∷ 8 ∷ 9 ∷ 13 ∷ 14 ∷ 16 ∷ 17 ∷ 19 ∷ 20 ∷ []
+keys = 0 ∷ 1 ∷ 2 ∷ 3 ∷ 7 ∷ 8 ∷ 9 ∷ 13 ∷ 14 ∷ 16 ∷ 17 ∷ 19 ∷ 20 ∷ 21 ∷ []
 
 placeless : (r : Refusal) → OneOf keys (tagOf refusal.the-type r) → 0 ≡ placeOf r % 2 ^ 32
 placeless Short h = refl
@@ -62,6 +62,7 @@ placeless NoRank h = refl
 placeless (NotUniform k) h = absurd (miss keys 18 tt h)
 placeless Named h = refl
 placeless NoSite h = refl
+placeless NoOrder h = refl
 
 returns-9 : tie.Need-returns-9
 returns-9 c = placeless (c .before .args .r) (c .match .keys9)
