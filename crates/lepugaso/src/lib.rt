@@ -35,6 +35,10 @@ pub use bits::insert_bits_u32;
 // The same of one i32 or u32 at a path: its field as a word, and its offset; else 1 to 15, 17.
 pub use paths::field::extract_bits;
 pub use paths::field::insert_bits;
+// The order of a struct's members by falling alignment, into a list (how many); else 1 to 9, 14. Whether its members may stand in an order
+// (where it then ends); else 1 to 9, 23.
+pub use orders::check::check_order;
+pub use orders::plan::plan_order;
 // Whether an entry may live in a uniform buffer (0); else 1 to 10, 19.
 pub use uniform::uniform;
 // A file in the other form, into a buffer (its length there); else 1 to 7, 15, and 20 on the way back.

@@ -75,4 +75,6 @@ all-cross f =
       site-member = λ e k mask factory site. whole _ (offset-fits _ (fits .site-member e k mask factory site));
       site-set = λ e k steps ws mask factory site. whole _ (site-fits _ (fits .site-set e k steps ws mask factory site));
       clean = λ e b. whole _ (changed-fits _ (fits .clean e b));
+      plan-order = λ e lent. whole _ (answer-fits _ (fits .plan-order e lent));
+      check-order = λ e order. whole _ (fits .check-order e order);
     }

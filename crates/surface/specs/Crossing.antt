@@ -17,6 +17,7 @@ use Rattle.wgsl.specs.Uniform.{uniformCall}
 use Rattle.wgsl.specs.Form.{moveOnCall, moveBackCall}
 use Rattle.wgsl.specs.Site.{freshCall, memberCall, siteSetCall, siteAnswer, clearCall, zeroOf}
 use Rattle.wgsl.specs.Clean.{cleanCall, changedOf}
+use Rattle.wgsl.specs.Order.{planCall, orderCall}
 use Rattle.surface.specs.declared.Crossing.{Crossing}
 
 -- 0 and the value, or the refusal's number and place
@@ -80,3 +81,5 @@ pub record AllCross (f : List ℕ) : Type 0 where
   pub site-member : (e k mask : ℕ) (factory site : List ℕ) → CrossesWhole (offsetOf (memberCall f e k mask factory site))
   pub site-set : (e k : ℕ) (steps ws : List ℕ) (mask : ℕ) (factory site : List ℕ) → CrossesWhole (siteAnswer (siteSetCall f e k steps ws mask factory site))
   pub clean : (e : ℕ) (b : List ℕ) → CrossesWhole (changedOf (cleanCall f e b))
+  pub plan-order : (e : ℕ) (lent : List ℕ) → CrossesWhole (answerOf (planCall f e lent))
+  pub check-order : (e : ℕ) (order : List ℕ) → CrossesWhole (orderCall f e order)

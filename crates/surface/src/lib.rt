@@ -16,6 +16,7 @@ ghost use Rattle.wgsl.specs.BitFieldCall.{extractCall, insertCall};
 ghost use Rattle.wgsl.specs.Uniform.{uniformCall};
 ghost use Rattle.wgsl.specs.Form.{moveOnCall, moveBackCall};
 ghost use Rattle.wgsl.specs.Site.{freshCall, clearCall, memberCall, siteSetCall, zeroOf, maskAfter, siteAnswer, siteAfter, maskSet};
+ghost use Rattle.wgsl.specs.Order.{planCall, orderCall};
 ghost use Rattle.wgsl.specs.Clean.{cleanCall, changedOf, firstAfter, cleanAfter};
 ghost use Rattle.said.specs.Answer.{saidNumber, saidMoved, maybeOf};
 ghost use Rattle.surface.specs.Crossing.{crossed, crossedMaybe, told, laidOut, sizeOut, siteOut};
@@ -387,4 +388,23 @@ pub extern "C" fn lepugaso_surface_clean(
         }
         Cleaned::Refused(r) => cross(Number::Refused(r)),
     }
+}
+
+#[no_mangle]
+pub extern "C" fn lepugaso_surface_plan_order(
+    file: &[u8],
+    entry: u32,
+    order: &mut [u32],
+) -> Crossing
+    ensures answer { λ r. ⌜ r ≡ crossed (answerOf (planCall (now (file .entry)) entry (now (order .entry)))) ⌝ }
+    ensures list { λ r. ⌜ now (order .exit) ≡ contentsOf (now (order .entry)) (planCall (now (file .entry)) entry (now (order .entry))) ⌝ }
+{
+    cross(lepugaso::plan_order(file, entry, order))
+}
+
+#[no_mangle]
+pub extern "C" fn lepugaso_surface_check_order(file: &[u8], entry: u32, order: &[u32]) -> Crossing
+    ensures { λ r. ⌜ r ≡ crossed (orderCall (now (file .entry)) entry (now (order .entry))) ⌝ }
+{
+    cross(lepugaso::check_order(file, entry, order))
 }

@@ -1,0 +1,2 @@
+pub mod MeantStruct
+pub mod OrderOf

@@ -1,0 +1,2 @@
+pub mod KeyOf
+pub mod StructOf
