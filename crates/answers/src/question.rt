@@ -15,6 +15,7 @@ use crate::say::say_walked;
 use crate::say::say_words;
 use lepugaso::align;
 use lepugaso::check;
+use lepugaso::check_order;
 use lepugaso::clean;
 use lepugaso::common;
 use lepugaso::extract_bits;
@@ -23,6 +24,7 @@ use lepugaso::insert_bits;
 use lepugaso::insert_bits_u32;
 use lepugaso::layout;
 use lepugaso::min_size;
+use lepugaso::plan_order;
 use lepugaso::rank;
 use lepugaso::read;
 use lepugaso::set;
@@ -62,6 +64,16 @@ fn answer_read(file: &[u8], held: &[u8], ns: &mut [u32])
 {
     let entry = ns[0];
     say_plain(read(file, entry, held, &mut ns[1..]));
+    say_words(&ns[1..]);
+    say(b"\n");
+}
+
+// Plans an order into the list of a question, the numbers after the entry's, and says what the list is then.
+fn answer_plan(file: &[u8], ns: &mut [u32])
+    requires { ⌜ 1 ≤ length (now ns) ⌝ }
+{
+    let entry = ns[0];
+    say_plain(plan_order(file, entry, &mut ns[1..]));
     say_words(&ns[1..]);
     say(b"\n");
 }
@@ -371,6 +383,12 @@ pub fn answer_line<'a>(file: &[u8], held: &'a [u8], factory: &'a [u8], line: &[u
         }
         if same(&line[..word], b"view") {
             return answer_view(file, ns[0], &ns[1..n], held);
+        }
+        if same(&line[..word], b"plan_order") {
+            return answer_plan(file, &mut ns[..n]);
+        }
+        if same(&line[..word], b"check_order") {
+            return say_number(check_order(file, ns[0], &ns[1..n]));
         }
     }
     if 1 < n {

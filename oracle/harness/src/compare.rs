@@ -41,6 +41,11 @@ const PLAN: Plan = Plan {
     clean_small: 3,
     cleans: 6000,
     clean_asked: 12,
+    order_edges: 1,
+    order_all: 5,
+    order_small: 3,
+    orders: 16_000,
+    order_asked: 12,
 };
 
 const RECORDED: Plan = Plan {
@@ -51,7 +56,7 @@ const RECORDED: Plan = Plan {
     random: 60,
     limits: 20,
     large: 0,
-    damaged: 120,
+    damaged: 90,
     rounds: 1,
     fields: 1,
     packed: 1,
@@ -72,6 +77,11 @@ const RECORDED: Plan = Plan {
     clean_small: 0,
     cleans: 4,
     clean_asked: 3,
+    order_edges: 3,
+    order_all: 3,
+    order_small: 0,
+    orders: 8,
+    order_asked: 4,
 };
 
 fn read(path: &str) -> String {
@@ -121,6 +131,7 @@ pub fn ask(seed: u64, document: &str, folder: &str) -> bool {
     generate::form_blocks(seed, &PLAN, &mut put);
     generate::site_blocks(seed, &PLAN, &mut put);
     generate::clean_blocks(seed, &PLAN, &mut put);
+    generate::order_blocks(seed, &PLAN, &mut put);
     flush(&mut text);
     println!("{files:9} files in all, seed {seed}");
     true
@@ -253,6 +264,7 @@ pub fn record(document: &str, folder: &str) -> bool {
     generate::form_blocks(1, &RECORDED, |b| blocks.push(b));
     generate::site_blocks(1, &RECORDED, |b| blocks.push(b));
     generate::clean_blocks(1, &RECORDED, |b| blocks.push(b));
+    generate::order_blocks(1, &RECORDED, |b| blocks.push(b));
     let questions = blocks.iter().fold(format!("{HEAD}\n"), |s, b| s + &b.lines());
     let rust = answer(&questions);
     let mut rust = rust.lines();

@@ -1306,6 +1306,16 @@ pub struct Plan {
     pub cleans: usize,
     /// questions on each of them
     pub clean_asked: usize,
+    /// of the orders and lists of structs made by hand: one of so many; and all orders of structs of at most so many members
+    pub order_edges: u64,
+    pub order_all: usize,
+    /// all tables of at most so many entries over the menu, without and with an i64, in each the orders of its last entry
+    pub order_small: usize,
+    /// tables whose last entry is a struct of mixed members, of which orders are asked about; for each four two damaged ones, for each eight
+    /// a random one and one with a struct of many members
+    pub orders: usize,
+    /// questions on each of them
+    pub order_asked: usize,
 }
 
 pub fn blocks(seed: u64, plan: &Plan, mut each: impl FnMut(Block)) {
@@ -2170,6 +2180,312 @@ pub fn clean_blocks(seed: u64, plan: &Plan, mut each: impl FnMut(Block)) {
             let types = 4 + r.below(8) as usize;
             let near = uniform_table(&mut r, types);
             each(Block { file: near.write(&[]), questions: some_cleans(&mut r, &near, n) });
+        }
+    }
+}
+
+/// Structs whose members stand better in another order, and others: with gaps before members and at the end; with sizes and aligns given;
+/// whose planned order is worse, equal or better; of one member, of equal ones, of structs, with bools; open ones, the array's align given
+/// or not; ends and aligns near 2^32. And what is no struct.
+fn order_sorts() -> Table {
+    let over = |kind, columns, rows, reference, count| (entry(kind, columns, rows, reference, count), vec![]);
+    let of = |ms: Vec<Member>| (entry(12, 0, 0, 0, 0), ms);
+    let plain = |ty| member(ty, None, None);
+    let all = |types: &[u16]| of(types.iter().map(|ty| plain(*ty)).collect());
+    let sized = |ty, size| member(ty, Some(size), None);
+    let aligned = |ty, align| member(ty, None, Some(align));
+    table(&[
+        // u32, f32, f16, bool, i64
+        scalar(2),
+        scalar(3),
+        scalar(4),
+        scalar(0),
+        scalar(13),
+        // 5 to 8: vectors of f32, u32 and bool
+        over(7, 0, 3, 1, 0),
+        over(7, 0, 4, 0, 0),
+        over(7, 0, 2, 0, 0),
+        over(7, 0, 3, 3, 0),
+        // 9 to 12: runtime arrays of u32 and of a vector; an array; a matrix
+        over(10, 0, 0, 0, 0),
+        over(10, 0, 0, 6, 0),
+        over(9, 0, 0, 2, 3),
+        over(8, 2, 2, 2, 0),
+        // 13 to 15: 32 bytes and 48 as planned; 48 and 32; 12 and 8
+        all(&[5, 1, 5, 1]),
+        all(&[0, 6, 0]),
+        all(&[2, 0, 2]),
+        // 16 to 20: open ones; the array alone
+        all(&[0, 7, 0, 9]),
+        of(vec![plain(0), plain(7), plain(0), aligned(9, 64)]),
+        all(&[2, 4, 2, 0, 10]),
+        all(&[2, 9]),
+        all(&[9]),
+        // 21 to 24: one member; equal members; structs within; many alignments
+        all(&[6]),
+        all(&[2, 2, 2]),
+        all(&[2, 15, 4, 15, 2]),
+        all(&[2, 0, 2, 4, 2, 6, 11, 12, 2, 1]),
+        // 25 to 28: sizes and aligns given
+        of(vec![sized(2, 3), plain(0), sized(2, 5), plain(4)]),
+        of(vec![plain(0), aligned(2, 32), plain(0), aligned(0, 8)]),
+        of(vec![plain(2), aligned(0, 16), member(2, Some(30), Some(8)), plain(4), sized(0, 4)]),
+        of(vec![plain(2), aligned(2, 4), plain(0), plain(2)]),
+        // 29 to 31: bools, and vectors of three, which the Rust aligns only where it is given
+        all(&[3, 7, 3]),
+        all(&[3, 8, 3, 8]),
+        of(vec![plain(3), aligned(8, 16), plain(3)]),
+        // 32 and on: near 2^32, closed and open; what passes it in another order; a gap of nearly 2^31 bytes
+        of(vec![sized(0, 4_294_967_280), plain(1)]),
+        of(vec![plain(2), sized(0, 4_294_967_264), plain(7), plain(2)]),
+        of(vec![plain(2), sized(0, 4_294_967_264), plain(7), plain(2), plain(9)]),
+        of(vec![plain(2), sized(0, 4_294_967_264), plain(2), plain(7), plain(10)]),
+        of(vec![aligned(0, 1 << 31), plain(0)]),
+        of(vec![aligned(0, 1 << 31), plain(0), aligned(9, 1 << 31)]),
+        of(vec![plain(2), aligned(0, 1 << 30), plain(2)]),
+        of(vec![plain(2), aligned(0, 1 << 31), plain(9)]),
+    ])
+}
+
+/// The orders of so many members, all of them.
+fn all_orders(n: u32) -> Vec<Vec<u32>> {
+    (0..n).fold(vec![vec![]], |orders, k| {
+        let put = |order: &Vec<u32>, at: usize| [&order[..at], &[k], &order[at..]].concat();
+        orders.iter().flat_map(|order| (0..=order.len()).map(|at| put(order, at)).collect::<Vec<_>>()).collect()
+    })
+}
+
+/// Any order of these positions.
+fn any_order(r: &mut Random, positions: &[u32]) -> Vec<u32> {
+    let mut order: Vec<u32> = Vec::new();
+    for k in positions {
+        order.insert(r.below(order.len() as u64 + 1) as usize, *k);
+    }
+    order
+}
+
+/// Any order of a struct's members, which mostly leaves a runtime array the last.
+fn any_order_of(r: &mut Random, good: &Good, e: usize, n: u32) -> Vec<u32> {
+    let kept = if good.laid[e].open && !r.one_in(8) { n - 1 } else { n };
+    let positions: Vec<u32> = (0..n).collect();
+    [any_order(r, &positions[..kept as usize]), positions[kept as usize..].to_vec()].concat()
+}
+
+/// Numbers that are no position of so many members.
+fn no_positions(n: u32) -> [u32; 6] {
+    [n, n + 1, 1024, 65_536, 1 << 31, u32::MAX]
+}
+
+/// An order with something wrong: a position twice, a number that is none, one too few or too many, or none at all.
+fn bad_order(r: &mut Random, order: &[u32]) -> Vec<u32> {
+    let (mut bad, n) = (order.to_vec(), order.len() as u64);
+    if n == 0 {
+        return vec![0];
+    }
+    let (at, other) = (r.below(n) as usize, r.below(n) as usize);
+    match r.below(8) {
+        0 => bad[at] = r.of(&no_positions(n as u32)),
+        1 | 2 if n > 1 => bad[at] = bad[(at + 1 + r.below(n - 1) as usize) % n as usize],
+        3 => drop(bad.remove(at)),
+        4 => bad.insert(at, order[other]),
+        5 => bad.push(n as u32),
+        6 => bad.truncate(other),
+        _ => bad[at] = bad[at].wrapping_sub(1 + r.below(2) as u32),
+    }
+    bad
+}
+
+/// Orders and lists of a struct: the planned order, those next to it, as it stands, from the end on; all of at most so many members, else
+/// some; a runtime array that is not the last; each sort of bad order; lists of each length at an edge. Of these one of so many, and in any
+/// case a plan, its own order and one that is better.
+fn order_edges(r: &mut Random, good: &Good, e: usize, all_of: usize, one_of: u64) -> Vec<Question> {
+    let (entry, n) = (e as u32, good.table.entries[e].count);
+    let ms = good.ordered(e).expect("a struct");
+    let (planned, stands): (Vec<u32>, Vec<u32>) = (good.planned(ms), (0..n).collect());
+    let mut orders: Vec<Vec<u32>> = vec![];
+    if n as usize <= all_of {
+        orders.extend(all_orders(n));
+    } else {
+        orders.extend([stands.clone(), stands.iter().rev().copied().collect()]);
+        orders.extend((0..8).map(|_| any_order_of(r, good, e, n)));
+        for k in 1..n.min(6) as usize {
+            let mut next = planned.clone();
+            next.swap(k - 1, k);
+            orders.push(next);
+        }
+    }
+    let better: Vec<Vec<u32>> = orders.iter().filter(|order| good.check_order(e, order).is_ok()).cloned().collect();
+    let chosen = better.last().unwrap_or(&stands).clone();
+    let from = [&planned, &chosen];
+    for (i, stranger) in no_positions(n).into_iter().enumerate() {
+        let mut bad = from[i % 2].clone();
+        bad[i % n as usize] = stranger;
+        orders.push(bad);
+    }
+    for good in from {
+        let twice = [&good[..n as usize - 1], &[good[0]]].concat();
+        orders.extend([twice, good[1..].to_vec(), good[..n as usize - 1].to_vec()]);
+        orders.extend([n, good[0]].map(|more| [good.as_slice(), &[more]].concat()));
+    }
+    orders.extend([vec![], vec![0; n as usize], vec![0; 2 * n as usize]]);
+    orders.retain(|order| order.len() as u64 <= MOST_WORDS);
+    let checks = orders.into_iter().map(|order| Question::CheckOrder(entry, order)).collect();
+    let lengths = [0, n as u64 - 1, n as u64, n as u64 + 1, n as u64 + 2 + r.below(5)];
+    let lengths = lengths.into_iter().filter(|length| *length <= MOST_WORDS);
+    let plans = lengths.map(|length| Question::PlanOrder(entry, any_words(r, length))).collect();
+    let (plans, checks) = (some_of(r, one_of, plans), some_of(r, one_of, checks));
+    let mut kept = vec![];
+    if (n as u64) < MOST_WORDS {
+        kept.push(Question::PlanOrder(entry, any_words(r, n as u64 + 1)));
+        kept.extend([planned, chosen].map(|order| Question::CheckOrder(entry, order)));
+    }
+    [kept, plans, checks].concat()
+}
+
+/// What is asked of any entry: lists and orders of none, one and two.
+fn orders_of_any(e: u32) -> Vec<Question> {
+    let list = [9, 8];
+    let asked =
+        |n: usize| [Question::PlanOrder(e, list[..n].to_vec()), Question::CheckOrder(e, (0..n as u32).collect())];
+    (0..=2).flat_map(asked).collect()
+}
+
+/// An accepted table whose last entry is a struct of mixed members, at most so many; of four one ends in a runtime array, and of eight one
+/// comes near 2^32.
+fn mixed(r: &mut Random, most: u64, kinds: &[u8]) -> Table {
+    let base = table(&[scalar(r.of(&[1, 2, 3])), scalar(4), (entry(7, 0, 2 + r.below(3) as u8, 0, 0), vec![])]);
+    let types = 4 + r.below(6) as usize;
+    let mut t = random_over(r, base, types, 12, kinds);
+    let is_open = r.one_in(4);
+    if is_open {
+        t = with(&t, &(entry(10, 0, 0, r.below(3) as u16, 0), vec![]));
+    }
+    let good = model::check(&t.write(&[])).ok().expect("an accepted table");
+    let is_fit = |ty: &u16| good.laid[*ty as usize].size.is_some() && good.laid[*ty as usize].align.is_some();
+    let fit: Vec<u16> = (0..types as u16).filter(is_fit).collect();
+    loop {
+        let n = 1 + r.below(most);
+        let mut ms: Vec<Member> = Vec::new();
+        for _ in 0..n {
+            let ty = if r.one_in(3) { r.of(&[0, 1, 1, 2]) } else { r.of(&fit) };
+            ms.push(random_member(r, &good.laid, ty));
+        }
+        if is_open {
+            ms.push(random_member(r, &good.laid, types as u16));
+        }
+        let grown = with(&t, &structure(&t, ms.clone()));
+        let Ok(laid) = model::lay(&grown, &good.laid, good.laid.len()) else { continue };
+        let end = laid.tail.map_or(laid.size, |tail| Some(tail.offset)).expect("a struct ends");
+        let at = r.below(n) as usize;
+        let size = good.laid[ms[at].ty as usize].size.expect("a member that is not open").max(ms[at].size as u64);
+        let more = (size + 4_294_967_296 - end).checked_sub(1 + r.below(64)).filter(|more| *more < 1 << 32);
+        if let Some(more) = more.filter(|_| r.one_in(8)) {
+            ms[at] = Member { flags: ms[at].flags | 1, size: more as u32, ..ms[at] };
+            let near = with(&t, &structure(&t, ms));
+            if model::check(&near.write(&[])).is_ok() {
+                return near;
+            }
+        }
+        return grown;
+    }
+}
+
+/// A plan or an order of an entry that may be no struct: the planned order, one next to it or any, which may be bad; a list that may be
+/// short.
+fn faulty_order(r: &mut Random, good: Option<&Good>, entry: u32) -> Question {
+    let e = entry as usize;
+    let good = good.filter(|g| e < g.laid.len());
+    let Some((good, ms)) = good.and_then(|good| Some((good, good.ordered(e).ok()?))) else {
+        let list: Vec<u32> = (0..r.below(4) as u32).collect();
+        return if r.one_in(2) { Question::PlanOrder(entry, list) } else { Question::CheckOrder(entry, list) };
+    };
+    let n = ms.len() as u64;
+    if r.one_in(4) {
+        let (less, more) = (r.below(n + 1), n + r.below(9));
+        let length = r.of(&[n, n, n, n + 1, n - 1, less, more]).min(MOST_WORDS);
+        return Question::PlanOrder(entry, any_words(r, length));
+    }
+    let mut order = match r.below(4) {
+        0 | 1 => good.planned(ms),
+        _ => any_order_of(r, good, e, n as u32),
+    };
+    if n > 1 && r.one_in(2) {
+        let at = r.below(n - 1) as usize;
+        order.swap(at, at + 1);
+    }
+    if r.one_in(6) {
+        order = bad_order(r, &order);
+    }
+    order.truncate(MOST_WORDS as usize);
+    Question::CheckOrder(entry, order)
+}
+
+/// `n` plans and orders, mostly of structs; now and then an entry that is not there.
+fn some_orders(r: &mut Random, t: &Table, n: usize) -> Vec<Question> {
+    let types = t.entries.len().max(1) as u64;
+    let good = model::check(&t.write(&[])).ok();
+    let fit: Vec<u32> = (0..t.entries.len() as u32).filter(|e| t.entries[*e as usize].kind == 12).collect();
+    let mut one = || {
+        let (past, any) = (r.of(&[types, 255, 4_294_967_295]) as u32, r.below(types) as u32);
+        let entry = match r.below(32) {
+            0 => past,
+            1 | 2 => any,
+            _ if fit.is_empty() => any,
+            3..=24 => *fit.last().expect("one that is a struct"),
+            _ => r.of(&fit),
+        };
+        faulty_order(r, good.as_ref(), entry)
+    };
+    (0..n).map(|_| one()).collect()
+}
+
+/// The questions about member orders. They have random numbers of their own too.
+pub fn order_blocks(seed: u64, plan: &Plan, mut each: impl FnMut(Block)) {
+    let mut r = Random(!seed.rotate_left(24));
+    let edges = |r: &mut Random, good: &Good, e: usize, one_of: u64| match good.table.entries[e].kind {
+        12 => order_edges(r, good, e, plan.order_all, one_of),
+        _ => some_of(r, one_of, orders_of_any(e as u32)),
+    };
+    let t = order_sorts();
+    let good = model::check(&t.write(&[])).ok().expect("an accepted table");
+    let mut questions: Vec<Question> =
+        (0..t.entries.len()).flat_map(|e| edges(&mut r, &good, e, plan.order_edges)).collect();
+    let types = t.entries.len() as u32;
+    questions.extend([types, 255, u32::MAX].into_iter().flat_map(orders_of_any));
+    each(Block { file: t.write(&[]), questions });
+    // no table, and a bad entry
+    for file in [vec![0], table(&[scalar(2), scalar(16)]).write(&[])] {
+        each(Block { file, questions: orders_of_any(0) });
+    }
+    for kinds in [SHORT.as_slice(), &[2, 4, 5, 13]] {
+        for t in small_over(plan.order_small, kinds) {
+            let good = model::check(&t.write(&[])).ok().expect("an accepted table");
+            let questions = edges(&mut r, &good, t.entries.len() - 1, 1);
+            each(Block { file: t.write(&[]), questions });
+        }
+    }
+    for t in at_limits().into_iter().take(plan.large) {
+        each(Block { file: t.write(&[]), questions: some_orders(&mut r, &t, plan.limits) });
+    }
+    let (n, kinds) = (plan.order_asked, [0, 1, 2, 3, 3, 4, 4, 4, 5, 13, 14, 15]);
+    for i in 0..plan.orders {
+        let most = r.of(&[3, 4, 6, 8, 8, 20]);
+        let t = mixed(&mut r, most, &kinds);
+        let form = if r.one_in(4) { 2 } else { 1 };
+        each(Block { file: named(&mut r, &t).write_as(form, &[]), questions: some_orders(&mut r, &t, n) });
+        if i % 4 == 3 {
+            let d = damaged_table(&mut r, &t);
+            each(Block { file: file(&mut r, &d), questions: some_orders(&mut r, &d, n.min(4)) });
+            let b = file(&mut r, &t);
+            each(Block { file: damaged_file(&mut r, &b), questions: some_orders(&mut r, &t, n.min(3)) });
+        }
+        if i % 8 == 7 && plan.order_small > 0 {
+            let (base, types) = (table(&[scalar(r.of(&kinds))]), 3 + r.below(8) as usize);
+            let any = random_over(&mut r, base, types, 40, &kinds);
+            each(Block { file: any.write(&[]), questions: some_orders(&mut r, &any, n) });
+            let many = if r.one_in(64) { 1000 + r.below(24) } else { 1 + r.below(80) };
+            let w = wide(&mut r, many, &kinds);
+            each(Block { file: w.write(&[]), questions: some_orders(&mut r, &w, n) });
         }
     }
 }

@@ -1,6 +1,7 @@
 //! Document 01's rules, written from its text: which file is refused, with what number and place, and what the calls answer; and document
-//! 02's on strides, bit fields, vectors of three bools, the uniform profile, scalars of 64 bits, the two forms of a file, site blocks and
-//! cleaning. It decides where Lepugaso and the Rust may differ (the rows of docs/DIFFERENCES.md), and what Lepugaso has to say there.
+//! 02's on strides, bit fields, vectors of three bools, the uniform profile, scalars of 64 bits, the two forms of a file, site blocks,
+//! cleaning and member orders. It decides where Lepugaso and the Rust may differ (the rows of docs/DIFFERENCES.md), and what Lepugaso has
+//! to say there.
 use std::collections::BTreeSet;
 
 use crate::file::{Entry, Member, Table};
@@ -546,6 +547,57 @@ impl Good {
         Ok(covered.len() as u64)
     }
 
+    /// The members of a struct (E10): "9 where the entry isn't a struct"
+    pub fn ordered(&self, e: usize) -> Result<&[Member], (u32, u64)> {
+        let x = self.table.entries[e];
+        if x.kind != 12 {
+            return Err((9, 0));
+        }
+        Ok(self.table.members_of(&x).expect("members within the table"))
+    }
+
+    /// "the order by falling member alignment, ties as they stood, a runtime array kept last": the place of a member is how many come before
+    /// it.
+    pub fn planned(&self, ms: &[Member]) -> Vec<u32> {
+        let placed = members(&self.laid, ms);
+        let is_runtime = |k: usize| self.table.entries[ms[k].ty as usize].kind == 10;
+        let is_before = |j: usize, k: usize| match (is_runtime(j), is_runtime(k)) {
+            (false, false) if placed[j].align == placed[k].align => j < k,
+            (false, false) => placed[j].align > placed[k].align,
+            (of_j, _) => !of_j,
+        };
+        let mut order = vec![0; ms.len()];
+        for k in 0..ms.len() {
+            order[(0..ms.len()).filter(|j| is_before(*j, k)).count()] = k as u32;
+        }
+        order
+    }
+
+    /// The planner: then "14 where the lent list is shorter than the members". How many there are.
+    pub fn plan_order(&self, e: usize, list: &mut [u32]) -> Answer {
+        let ms = self.ordered(e)?;
+        let front = list.get_mut(..ms.len()).ok_or((14, 0))?;
+        front.copy_from_slice(&self.planned(ms));
+        Ok(ms.len() as u64)
+    }
+
+    /// The checker: then "23 for any order not accepted". "accepted exactly if every member position appears once, a runtime array is still
+    /// last, no number passes 01's limit, and the end is smaller (struct size; for open structs, the array's offset)". The new end.
+    pub fn check_order(&self, e: usize, order: &[u32]) -> Answer {
+        let ms = self.ordered(e)?;
+        if !names_all(order, ms.len()) {
+            return Err((23, 0));
+        }
+        // the struct with its members in that order, in place of the entry: 01's rules refuse it, or it has an end
+        let moved = Table {
+            entries: [&self.table.entries[..e], &[Entry { reference: 0, ..self.table.entries[e] }]].concat(),
+            members: order.iter().map(|k| ms[*k as usize]).collect(),
+        };
+        let end = |l: &Laid| l.tail.map_or(l.size, |t| Some(t.offset)).expect("a struct ends");
+        let new = lay(&moved, &self.laid[..e], e).map_err(|_| (23, 0))?;
+        if end(&new) < end(&self.laid[e]) { Ok(end(&new)) } else { Err((23, 0)) }
+    }
+
     /// The scalar of a field at a path, its offset and whether it is signed: as for setting, with 14 for what is not one i32 or u32, or
     /// an atomic of one.
     fn integer(&self, e: usize, path: &[u32], length: u64) -> Result<(u64, bool), (u32, u64)> {
@@ -766,6 +818,13 @@ pub fn put(places: &[Place], words: &[u32], buffer: &mut [u8]) {
     }
 }
 
+/// "every member position appears once"
+pub fn names_all(order: &[u32], members: usize) -> bool {
+    let mut positions = order.to_vec();
+    positions.sort();
+    positions.into_iter().eq(0..members as u32)
+}
+
 /// "a mask whose bit k says member k was set on site"
 pub fn has_bit(mask: u64, k: u32) -> bool {
     (mask >> k) % 2 == 1
@@ -872,7 +931,7 @@ fn unchanged(q: &Question, number: u32, place: u64) -> String {
         Question::Write(_, _, buffer) | Question::Set(_, _, _, buffer) | Question::Insert(_, _, _, _, buffer) => {
             with_buffer(Err((number, place)), buffer)
         }
-        Question::Read(_, words, _) => with_words(Err((number, place)), words),
+        Question::Read(_, words, _) | Question::PlanOrder(_, words) => with_words(Err((number, place)), words),
         Question::Clean(_, buffer) => with_gaps(Err((number, place)), buffer, buffer),
         Question::SiteFresh(_, mask) | Question::SiteClear(_, _, mask) => with_mask(Err((number, place)), *mask),
         Question::SiteSet(_, _, mask, _, _, sheets) => with_site(Err((number, place)), *mask, &sheets.site),
@@ -957,6 +1016,11 @@ pub fn answer(file: &[u8], checked: &Result<Good, Refusal>, nodes: &[u64], q: &Q
             let mut after = buffer.clone();
             with_gaps(good.clean(*e as usize, &mut after), buffer, &after)
         }
+        Question::PlanOrder(e, list) => {
+            let mut list = list.clone();
+            with_words(good.plan_order(*e as usize, &mut list), &list)
+        }
+        Question::CheckOrder(e, order) => question::told(good.check_order(*e as usize, order)),
         Question::Extract(e, field, path, buffer) => question::told(good.extract(*e as usize, path, *field, buffer)),
         Question::Insert(e, new, field, path, buffer) => {
             let mut buffer = buffer.clone();

@@ -1,7 +1,7 @@
-//! Questions, their lines and those of their answers (oracle/README.md, version 10).
+//! Questions, their lines and those of their answers (oracle/README.md, version 11).
 
-pub const HEAD: &str = "questions 10";
-pub const ANSWERS_HEAD: &str = "answers 10";
+pub const HEAD: &str = "questions 11";
+pub const ANSWERS_HEAD: &str = "answers 11";
 
 #[derive(Clone)]
 pub enum Question {
@@ -23,6 +23,10 @@ pub enum Question {
     Set(u32, Vec<u32>, Vec<u32>, Vec<u8>),
     /// an entry, and what the buffer holds before
     Clean(u32, Vec<u8>),
+    /// an entry, and what the list holds before
+    PlanOrder(u32, Vec<u32>),
+    /// an entry, and the order
+    CheckOrder(u32, Vec<u32>),
     /// an entry, the field, the steps, and the buffer
     Extract(u32, Field, Vec<u32>, Vec<u8>),
     /// an entry, the new value, the field, the steps, and what the buffer holds before
@@ -102,6 +106,8 @@ impl Question {
             Question::View(e, path, _) => listed(format!("view {e}"), path),
             Question::Set(e, words, path, _) => listed(listed(format!("set {e} {}", words.len()), words), path),
             Question::Clean(e, _) => format!("clean {e}"),
+            Question::PlanOrder(e, list) => listed(format!("plan_order {e}"), list),
+            Question::CheckOrder(e, order) => listed(format!("check_order {e}"), order),
             Question::Extract(e, field, path, _) => listed(format!("extract {e} {}", field.line()), path),
             Question::Insert(e, new, field, path, _) => listed(format!("insert {e} {new} {}", field.line()), path),
             Question::ExtractU32(word, field) => format!("extract_u32 {word} {}", field.line()),
@@ -141,6 +147,8 @@ impl Question {
                 Question::Set(*e, words.to_vec(), path.to_vec(), buffer.to_vec())
             }
             ("clean", [e]) => Question::Clean(*e, buffer.to_vec()),
+            ("plan_order", [e, list @ ..]) => Question::PlanOrder(*e, list.to_vec()),
+            ("check_order", [e, order @ ..]) => Question::CheckOrder(*e, order.to_vec()),
             ("extract", [e, o, c, path @ ..]) => Question::Extract(*e, field(o, c), path.to_vec(), buffer.to_vec()),
             ("insert", [e, new, o, c, path @ ..]) => {
                 Question::Insert(*e, *new, field(o, c), path.to_vec(), buffer.to_vec())
@@ -168,6 +176,7 @@ impl Question {
             Question::Layout(e) | Question::Uniform(e) => vec![*e],
             Question::Write(e, _, _) | Question::Read(e, _, _) => vec![*e],
             Question::View(e, _, _) | Question::Set(e, _, _, _) | Question::Clean(e, _) => vec![*e],
+            Question::PlanOrder(e, _) | Question::CheckOrder(e, _) => vec![*e],
             Question::Extract(e, _, _, _) | Question::Insert(e, _, _, _, _) => vec![*e],
             Question::SiteFresh(e, _) | Question::SiteClear(e, _, _) => vec![*e],
             Question::SiteMember(e, _, _, _) | Question::SiteSet(e, _, _, _, _, _) => vec![*e],
@@ -275,7 +284,7 @@ pub fn with_gaps(extent: Answer, before: &[u8], after: &[u8]) -> String {
     count + &with_buffer(first, after)
 }
 
-/// What is said of a read: its answer, and what the words hold after it.
+/// What is said of a read or of a plan: its answer, and what the words or the list hold after it.
 pub fn with_words(answer: Answer, words: &[u32]) -> String {
     listed(told(answer), words)
 }

@@ -2,7 +2,7 @@
 //! does with a buffer instead; the document's own examples are read here too.
 use crate::file::{Member, Table};
 use crate::model::{self, Good, Laid, Stand, Target, members};
-use crate::question::{Answer, Block, Question, parse_bytes, with_buffer, with_gaps, with_part, with_words};
+use crate::question::{Answer, Block, Question, parse_bytes, told, with_buffer, with_gaps, with_part, with_words};
 use crate::types::{NOTHING, PANICS, put_front};
 
 macro_rules! rows {
@@ -365,6 +365,46 @@ fn cleaned(good: &Good, e: usize, buffer: &[u8]) -> Option<(Row, String)> {
     Some((row, with_gaps(extent, buffer, &after)))
 }
 
+/// A member's alignment and size as the Rust has them, given or its type's; of a runtime array the size is 0.
+fn known(good: &Good, m: &Member) -> Option<(u32, u32)> {
+    let l = &good.rust[m.ty as usize];
+    let align = if m.flags & 2 != 0 { m.align } else { l.align? as u32 };
+    let size = if m.flags & 1 != 0 { m.size } else { l.size.or(l.open.then_some(0))? as u32 };
+    Some((align, size))
+}
+
+/// Where the Rust has a struct of these members end, if it has all numbers: its sums wrap.
+fn end(good: &Good, ms: &[Member]) -> Option<u32> {
+    let up = |align: u32, n: u32| n.div_ceil(align).wrapping_mul(align);
+    let known = ms.iter().map(|m| known(good, m)).collect::<Option<Vec<(u32, u32)>>>()?;
+    let past = known.iter().fold(0, |past, (align, size)| up(*align, past).wrapping_add(*size));
+    let is_open = ms.last().is_some_and(|m| good.laid[m.ty as usize].open);
+    Some(if is_open { past } else { up(known.iter().map(|(align, _)| *align).max()?, past) })
+}
+
+/// The row of a plan, and what the Rust says of it: no order where it lacks an alignment.
+fn planned(good: &Good, e: usize, list: &[u32]) -> Option<(Row, String)> {
+    let ms = good.ordered(e).ok()?;
+    let unknown = ms.iter().any(|m| m.flags & 2 == 0 && good.rust[m.ty as usize].align.is_none());
+    unknown.then(|| (Row::Vec3Bool, with_words(Err((9, 0)), list)))
+}
+
+/// The row of an order that is checked, and what the Rust says of it: nothing where it lacks a number, and a wrapped end where 01 refuses a
+/// number above the limit.
+fn reordered(good: &Good, e: usize, order: &[u32]) -> Option<(Row, String)> {
+    let ms = good.ordered(e).ok()?;
+    let Some(now) = end(good, ms) else { return Some((Row::Vec3Bool, told(Err((9, 0))))) };
+    if !model::names_all(order, ms.len()) {
+        return None;
+    }
+    let moved: Vec<Member> = order.iter().map(|k| ms[*k as usize]).collect();
+    if moved.last().is_some_and(|m| good.laid[m.ty as usize].open) != good.laid[e].open {
+        return None;
+    }
+    let new = end(good, &moved).filter(|new| *new < now);
+    Some((Row::TooLarge, told(new.map(u64::from).ok_or((23, 0)))))
+}
+
 /// The row of a question on a table that 01 accepts, of an entry that it has, and what the Rust says of it; none where that is what 01
 /// says.
 pub fn departure(good: &Good, q: &Question, says: &str) -> Option<(Row, String)> {
@@ -381,6 +421,8 @@ pub fn departure(good: &Good, q: &Question, says: &str) -> Option<(Row, String)>
         Question::View(e, path, buffer) => viewed(good, *e as usize, path, buffer),
         Question::Set(e, words, path, buffer) => changed(good, *e as usize, path, words, buffer),
         Question::Clean(e, buffer) => cleaned(good, *e as usize, buffer)?,
+        Question::PlanOrder(e, list) => planned(good, *e as usize, list)?,
+        Question::CheckOrder(e, order) => reordered(good, *e as usize, order)?,
         Question::Extract(..) | Question::Insert(..) => (Row::BitFields, NOTHING.into()),
         Question::Uniform(_) => (Row::Uniform, NOTHING.into()),
         Question::SiteFresh(..) | Question::SiteClear(..) | Question::SiteMember(..) | Question::SiteSet(..) => {

@@ -1,5 +1,6 @@
 //! A table as the Rust's types, each struct entry with a name of its own, and what the Rust answers about them.
 use std::cell::Cell;
+use std::cmp::Reverse;
 use std::panic::{AssertUnwindSafe, catch_unwind};
 
 use half::f16;
@@ -12,7 +13,7 @@ use wgsl_types::ty::{StructMemberType, StructType, Ty, Type};
 
 use crate::file::{Entry, Table};
 use crate::model::{Good, Refusal};
-use crate::question::{Answer, Question, with_buffer, with_gaps, with_part, with_words};
+use crate::question::{self, Answer, Question, with_buffer, with_gaps, with_part, with_words};
 use crate::rows::VAST;
 
 /// The Rust's types are trees without sharing: a type of more nodes is not built.
@@ -386,6 +387,69 @@ fn clean(ty: &Type, buffer: &[u8]) -> String {
     with_gaps(extent, buffer, &after)
 }
 
+fn is_runtime(m: &StructMemberType) -> bool {
+    matches!(m.ty, Type::Array(_, None))
+}
+
+/// The Rust has no planner, but alignments to sort by.
+fn plan(ty: &Type, list: &[u32]) -> String {
+    let planned = || {
+        let Type::Struct(s) = ty else { return None };
+        let align = |m: &StructMemberType| m.align.or_else(|| m.ty.align_of());
+        let aligns = s.members.iter().map(align).collect::<Option<Vec<u32>>>()?;
+        let mut order: Vec<usize> = (0..aligns.len()).collect();
+        order.sort_by_key(|k| (is_runtime(&s.members[*k]), Reverse(aligns[*k])));
+        Some(order)
+    };
+    let mut after = list.to_vec();
+    let answer: Answer = match planned() {
+        None => Err((9, 0)),
+        Some(order) if order.len() > list.len() => Err((14, 0)),
+        Some(order) => {
+            after.iter_mut().zip(&order).for_each(|(place, k)| *place = *k as u32);
+            Ok(order.len() as u64)
+        }
+    };
+    with_words(answer, &after)
+}
+
+/// Where a struct ends for the Rust: its size. Of an open one it tells none, but takes one that the array is given: the array starts as many
+/// bytes before the struct's size with an array of none as the array may have without a larger one.
+fn end(s: StructType) -> Option<u32> {
+    let is_open = s.members.last().is_some_and(is_runtime);
+    let mut ty = Type::from(s);
+    if !is_open {
+        return ty.size_of();
+    }
+    let mut sized = |n: u32| {
+        if let Type::Struct(s) = &mut ty {
+            s.members.last_mut().expect("a member").size = Some(n);
+        }
+        ty.size_of()
+    };
+    let none = sized(0)?;
+    // less than the alignment, and so below 2^31: its bits, the highest first
+    let room = (0..31).rev().fold(0, |room: u32, bit| {
+        let more = room | 1 << bit;
+        if sized(more) == Some(none) { more } else { room }
+    });
+    Some(none.wrapping_sub(room))
+}
+
+/// The Rust has no checker, but the ends of a struct as it is and of one with its members in that order. What is no order of them makes
+/// none, and one whose array is not the last has no end.
+fn check_order(ty: &Type, order: &[u32]) -> Answer {
+    let Type::Struct(s) = ty else { return Err((9, 0)) };
+    let now = end((**s).clone()).ok_or((9, 0))?;
+    let is_once = (0..s.members.len() as u32).all(|k| order.iter().filter(|p| **p == k).count() == 1);
+    if order.len() != s.members.len() || !is_once {
+        return Err((23, 0));
+    }
+    let members = order.iter().map(|k| s.members[*k as usize].clone()).collect();
+    let new = end(StructType { name: s.name.clone(), members });
+    new.filter(|new| *new < now).map(u64::from).ok_or((23, 0))
+}
+
 /// What the Rust says of a question; `NOTHING` where it has no type, or no value, to be asked about. Buffers are asked about on tables
 /// that 01 accepts.
 pub fn answer(types: &[Option<Type>], checked: &Result<Good, Refusal>, q: &Question) -> String {
@@ -423,6 +487,14 @@ pub fn answer(types: &[Option<Type>], checked: &Result<Good, Refusal>, q: &Quest
         Question::Clean(e, buffer) => {
             let (_, ty) = checked.as_ref().ok().zip(of(e))?;
             Some(clean(ty, buffer))
+        }
+        Question::PlanOrder(e, list) => {
+            let (_, ty) = checked.as_ref().ok().zip(of(e))?;
+            Some(plan(ty, list))
+        }
+        Question::CheckOrder(e, order) => {
+            let (_, ty) = checked.as_ref().ok().zip(of(e))?;
+            Some(question::told(check_order(ty, order)))
         }
         // The six files have no such function.
         Question::Uniform(_) | Question::Move(..) => None,
