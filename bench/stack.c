@@ -1,7 +1,8 @@
 /* How much stack each call takes at the most of three tables of 256 entries, each within the next: nested arrays, nested structs, and both
- * in turn, for a block the last a struct in any case; views, sets and bit fields go by a path through all of them, what is cleaned is a gap
- * within all of them, and what moves to form 1 is the table in form 2. The call runs in a thread whose stack was painted before; what is no
- * longer paint was used, the thread's own start included. Ends with 1 where a call takes more than the header says (LEPUGASO_STACK). */
+ * in turn, for a block the last a struct in any case, and for an order one of three members; views, sets and bit fields go by a path
+ * through all of them, what is cleaned is a gap within all of them, and what moves to form 1 is the table in form 2. The call runs in a
+ * thread whose stack was painted before; what is no longer paint was used, the thread's own start included. Ends with 1 where a call takes
+ * more than the header says (LEPUGASO_STACK). */
 #include <pthread.h>
 #include <stdio.h>
 #include <stdlib.h>
@@ -15,17 +16,17 @@ static uint8_t file[12 * ENTRIES + 12 * ENTRIES + 10], form_2[12 * ENTRIES + 16 
 static size_t file_len, form_2_len;
 static uint8_t site[sizeof buf];
 static uint64_t mask, first;
-static uint32_t words[3] = {1, 2, 3};
+static uint32_t words[3] = {1, 2, 3}, order[3];
 static const uint32_t seven = 7;
 static uint32_t path[ENTRIES - 1];
 static enum {
     CHECK, SIZE, ALIGN, MIN_SIZE, LAYOUT_OF, UNIFORM, RANK, COMMON, TO_FORM_2, TO_FORM_1, WRITE, READ, CLEAN, VIEW, SET, INSERT,
-    EXTRACT, SITE_FRESH, SITE_MEMBER, SITE_CLEAR, SITE_SET, CALLS
+    EXTRACT, SITE_FRESH, SITE_MEMBER, SITE_CLEAR, SITE_SET, PLAN_ORDER, CHECK_ORDER, CALLS
 } way;
 static const char *const names[CALLS] = {
-    "check",       "size",       "align",    "min_size", "layout_of", "uniform", "rank",        "common",       "to_form_2",
-    "to_form_1",   "write",      "read",     "clean",    "view",      "set",     "insert_bits", "extract_bits", "site_fresh",
-    "site_member", "site_clear", "site_set",
+    "check",       "size",       "align",    "min_size",   "layout_of",   "uniform", "rank",        "common",       "to_form_2",
+    "to_form_1",   "write",      "read",     "clean",      "view",        "set",     "insert_bits", "extract_bits", "site_fresh",
+    "site_member", "site_clear", "site_set", "plan_order", "check_order",
 };
 enum { ARRAYS, STRUCTS, BOTH, TABLES };
 static lepugaso_answer answer;
@@ -44,8 +45,12 @@ static void nest(int table) {
     for (int k = 2; k < ENTRIES; k++) {
         int is_struct = k == 2 || table == STRUCTS || (table == BOTH && k % 2 == 0) || (way >= SITE_FRESH && k == ENTRIES - 1);
         if (is_struct) {
-            put(file + 12 * k, 12, 0, (uint8_t)members, 1);
+            /* Between two i32 the one before takes 48 bytes, and 32 in front of them. */
+            int between = way >= PLAN_ORDER && k == ENTRIES - 1;
+            put(file + 12 * k, 12, 0, (uint8_t)members, between ? 3 : 1);
+            if (between) types[members++] = 0;
             types[members++] = (uint8_t)(k - 1);
+            if (between) types[members++] = 0;
         } else {
             put(file + 12 * k, 9, 0, (uint8_t)(k - 1), 1);
         }
@@ -55,7 +60,7 @@ static void nest(int table) {
     path[ENTRIES - 2] = 2;
     uint8_t *end = file + 12 * ENTRIES;
     for (int m = 0; m < members; m++, end += 12) end[0] = types[m];
-    end[1] = 1, end[2] = (uint8_t)members, end[8] = 1;
+    end[1] = 1, end[2] = (uint8_t)members, end[3] = (uint8_t)(members >> 8), end[8] = 1;
     file_len = (size_t)(end - file) + 10;
     form_2_len = (size_t)lepugaso_to_form_2(file, file_len, form_2, sizeof form_2).value;
 }
@@ -91,10 +96,13 @@ static void *call(void *unused) {
         answer = lepugaso_site_member(file, file_len, last, 0, mask, buf, sizeof buf, site, sizeof site, &part, &part_len);
         break;
     case SITE_CLEAR: answer = lepugaso_site_clear(file, file_len, last, 0, &mask); break;
-    default:
+    case SITE_SET:
         /* The first step of the path is the member; its bit is clear, so that it is copied. */
         mask = 0;
         answer = lepugaso_site_set(file, file_len, last, 0, path + 1, ENTRIES - 2, &seven, 1, buf, sizeof buf, site, sizeof site, &mask);
+        break;
+    case PLAN_ORDER: answer = lepugaso_plan_order(file, file_len, last, order, 3); break;
+    default: answer = lepugaso_check_order(file, file_len, last, order, 3);
     }
     return unused;
 }
@@ -116,6 +124,7 @@ static size_t used(int table) {
     int at_path = (way >= VIEW && way <= EXTRACT) || way == SITE_SET;
     if (answer.refusal || (at_path && answer.value != (way == EXTRACT ? 15 : 8))) exit(1);
     if (way == CLEAN && (answer.value != 4 || first != 12)) exit(1);
+    if (way >= PLAN_ORDER && (answer.value != (way == PLAN_ORDER ? 3 : 32) || order[0] != 1)) exit(1);
     return STACK - clean;
 }
 

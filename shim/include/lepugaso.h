@@ -76,8 +76,8 @@ typedef struct lepugaso_layout {
 #define LEPUGASO_MEMBER(number) (UINT32_C(0x80000000) | (uint32_t)(number))
 
 /* A pointer that cannot be right, before anything is looked at: null with a length above 0 (null with length 0 is an empty region); null
- * or misaligned where a result goes; misaligned where words, steps or entry numbers are, whatever the length; a length that runs past the
- * end of the address space; a region to be written that shares a byte with another. Nothing is touched, place and value are 0. */
+ * or misaligned where a result goes; misaligned where words, steps, positions or entry numbers are, whatever the length; a length that runs
+ * past the end of the address space; a region to be written that shares a byte with another. Nothing is touched, place and value are 0. */
 #define LEPUGASO_BAD_POINTER 65535u
 
 /* The file is refused as a whole. Every call that takes one gives these, in this order. */
@@ -95,12 +95,12 @@ typedef struct lepugaso_layout {
 /* What was asked cannot be answered. Each call below says which of these it gives, and in which order. The place of 11 to 13 is the first
  * bad step of the path, counted from 0. */
 #define LEPUGASO_REFUSED_ENTRY 8u         /* no entry has this number */
-#define LEPUGASO_REFUSED_ABSENT 9u        /* the type has no such number, or no layout */
+#define LEPUGASO_REFUSED_ABSENT 9u        /* the type has no such number, no layout, or no members */
 #define LEPUGASO_REFUSED_NOT_STORABLE 10u /* the type holds a bool */
 #define LEPUGASO_REFUSED_MEMBER_STEP 11u  /* a member step outside a struct, or no such member; place is the step */
 #define LEPUGASO_REFUSED_INDEX 12u        /* an index not below the count; place is the step */
 #define LEPUGASO_REFUSED_INDEX_STEP 13u   /* an index step on a struct, scalar or atomic; place is the step */
-#define LEPUGASO_REFUSED_WORDS 14u        /* the wrong number of words, too few to read into, no single scalar, or for bits no i32 or u32 */
+#define LEPUGASO_REFUSED_WORDS 14u        /* the wrong number of words, too short a list, no single scalar, or for bits no i32 or u32 */
 #define LEPUGASO_REFUSED_SHORT_BUFFER 15u /* the buffer is below the size, or holds no whole element of a runtime array */
 #define LEPUGASO_REFUSED_F16_WORD 16u     /* a word above 65,535 for an f16; place is the word */
 #define LEPUGASO_REFUSED_LONG_BUFFER 17u  /* the buffer is above 4,294,967,295 bytes */
@@ -108,6 +108,7 @@ typedef struct lepugaso_layout {
 #define LEPUGASO_REFUSED_UNIFORM 19u      /* a rule of uniform buffers is broken; place is the entry that breaks it */
 #define LEPUGASO_REFUSED_NAMED 20u        /* a member has a name, which form 1 has no room for */
 #define LEPUGASO_REFUSED_NO_SITE 21u      /* no struct of fixed size and at most 64 members, or mask bits beyond them */
+#define LEPUGASO_REFUSED_ORDER 23u        /* an order of members that is not accepted: not every one once, or no smaller end */
 
 /* How many entries the file has. Refuses 1 to 7. */
 lepugaso_answer lepugaso_check(const uint8_t *file, size_t file_len);
@@ -259,6 +260,21 @@ lepugaso_answer lepugaso_site_clear(const uint8_t *file, size_t file_len, uint32
  * below the size, or has no whole element), and leaves `buf` and `*first` as they were.
  * A struct {u32, vec3<f32>, f32} has 12 such bytes, from 4 on: if none is 0, the value is 12 and `*first` 4; again, they are 0 and 32. */
 lepugaso_answer lepugaso_clean(const uint8_t *file, size_t file_len, uint32_t entry, uint8_t *buf, size_t buf_len, uint64_t *first);
+
+/* An order for the members of entry `entry`, a struct, that may save room: their positions by falling alignment, given or else the
+ * type's, ties as they stand, a runtime array last, into the front of `order`. A position is a member's number, counted from 0. The value
+ * is how many there are; later places of `order` stay. It promises that order and not a gain: lepugaso_check_order tells whether there is
+ * one. A struct {u32, vec4<f32>, u32} has 48 bytes; it is offered 1, 0, 2, and would have 32. A struct {vec3<f32>, f32, vec3<f32>, f32} has
+ * 32, each f32 in the room behind a vec3<f32>; it is offered 0, 2, 1, 3, and would have 48: of that lepugaso_check_order gives 23.
+ * Refuses 1 to 7, then 8, 9 (the type is no struct), 14 (the list is shorter than the members), and leaves `order` as it was. */
+lepugaso_answer lepugaso_plan_order(const uint8_t *file, size_t file_len, uint32_t entry, uint32_t *order, size_t order_len);
+
+/* Whether the members of entry `entry`, a struct, may stand in `order`, from whomever it comes: their positions, one after the other. It is
+ * accepted if every one of them is there once, a runtime array is still last, no number is above 4,294,967,295, and the end is smaller than
+ * it is now. The value is the new end: the size of the struct, or of an open one where its runtime array starts. A given size or align goes
+ * with its member, and a struct may hold a bool. The file stays: one with its members in that order is the caller's to write.
+ * Refuses 1 to 7, then 8, 9 (the type is no struct), 23: any other order, of whatever length. */
+lepugaso_answer lepugaso_check_order(const uint8_t *file, size_t file_len, uint32_t entry, const uint32_t *order, size_t order_len);
 
 #ifdef __cplusplus
 }

@@ -663,3 +663,46 @@ pub unsafe extern "C" fn lepugaso_clean(
         _ => BAD_POINTER,
     }
 }
+
+/// The positions of a struct's members by falling alignment, into the front of `order`.
+///
+/// # Safety
+/// As `lepugaso_check`.
+#[no_mangle]
+pub unsafe extern "C" fn lepugaso_plan_order(
+    file: *const u8,
+    file_len: usize,
+    entry: u32,
+    order: *mut u32,
+    order_len: usize,
+) -> Crossing {
+    match (Lent::new(file, file_len), Lent::new(order, order_len)) {
+        // SAFETY: the caller lends both, `order` to be written, and their pointers have passed the tests of a slice's. No byte of `order`
+        // is the file's.
+        (Some(file), Some(order)) if order.is_apart_from(&file) => unsafe {
+            lepugaso_surface_plan_order(file.start(), file.count(), entry, order.start(), order.count())
+        },
+        _ => BAD_POINTER,
+    }
+}
+
+/// Where a struct would end with its members in another order, if that is accepted.
+///
+/// # Safety
+/// As `lepugaso_check`.
+#[no_mangle]
+pub unsafe extern "C" fn lepugaso_check_order(
+    file: *const u8,
+    file_len: usize,
+    entry: u32,
+    order: *const u32,
+    order_len: usize,
+) -> Crossing {
+    match (Lent::new(file, file_len), Lent::new(order, order_len)) {
+        // SAFETY: the caller lends both, and their pointers have passed the tests of a slice's. Both are only read, so they may overlap.
+        (Some(file), Some(order)) => unsafe {
+            lepugaso_surface_check_order(file.start(), file.count(), entry, order.start(), order.count())
+        },
+        _ => BAD_POINTER,
+    }
+}

@@ -135,4 +135,18 @@ extern "C" {
         buf_len: usize,
         first: *mut u64,
     ) -> Crossing;
+    pub fn lepugaso_surface_plan_order(
+        file: *const u8,
+        file_len: usize,
+        entry: u32,
+        order: *mut u32,
+        order_len: usize,
+    ) -> Crossing;
+    pub fn lepugaso_surface_check_order(
+        file: *const u8,
+        file_len: usize,
+        entry: u32,
+        order: *const u32,
+        order_len: usize,
+    ) -> Crossing;
 }

@@ -1,6 +1,6 @@
 /* Every call on a good file, and every refusal of documents 01 and 02 that it can give; bit fields are in fields.c, the two forms of a
- * file and the moves between them in forms.c, site blocks in site.c, cleaning in clean.c. What is lent stands at the end of a page after
- * which nothing can be touched, and what is lent to be read cannot be written. */
+ * file and the moves between them in forms.c, site blocks in site.c, cleaning in clean.c, orders in orders.c. What is lent stands at the
+ * end of a page after which nothing can be touched, and what is lent to be read cannot be written. */
 #include "pages.h"
 #include "test.h"
 
@@ -90,6 +90,9 @@ static void refused_files(void) {
         uint64_t first = 5;
         EXPECT(lepugaso_clean(file, length, 0, buf, sizeof buf, &first), refusal, place, 0);
         HOLDS(first == 5);
+        EXPECT(lepugaso_plan_order(file, length, 0, &word, 1), refusal, place, 0);
+        HOLDS(word == 5);
+        EXPECT(lepugaso_check_order(file, length, 0, list, 1), refusal, place, 0);
         EXPECT(lepugaso_set(file, length, 0, NULL, 0, list, 1, buf, sizeof buf), refusal, place, 0);
         EXPECT(lepugaso_extract_bits(file, length, 0, NULL, 0, bytes, sizeof bytes, 0, 12), refusal, place, 0);
         EXPECT(lepugaso_insert_bits(file, length, 0, NULL, 0, 1, 0, 12, buf, sizeof buf), refusal, place, 0);

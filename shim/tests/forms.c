@@ -109,6 +109,12 @@ static const uint32_t paths[][5] = {
 };
 enum { PATHS = sizeof paths / sizeof paths[0] };
 
+/* How many positions, and the positions: the planned order of 8 and one of as many bytes, of 10 none but that in which it stands. */
+static const uint32_t orders[][6] = {
+    {0}, {1, 0}, {2, 0, 1}, {2, 1, 0}, {5, 1, 2, 0, 4, 3}, {5, 3, 0, 4, 2, 1}, {5, 0, 1, 2, 3, 4}, {5, 1, 2, 0, 4, 4},
+};
+enum { ORDERS = sizeof orders / sizeof orders[0] };
+
 /* The questions about a block, put to any entry: most are none, and a mask may have bits beyond the members. */
 static void same_blocks(struct file one, struct file other, uint32_t entry, const uint32_t *const steps[], const uint32_t *given) {
     static const uint64_t masks[] = {0, 10, UINT64_C(1) << 40};
@@ -140,8 +146,9 @@ static void same_answers(struct file one, struct file other) {
     static const uint32_t wide[MOST] = {65536, 2, 3, 4, 5, 65536, 7, 8, UINT32_MAX, 10, 11, 12, 13, 14, 15, 65536};
     const uint32_t *values[2] = {(const void *)lent(small, sizeof small), (const void *)lent(wide, sizeof wide)};
     uint32_t *list = (void *)fresh(2 * sizeof *list);
-    const uint32_t *steps[PATHS];
+    const uint32_t *steps[PATHS], *order[ORDERS];
     for (size_t k = 0; k < PATHS; k++) steps[k] = (const void *)lent(&paths[k][1], paths[k][0] * sizeof paths[k][0]);
+    for (size_t k = 0; k < ORDERS; k++) order[k] = (const void *)lent(&orders[k][1], orders[k][0] * sizeof orders[k][0]);
 
     EXPECT(lepugaso_check(one.bytes, one.length), 0, 0, ENTRIES);
     EXPECT(lepugaso_check(other.bytes, other.length), 0, 0, ENTRIES);
@@ -178,6 +185,10 @@ static void same_answers(struct file one, struct file other) {
                 ASK(lepugaso_insert_bits, entry, steps[k], count, 0x5A5, 3, 12, bytes, length);
             }
         }
+        for (size_t k = 0; k < ORDERS; k++) {
+            ASK(lepugaso_plan_order, entry, words + MOST - k, k);
+            ASK(lepugaso_check_order, entry, order[k], orders[k][0]);
+        }
         same_blocks(one, other, entry, steps, values[1]);
     }
 }
@@ -186,8 +197,8 @@ static void same_answers(struct file one, struct file other) {
 static void same_table(void) {
     struct file file = FILE_OF(named);
     same_answers(FILE_OF(form_1), file);
-    /* 0, 8 to 16, 18, 19 and 21: each of them was met, and none but them. */
-    HOLDS(seen == (1u | 0x1FF00 | 3u << 18 | 1u << 21));
+    /* 0, 8 to 16, 18, 19, 21 and 23: each of them was met, and none but them. */
+    HOLDS(seen == (1u | 0x1FF00 | 3u << 18 | 5u << 21));
 
     uint8_t *bytes = fresh(96);
     const uint8_t *at;
@@ -218,6 +229,12 @@ static void same_table(void) {
     HOLDS(*first == 4 && bytes[3] == 4 && bytes[4] == 0 && memcmp(bytes + 31, "\0\41\42\43\44\45\46\47\50\51\52\53\54\0", 14) == 0);
     EXPECT(lepugaso_clean(file.bytes, file.length, 8, bytes, 96, first), 0, 0, 0);
     HOLDS(*first == 96);
+
+    /* By falling alignment they stand at 0, 16, 36, 40 and 44 of 64 bytes. */
+    uint32_t *order = (void *)fresh(5 * sizeof *order);
+    EXPECT(lepugaso_plan_order(file.bytes, file.length, 8, order, 5), 0, 0, 5);
+    HOLDS(memcmp(order, (const uint32_t[]){1, 2, 0, 4, 3}, 5 * sizeof *order) == 0);
+    EXPECT(lepugaso_check_order(file.bytes, file.length, 8, order, 5), 0, 0, 64);
 }
 
 typedef lepugaso_answer move(const uint8_t *, size_t, uint8_t *, size_t);

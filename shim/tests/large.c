@@ -157,6 +157,45 @@ static void many_gaps(const uint8_t *file, size_t length) {
     HOLDS(*first == LAST_GAP + 3 && memcmp(buf, rows, SIZE) == 0);
 }
 
+/* A better order of the last type's members: the f32 with align 16, then all that is aligned to 8, then the other f32. */
+enum { WIDE = 254, NEW_END = (8 + 16 * (WIDE * (WIDE + 1) / 2) + 4 * (MEMBERS - WIDE - 1) + 15) / 16 * 16 };
+static uint32_t order[MEMBERS + 1];
+
+static void fill_order(void) {
+    uint32_t wide = 1, other = 1 + WIDE;
+    order[0] = 4 * (LAST - 2);
+    for (uint32_t k = 0; k < MEMBERS; k++) {
+        if (k != order[0]) order[k + 1 == MEMBERS || (k < order[0] && k % 4 == 3) ? wide++ : other++] = k;
+    }
+    HOLDS(wide == 1 + WIDE && other == MEMBERS);
+}
+
+static void many_members(const uint8_t *file, size_t length) {
+    uint32_t *planned = (void *)fresh(sizeof order - sizeof *order);
+    EXPECT(lepugaso_plan_order(file, length, LAST, planned, MEMBERS - 1), LEPUGASO_REFUSED_WORDS, 0, 0);
+    HOLDS(planned[0] == 0 && memcmp(planned, planned + 1, (MEMBERS - 1) * sizeof *planned) == 0);
+    EXPECT(lepugaso_plan_order(file, length, LAST, planned, MEMBERS), 0, 0, MEMBERS);
+    HOLDS(memcmp(planned, order, MEMBERS * sizeof *planned) == 0);
+    const void *offered = sealed((uint8_t *)planned, MEMBERS * sizeof *planned), *too_many = lent(order, sizeof order);
+    EXPECT(lepugaso_check_order(file, length, LAST, offered, MEMBERS), 0, 0, NEW_END);
+    EXPECT(lepugaso_check_order(file, length, LAST, offered, MEMBERS - 1), LEPUGASO_REFUSED_ORDER, 0, 0);
+    EXPECT(lepugaso_check_order(file, length, LAST, too_many, MEMBERS + 1), LEPUGASO_REFUSED_ORDER, 0, 0);
+}
+
+/* Positions that are those of members only in their low bits. */
+static void no_positions(const uint8_t *file, size_t length) {
+    uint32_t *wrong = (void *)fresh(MEMBERS * sizeof *wrong);
+    memcpy(wrong, order, MEMBERS * sizeof *wrong);
+    for (uint32_t bit = 10; bit < 32; bit++) {
+        for (uint32_t at = 0; at < MEMBERS; at += MEMBERS - 1) {
+            wrong[at] += UINT32_C(1) << bit;
+            EXPECT(lepugaso_check_order(file, length, LAST, wrong, MEMBERS), LEPUGASO_REFUSED_ORDER, 0, 0);
+            wrong[at] = order[at];
+        }
+    }
+    EXPECT(lepugaso_check_order(file, length, LAST, wrong, MEMBERS), 0, 0, NEW_END);
+}
+
 static void many_steps(const uint8_t *file, size_t length) {
     const void *steps = lent(path, STEPS * sizeof *path), *too_many = lent(path, sizeof path);
     const void *word = lent((const uint32_t[]){0x89ABCDEF}, sizeof(uint32_t));
@@ -238,6 +277,8 @@ static void no_entries(const uint8_t *file, size_t length) {
             NO_ENTRY(lepugaso_site_set(file, length, entry, 0, NULL, 0, word, 1, factory, 4, buf, 4, mask));
             NO_ENTRY(lepugaso_site_clear(file, length, entry, 0, mask));
             NO_ENTRY(lepugaso_clean(file, length, entry, buf, 4, first));
+            NO_ENTRY(lepugaso_plan_order(file, length, entry, word, 1));
+            NO_ENTRY(lepugaso_check_order(file, length, entry, word, 1));
 #undef NO_ENTRY
             HOLDS(part == factory && part_len == 0);
         }
@@ -554,6 +595,16 @@ static void long_lengths(const uint8_t *file, const uint8_t *large) {
                LEPUGASO_REFUSED_INDEX_STEP, BLOCK_STEPS, 0);
     }
     HOLDS(mask == 0);
+    /* A list to plan into has no greatest length, and one to be checked has one alone. */
+    for (uint32_t bit = 10; bit <= 32; bit++) {
+        memset(many, 0xA5, MEMBERS * sizeof *many);
+        EXPECT(lepugaso_plan_order(large, LENGTH, LAST, many, (size_t)1 << bit), 0, 0, MEMBERS);
+        HOLDS(memcmp(many, order, MEMBERS * sizeof *many) == 0);
+    }
+    EXPECT(lepugaso_check_order(large, LENGTH, LAST, many, MEMBERS), 0, 0, NEW_END);
+    for (uint32_t bit = 0; bit <= 32; bit++) {
+        EXPECT(lepugaso_check_order(large, LENGTH, LAST, many, MEMBERS + ((size_t)1 << bit)), LEPUGASO_REFUSED_ORDER, 0, 0);
+    }
 }
 
 /* A file moved with the room for it alone, and refused with a byte less. */
@@ -578,6 +629,7 @@ static void moves(uint32_t start) {
     questions(two, length_2);
     many_words(two, length_2);
     many_gaps(two, length_2);
+    many_members(two, length_2);
     many_steps(two, length_2);
     deep_member(two, length_2);
 }
@@ -612,12 +664,14 @@ int main(void) {
     const uint8_t *file = lent(few, sizeof few), *large = large_file(0);
     fill_rows();
     fill_path();
+    fill_order();
     for (size_t k = 0; k < 3; k++) {
         const uint8_t *at = large_file(starts[k]);
         size_t length = starts[k] + (size_t)LENGTH;
         questions(at, length);
         many_words(at, length);
         many_gaps(at, length);
+        many_members(at, length);
         many_steps(at, length);
         deep_member(at, length);
         no_entries(at, length);
@@ -628,6 +682,7 @@ int main(void) {
     long_lists(file);
     large_steps(file, large);
     no_members(large, LENGTH);
+    no_positions(large, LENGTH);
     large_block();
     long_blocks();
     largest_block();

@@ -40,6 +40,9 @@ static void bad_file(const uint8_t *at, size_t length) {
     uint64_t first = 5;
     REFUSED(lepugaso_clean(at, length, 0, buf, sizeof buf, &first));
     HOLDS(first == 5);
+    REFUSED(lepugaso_plan_order(at, length, 0, &word, 1));
+    HOLDS(word == 5);
+    REFUSED(lepugaso_check_order(at, length, 0, list, 1));
     REFUSED(lepugaso_set(at, length, 0, NULL, 0, list, 1, buf, sizeof buf));
     REFUSED(lepugaso_extract_bits(at, length, 0, NULL, 0, bytes, sizeof bytes, 0, 12));
     REFUSED(lepugaso_insert_bits(at, length, 0, NULL, 0, 1, 0, 12, buf, sizeof buf));
@@ -85,6 +88,8 @@ static void files(void) {
            0);
     EXPECT(lepugaso_site_clear(NULL, 0, 0, 0, &mask), LEPUGASO_REFUSED_SHORT_FILE, 0, 0);
     EXPECT(lepugaso_clean(NULL, 0, 0, buf, sizeof buf, &first), LEPUGASO_REFUSED_SHORT_FILE, 0, 0);
+    EXPECT(lepugaso_plan_order(NULL, 0, 0, &word, 1), LEPUGASO_REFUSED_SHORT_FILE, 0, 0);
+    EXPECT(lepugaso_check_order(NULL, 0, 0, list, 1), LEPUGASO_REFUSED_SHORT_FILE, 0, 0);
     EXPECT(lepugaso_check(last, 0), LEPUGASO_REFUSED_SHORT_FILE, 0, 0);
 }
 
@@ -143,7 +148,7 @@ static void overlaps(void) {
     }
 }
 
-/* Words that cannot be, to the four calls that take some; and as a path. */
+/* Words that cannot be, to the four calls that take some; as a path; and as an order. */
 static void bad_words(uint32_t *at, size_t count) {
     static const uint32_t word[] = {1};
     static const uint8_t bytes[4];
@@ -175,6 +180,10 @@ static void bad_words(uint32_t *at, size_t count) {
     REFUSED(lepugaso_site_set(NULL, 0, 9, 9, at, count, word, 1, NULL, 0, NULL, 0, &mask));
     REFUSED(lepugaso_site_set(NULL, 0, 9, 9, NULL, 0, at, count, NULL, 0, NULL, 0, &mask));
     HOLDS(mask == 0);
+    REFUSED(lepugaso_plan_order(form_1, sizeof form_1, 1, at, count));
+    REFUSED(lepugaso_plan_order(NULL, 0, 9, at, count));
+    REFUSED(lepugaso_check_order(form_1, sizeof form_1, 1, at, count));
+    REFUSED(lepugaso_check_order(NULL, 0, 9, at, count));
     HOLDS(buf[0] == 6 && buf[1] == 7 && buf[2] == 8 && buf[3] == 9);
 }
 
@@ -365,6 +374,10 @@ static void words_and_buffers(void) {
     EXPECT(lepugaso_insert_bits(file, sizeof file, 0, NULL, 0, 1, 0, 12, NULL, 0), LEPUGASO_REFUSED_SHORT_BUFFER, 0, 0);
     EXPECT(lepugaso_extract_bits(file, sizeof file, 0, words, 0, (uint8_t *)UINTPTR_MAX, 0, 0, 12), LEPUGASO_REFUSED_SHORT_BUFFER, 0, 0);
     EXPECT(lepugaso_insert_bits(file, sizeof file, 0, words, 0, 1, 0, 12, (uint8_t *)UINTPTR_MAX, 0), LEPUGASO_REFUSED_SHORT_BUFFER, 0, 0);
+    EXPECT(lepugaso_plan_order(form_1, sizeof form_1, 1, NULL, 0), LEPUGASO_REFUSED_WORDS, 0, 0);
+    EXPECT(lepugaso_plan_order(form_1, sizeof form_1, 1, (uint32_t *)(UINTPTR_MAX - 3), 0), LEPUGASO_REFUSED_WORDS, 0, 0);
+    EXPECT(lepugaso_check_order(form_1, sizeof form_1, 1, NULL, 0), LEPUGASO_REFUSED_ORDER, 0, 0);
+    EXPECT(lepugaso_check_order(form_1, sizeof form_1, 1, (uint32_t *)(UINTPTR_MAX - 3), 0), LEPUGASO_REFUSED_ORDER, 0, 0);
 
     /* A region that is empty shares no byte with the one that it lies in. */
     EXPECT(lepugaso_write(file, sizeof file, 0, words, 1, (uint8_t *)words + 2, 0), LEPUGASO_REFUSED_SHORT_BUFFER, 0, 0);
@@ -375,6 +388,7 @@ static void words_and_buffers(void) {
     EXPECT(lepugaso_set(file, sizeof file, 0, NULL, 0, &words[1], 0, (uint8_t *)words, sizeof words), LEPUGASO_REFUSED_WORDS, 0, 0);
     EXPECT(lepugaso_insert_bits(file, sizeof file, 0, words, 1, 1, 0, 12, (uint8_t *)words + 2, 0), LEPUGASO_REFUSED_SHORT_BUFFER, 0, 0);
     EXPECT(lepugaso_insert_bits((uint8_t *)words + 2, 0, 0, NULL, 0, 1, 0, 12, (uint8_t *)words, 4), LEPUGASO_REFUSED_SHORT_FILE, 0, 0);
+    EXPECT(lepugaso_plan_order((uint8_t *)words + 2, 0, 0, words, 3), LEPUGASO_REFUSED_SHORT_FILE, 0, 0);
 
     /* A buffer is of bytes, and may begin anywhere. */
     EXPECT(lepugaso_write(file, sizeof file, 0, words, 1, buf + 1, 4), 0, 0, 4);
@@ -596,6 +610,38 @@ static void clean_overlaps(void) {
     }
 }
 
+/* A planning of {u32, vec4<u32>, u32} with the file and the list at these places: refused exactly where they share a byte. In an empty list
+ * there is no place, and it shares none. */
+#define ORDERED U32, VECTOR(4, 0), STRUCT(0, 3), MEMBER(0), MEMBER(1), MEMBER(0)
+static void plan_at(size_t file_at, size_t list) {
+    static const uint8_t ordered[] = {ORDERED, TRAILER(3, 3)};
+    static const uint32_t planned[] = {1, 0, 2};
+    enum { LENT = sizeof planned + SPARE * sizeof planned[0] };
+    int shared = shares(list, LENT, file_at, sizeof ordered);
+    union memory m = filled_memory(), expected;
+    memcpy(m.bytes + file_at, ordered, sizeof ordered);
+    expected = m;
+    EXPECT(lepugaso_plan_order(m.bytes + file_at, sizeof ordered, 2, &m.words[list / 4], 0), LEPUGASO_REFUSED_WORDS, 0, 0);
+    HOLDS(memcmp(&m, &expected, sizeof m) == 0);
+    if (!shared) memcpy(expected.bytes + list, planned, sizeof planned);
+    EXPECT(lepugaso_plan_order(m.bytes + file_at, sizeof ordered, 2, &m.words[list / 4], 3 + SPARE), shared ? LEPUGASO_BAD_POINTER : 0, 0,
+           shared ? 0 : 3);
+    HOLDS(memcmp(&m, &expected, sizeof m) == 0);
+}
+
+static void plan_overlaps(void) {
+    for (size_t list = 0; list + 16 <= MEMORY; list += 4) {
+        for (size_t off = 0; off < 4; off++) plan_at(3 * FILE_AT + off, list);
+    }
+    /* An order that is only checked may lie in the file, here before its types. */
+    static const union {
+        uint8_t bytes[12 + 72 + 10];
+        uint32_t words[3];
+    } both = {{LE32(1), LE32(0), LE32(2), ORDERED, LE16(3), LE16(3), LE32(12), LE16(1)}};
+    EXPECT(lepugaso_check_order(both.bytes, sizeof both.bytes, 2, both.words, 3), 0, 0, 32);
+    EXPECT(lepugaso_check_order(both.bytes, sizeof both.bytes, 2, both.words, 2), LEPUGASO_REFUSED_ORDER, 0, 0);
+}
+
 /* What is only read may overlap: words, and a buffer, that lie within the file. */
 static void read_only_overlaps(void) {
     union memory m = filled_memory();
@@ -722,6 +768,7 @@ int main(void) {
     block_overlaps();
     shown_overlaps();
     clean_overlaps();
+    plan_overlaps();
     read_only_overlaps();
     moves();
     moved_overlaps();
