@@ -1,30 +1,23 @@
 -- Laws of the passes of the planner, by what is left of the planned order.
 --
--- In order: positions after positions; what is left of the planned order; a pass for an alignment; the last pass, for runtime arrays.
+-- In order: what is left of the planned order; a pass for an alignment; the last pass, for runtime arrays.
 -- Assumes nothing.
 use Prim.Native.Nat.{ℕ, zero, suc, _+_, _-_, _/_, _^_, _<_, _≤_}
-use mathlib.Core.List.{List, [], _∷_, _++_, append-assoc, append-nil}
+use mathlib.Core.List.{List, [], _++_, append-assoc, append-nil}
 use mathlib.Core.Path.{_≡_, refl, ap, sym, _∙_}
-use native.Mathlib.Nat.{add-zero, zero-add, pow-suc}
+use native.Mathlib.Nat.{zero-add, pow-suc}
 use native.Mathlib.Omega.{arith}
-use lib.ListN.{length, set, drop, length-append}
+use lib.ListN.{length, drop, length-append}
 use lib.Seq.{sets, sets-eq, length-sets}
 use Rattle.wgsl.specs.Types.{Members}
 use Rattle.wgsl.specs.Rule.{countOf}
 use Rattle.wgsl.specs.Order.{alignedAt, falling, runtimesAt, plannedOrder}
 use Rattle.wgsl.proofs.OrderPlanned.{planned-length}
+use Rattle.puts.proofs.PutLaws.{sets-append}
 use Rattle.layout_values.specs.declared.value.Value.{Value}
 use Rattle.orders_members.specs.Entries.{Struct}
 use Rattle.orders_plan.specs.Keyed.{keyedAt}
 use Rattle.orders_plan.proofs.Keyed.{keyed-aligned, keyed-runtimes}
-
--- ---- positions after positions
-
-sets-append : (x y b : List ℕ) (at : ℕ) → sets (sets b at x) (at + length x) y ≡ sets b at (x ++ y)
-sets-append [] y b at = rw (add-zero at)
-sets-append (a ∷ x) y b at =
-    let e : at + suc (length x) ≡ suc at + length x = omega arith in
-    rw e (sets-append x y (set b at a) (suc at))
 
 -- ---- what is left of the planned order
 
