@@ -119,12 +119,12 @@ single-cleaned before said a b x y p q r s = (single saidCleaned cleanedFrom cle
 
 -- ---- the mask of a site block, and its buffer
 
--- Two results that a claim of a fresh block or of clearing allows are the same, the answer and the mask. `said` is what `freshCall` or
--- `clearCall` says, and `before` what the mask was.
+-- Two results that a claim of an inheriting block or of clearing allows are the same, the answer and the mask. `said` is what
+-- `inheritingCall` or `clearCall` says, and `before` what the mask was.
 pub single-mask : (before : ℕ) (said : Said ℕ) (a b : Number) (x y : ℕ) → saidNumber a ≡ zeroOf said → saidNumber b ≡ zeroOf said → x ≡ maskAfter before said → y ≡ maskAfter before said → (a ≡ b) × (x ≡ y)
 single-mask before said a b x y p q r s = (single-number a b p q, r ∙ sym s)
 
--- The same of a set on site: the answer, the site buffer and the mask.
+-- The same of a fresh block and of a set on site: the answer, the site buffer and the mask.
 pub single-site : (before : List ℕ) (mask : ℕ) (said : Said SiteDone) (a b : Number) (x y : List ℕ) (m n : ℕ) → saidNumber a ≡ siteAnswer said → saidNumber b ≡ siteAnswer said → x ≡ siteAfter before said → y ≡ siteAfter before said → m ≡ maskSet mask said → n ≡ maskSet mask said → (a ≡ b) × (x ≡ y) × (m ≡ n)
 single-site before mask said a b x y m n p q r s u v = (single-number a b p q, r ∙ sym s, u ∙ sym v)
 

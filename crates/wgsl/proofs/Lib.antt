@@ -61,10 +61,15 @@ pub mod WideCase
 pub mod FormCase
 pub mod SiteMask
 pub mod SiteWitness
+pub mod StartWitness
 pub mod CleanWitness
 pub mod OrderWitness
 pub mod Site
+pub mod Start
+pub mod Changes
+pub mod Starts
 pub mod SiteCase
+pub mod StartCase
 pub mod CleanCase
 pub mod OrderCase
 pub mod OrderList

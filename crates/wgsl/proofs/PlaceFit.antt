@@ -23,7 +23,7 @@ use Rattle.wgsl.specs.Rank.{commonOfAll}
 use Rattle.wgsl.specs.BitFieldCall.{integerOf, integerAt, extractCall, insertCall}
 use Rattle.wgsl.specs.Uniform.{mayLive, uniformCall}
 use Rattle.wgsl.specs.Form.{toForm2, toForm1, formIs, putOut, moveOnCall, moveBackCall}
-use Rattle.wgsl.specs.Site.{blockEntry, blockIn, memberOf, freshCall, memberCall, copiedIn, siteSetCall, clearCall}
+use Rattle.wgsl.specs.Site.{blockEntry, blockIn, memberOf, inheritingCall, freshCall, memberCall, copiedIn, siteSetCall, clearCall}
 use Rattle.wgsl.specs.Clean.{cleanType, cleanCall}
 use Rattle.wgsl.specs.Order.{membersIn, structMembers, newEnd, planMembers, planCall, orderCall}
 use Rattle.wgsl.specs.Claim.{PlaceFits, PlacesFit}
@@ -194,9 +194,9 @@ fits-enter : (t : Ty) (k : ℕ) → PlaceFits (memberOf t k)
 unfolding memberOf
 fits-enter t k number place e = omega (arith, enter-place 0 (shapeOf 0 t) (path.member k) .0 number place e)
 
-fits-fresh : (f : List ℕ) (e : ℕ) → PlaceFits (freshCall f e)
-unfolding freshCall
-fits-fresh f e = fits-then (blockEntry f e 0 0) _ (fits-block f e 0 0) (λ t q. fits-good _)
+fits-inheriting : (f : List ℕ) (e : ℕ) → PlaceFits (inheritingCall f e)
+unfolding inheritingCall
+fits-inheriting f e = fits-then (blockEntry f e 0 0) _ (fits-block f e 0 0) (λ t q. fits-good _)
 
 fits-clear : (f : List ℕ) (e k mask : ℕ) → PlaceFits (clearCall f e k mask)
 unfolding clearCall
@@ -204,13 +204,22 @@ fits-clear f e k mask =
     fits-then (blockEntry f e mask 0) _ (fits-block f e mask 0) (λ t q.
     fits-then (memberOf t k) _ (fits-enter t k) (λ m h. fits-good _))
 
-fits-member : (f : List ℕ) (e k mask : ℕ) (factory site : List ℕ) → PlaceFits (memberCall f e k mask factory site)
-unfolding memberCall blockIn
-fits-member f e k mask factory site =
+fits-both : (f : List ℕ) (e mask : ℕ) (factory site : List ℕ) → PlaceFits (blockIn f e mask factory site)
+unfolding blockIn
+fits-both f e mask factory site =
     let bytes = max (length factory) (length site) in
-    fits-then (blockIn f e mask factory site) _
-    (fits-then (blockEntry f e mask bytes) _ (fits-block f e mask bytes) (λ t q.
-    fits-refuse _ _ _ _ (omega arith) (λ ok. fits-good _))) (λ t q. fits-enter t k)
+    fits-then (blockEntry f e mask bytes) _ (fits-block f e mask bytes) (λ t q.
+    fits-refuse _ _ _ _ (omega arith) (λ ok. fits-good _))
+
+fits-fresh : (f : List ℕ) (e : ℕ) (factory site : List ℕ) → PlaceFits (freshCall f e factory site)
+unfolding freshCall
+fits-fresh f e factory site =
+    fits-then (blockIn f e 0 factory site) _ (fits-both f e 0 factory site) (λ t q. fits-good _)
+
+fits-member : (f : List ℕ) (e k mask : ℕ) (factory site : List ℕ) → PlaceFits (memberCall f e k mask factory site)
+unfolding memberCall
+fits-member f e k mask factory site =
+    fits-then (blockIn f e mask factory site) _ (fits-both f e mask factory site) (λ t q. fits-enter t k)
 
 fits-site-set : (f : List ℕ) (e k : ℕ) (steps ws : List ℕ) (mask : ℕ) (factory site : List ℕ) → PlaceFits (siteSetCall f e k steps ws mask factory site)
 unfolding siteSetCall memberOf
@@ -274,6 +283,7 @@ places-fit f =
           fits-then (orRefuse 18 0 (commonOfAll entries)) _ (fits-or _ _ _ zero-fits) (λ c g. fits-good _)));
       to-form-2 = λ out. fits-next (formIs 1 f) _ (fits-form 1 f) (fits-out (toForm2 f) out);
       to-form-1 = λ out. fits-next (formIs 2 f) _ (fits-form 2 f) (fits-refuse _ _ _ _ zero-fits (λ ok. fits-out (toForm1 f) out));
+      site-inheriting = fits-inheriting f;
       site-fresh = fits-fresh f;
       site-clear = fits-clear f;
       site-member = fits-member f;

@@ -1,7 +1,8 @@
 -- What is claimed of the definitions of document 02, request by request. Each proof is one citation: read the statements.
 --
 -- Here: E1, strides; E2, bit fields; E4, vectors of three bools; E5, the uniform profile; E6, scalars of 64 bits; E7, the two forms of a
--- file; E8, factory sheet and site block; E9, the gaps cleaned; E10, a better member order. That the places of refusals fit and what the calls have in common with those of 01 stands in Claims.
+-- file; E8, factory sheet and site block; E9, the gaps cleaned; E10, a better member order; E11, the two starts of a site block.
+-- That the places of refusals fit and what the calls have in common with those of 01 stands in Claims.
 -- Assumes nothing.
 use Prim.Native.Nat.{ℕ, _+_, _-_, _*_, _%_, _^_, _<_, _≤_, max, min}
 use mathlib.Core.Bool.{true, false, cond}
@@ -28,8 +29,9 @@ use Rattle.wgsl.specs.Uniform.{reaches, uniformCall}
 use Rattle.wgsl.specs.File.{Trailer, trailerOf, checkTrailer}
 use Rattle.wgsl.specs.Form.{memberPlace, nameAt, toForm1, toForm2, filled, moveOnCall, moveBackCall, oldTrailer}
 use Rattle.wgsl.specs.Claim.{Holds, together, IsStride, ByElement, HoldsBool, LaidOut, Stored, HasRoom, GoodIf, CanField, Reaches, CanUniform, LowestBroken, SameReached, SameAnswers, OfForm, CanMoveOn, CanMoveBack, PlaceFits, memberStep}
-use Rattle.wgsl.specs.Site.{blockIn, memberOf, SiteDone, freshCall, memberCall, siteSetCall, clearCall}
-use Rattle.wgsl.specs.SiteClaim.{IsBlock, SetOnSite, Cleared}
+use Rattle.wgsl.specs.Site.{blockIn, memberOf, SiteDone, inheritingCall, freshCall, memberCall, siteSetCall, clearCall}
+use Rattle.wgsl.specs.SiteClaim.{bytesIn, shownBytes, IsBlock, SetOnSite, Cleared}
+use Rattle.wgsl.specs.StartClaim.{Fresh, Kept, madeFresh, madeInheriting, Change, answersTo, leftAfter, neverSets, ShowAlike, Independent}
 use Rattle.wgsl.specs.Clean.{isCovered, CleanDone, cleanCall}
 use Rattle.wgsl.specs.CleanClaim.{OnPath, extentIn, CanClean, Cleans}
 use Rattle.wgsl.specs.Demand.{Given, Leading, Words, SetThenRead}
@@ -39,6 +41,7 @@ use Rattle.wgsl.specs.UniformCase.{uniformCasesPass}
 use Rattle.wgsl.specs.WideCase.{wideCasesPass}
 use Rattle.wgsl.specs.FormCase.{formCasesPass}
 use Rattle.wgsl.specs.SiteCase.{siteCasesPass}
+use Rattle.wgsl.specs.StartCase.{startCasesPass}
 use Rattle.wgsl.specs.CleanCase.{cleanCasesPass}
 use Rattle.wgsl.specs.Order.{plannedOrder, planCall, endOf, orderCall}
 use Rattle.wgsl.specs.OrderClaim.{IsPlanned, CanPlan, Accepted, CanOrder}
@@ -60,6 +63,9 @@ use Rattle.wgsl.proofs.MoveCall as moves
 use Rattle.wgsl.proofs.FormCase.{form-cases-pass}
 use Rattle.wgsl.proofs.Site as blocks
 use Rattle.wgsl.proofs.SiteCase.{site-cases-pass}
+use Rattle.wgsl.proofs.Start as start
+use Rattle.wgsl.proofs.Starts as starts
+use Rattle.wgsl.proofs.StartCase.{start-cases-pass}
 use Rattle.wgsl.proofs.CleanPath as clean-path
 use Rattle.wgsl.proofs.CleanCall as clean-call
 use Rattle.wgsl.proofs.CleanSame as clean-same
@@ -315,9 +321,9 @@ block-is = blocks.block-is
 pub block-if : {f : List ℕ} {e mask : ℕ} {factory site : List ℕ} {t : Ty} → IsBlock f e mask factory site t → blockIn f e mask factory site ≡ good t
 block-if = blocks.block-if
 
--- "A fresh block has mask 0": no member is the site's.
-pub fresh-shows : (f : List ℕ) (e mask : ℕ) → freshCall f e ≡ good mask → (mask ≡ 0) × ((k : ℕ) → bitAt mask k ≡ false)
-fresh-shows = blocks.fresh-shows
+-- "mask 0", of an inheriting block since E11: no member is the site's.
+pub inheriting-shows : (f : List ℕ) (e mask : ℕ) → inheritingCall f e ≡ good mask → (mask ≡ 0) × ((k : ℕ) → bitAt mask k ≡ false)
+inheriting-shows = blocks.inheriting-shows
 
 -- "the member then shows its old bytes with that scalar replaced"; "Other bits and bytes stay"; every other member shows what it showed, and
 -- the result is a block again: over any mask and any site buffer.
@@ -409,3 +415,35 @@ order-new-one = order-call.order-new-one
 -- An order with no gain and orders with one, each way not to be accepted, and the edges of the refusals.
 pub order-cases : T orderCasesPass
 order-cases = order-cases-pass
+
+-- ---- E11: fresh site blocks start as copies
+
+-- "the fresh copy gives all that asking for a member gives, up to 15": it is good exactly if none of these is due.
+pub fresh-good-if : (f : List ℕ) (e : ℕ) (factory site : List ℕ) → GoodIf (freshCall f e factory site) ((t : Ty) × IsBlock f e 0 factory site t)
+fresh-good-if = start.fresh-good-if
+
+-- "a fresh block has the factory's bytes copied into the site buffer and every member's bit set": every member shows these bytes, whichever
+-- factory buffer lies beside it; later bytes of the site buffer stay; it is a block.
+pub fresh-did : {f : List ℕ} {e : ℕ} {factory site : List ℕ} {d : SiteDone} → freshCall f e factory site ≡ good d → (t : Ty) × Fresh f e factory site d t
+fresh-did = start.fresh-did
+
+-- "E8's answers after any set or clear stand, from either start": any sets and clears are answered alike, and after them an ask for any
+-- member finds it in the same place with the same bytes; the inheriting block may lie in another site buffer.
+pub starts-agree : (f : List ℕ) (e : ℕ) (factory site : List ℕ) (d : SiteDone) → freshCall f e factory site ≡ good d → (mask : ℕ) → inheritingCall f e ≡ good mask → (other : List ℕ) (t : Ty) → blockIn f e mask factory other ≡ good t → (cs : List Change) → (answersTo f e factory cs (madeFresh d) ≡ answersTo f e factory cs (madeInheriting other mask)) × ShowAlike f e factory t (leftAfter f e factory cs (madeFresh d)) (leftAfter f e factory cs (madeInheriting other mask))
+starts-agree = starts.starts-agree
+
+-- The same of any two blocks that show alike.
+pub changes-alike : {f : List ℕ} {e : ℕ} {factory : List ℕ} {t : Ty} {a b : Kept} → ShowAlike f e factory t a b → (cs : List Change) → (answersTo f e factory cs a ≡ answersTo f e factory cs b) × ShowAlike f e factory t (leftAfter f e factory cs a) (leftAfter f e factory cs b)
+changes-alike = starts.changes-alike
+
+-- "When the factory sheet changed, boards in the field changed with it.": a fresh block does not, until a member is cleared;
+pub fresh-independent : (f : List ℕ) (e : ℕ) (factory site : List ℕ) (d : SiteDone) → freshCall f e factory site ≡ good d → (other : List ℕ) (t : Ty) → blockIn f e 0 other site ≡ good t → (cs : List Change) → Independent f e factory other t cs (madeFresh d)
+fresh-independent = starts.fresh-independent
+
+-- an inheriting one shows of a member what lies in the factory buffer beside it, x, until a scalar is set in it.
+pub inheriting-follows : (f : List ℕ) (e mask : ℕ) → inheritingCall f e ≡ good mask → (factory site : List ℕ) (cs : List Change) (k : ℕ) → neverSets k cs ≡ true → (n : Target) (x : List ℕ) → shownBytes n (leftAfter f e factory cs (madeInheriting site mask) .mask) k x (leftAfter f e factory cs (madeInheriting site mask) .site) ≡ bytesIn n x
+inheriting-follows = starts.inheriting-follows
+
+-- The edges of the fresh copy, and the two starts side by side.
+pub start-cases : T startCasesPass
+start-cases = start-cases-pass

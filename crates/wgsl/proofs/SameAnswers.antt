@@ -16,7 +16,7 @@ use Rattle.wgsl.specs.Rule.{typesOf}
 use Rattle.wgsl.specs.Call.{checkOf, entryOf, entryFor, sizeCall, alignCall, minSizeCall, layoutCall, readCall, writeCall, targetCall, viewCall, setCall, rankCall, commonCall}
 use Rattle.wgsl.specs.BitFieldCall.{integerAt, extractCall, insertCall}
 use Rattle.wgsl.specs.Uniform.{memberTypes, refersTo, uniformCall}
-use Rattle.wgsl.specs.Site.{blockEntry, blockIn, freshCall, memberCall, siteSetCall, clearCall}
+use Rattle.wgsl.specs.Site.{blockEntry, blockIn, inheritingCall, freshCall, memberCall, siteSetCall, clearCall}
 use Rattle.wgsl.specs.Clean.{cleanCall}
 use Rattle.wgsl.specs.Order.{structMembers, planCall, orderCall}
 use Rattle.wgsl.specs.Claim.{Reaches, SameReached, SameAnswers}
@@ -100,12 +100,16 @@ module _ {f g : List ℕ} (same : SameEntries f g) (types : typesOf f ≡ typesO
   unfolding blockEntry
   block-same e mask bytes = rw (entry-same e) refl
 
+  both-same : (e mask : ℕ) (factory site : List ℕ) → blockIn f e mask factory site ≡ blockIn g e mask factory site
+  unfolding blockIn
+  both-same e mask factory site = rw (block-same e mask (max (length factory) (length site))) refl
+
   member-same : (e k mask : ℕ) (factory site : List ℕ) → memberCall f e k mask factory site ≡ memberCall g e k mask factory site
-  unfolding memberCall blockIn
-  member-same e k mask factory site = rw (block-same e mask (max (length factory) (length site))) refl
+  unfolding memberCall
+  member-same e k mask factory site = rw (both-same e mask factory site) refl
 
   pub same-answers : SameAnswers f g
-  unfolding checkOf sizeCall alignCall minSizeCall layoutCall readCall writeCall viewCall setCall extractCall insertCall rankCall commonCall freshCall clearCall siteSetCall cleanCall structMembers planCall orderCall
+  unfolding checkOf sizeCall alignCall minSizeCall layoutCall readCall writeCall viewCall setCall extractCall insertCall rankCall commonCall inheritingCall freshCall clearCall siteSetCall cleanCall structMembers planCall orderCall
   same-answers = record {
     check = rw types refl;
     size = λ e. rw (entry-same e) refl;
@@ -122,7 +126,8 @@ module _ {f g : List ℕ} (same : SameEntries f g) (types : typesOf f ≡ typesO
     rank = λ x y. rw (entry-same x, entry-same y) refl;
     common = λ es. rw types refl;
     listing = rw types refl;
-    site-fresh = λ e. rw (block-same e 0 0) refl;
+    site-inheriting = λ e. rw (block-same e 0 0) refl;
+    site-fresh = λ e factory site. rw (both-same e 0 factory site) refl;
     site-clear = λ e k mask. rw (block-same e mask 0) refl;
     site-member = member-same;
     site-set = λ e k steps ws mask factory site. rw (member-same e k mask factory site) refl;

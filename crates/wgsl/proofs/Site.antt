@@ -1,6 +1,6 @@
 -- A site block (specs/Site): when its calls are good, and what they leave (specs/SiteClaim).
 --
--- In order: what a block is; where its members lie; clearing; a path through a member; a fresh block; bytes; setting a scalar.
+-- In order: what a block is; where its members lie; clearing; a path through a member; an inheriting block; bytes; setting a scalar.
 -- Not here: the mask bit by bit (`SiteMask`).
 -- Assumes nothing.
 use Prim.Native.Nat.{ℕ, zero, suc, _+_, _-_, _^_, _<_, _≤_, max}
@@ -25,7 +25,7 @@ use Rattle.wgsl.specs.Place.{Shape, shapeOf, fieldsOf, extentOf, one, sp
 use Rattle.wgsl.specs.Path as path
 use Rattle.wgsl.specs.Path.{Target, enter, walk, stepOf}
 use Rattle.wgsl.specs.Call.{Done, entryOf, allowed, isShort, setScalar, setTarget}
-use Rattle.wgsl.specs.Site.{mostSettings, isBlock, blockEntry, blockIn, memberOf, withoutBit, withBit, freshCall, memberCall, shownIn, SiteDone, copiedIn, siteSetCall, clearCall}
+use Rattle.wgsl.specs.Site.{mostSettings, isBlock, blockEntry, blockIn, memberOf, withoutBit, withBit, inheritingCall, memberCall, shownIn, SiteDone, copiedIn, siteSetCall, clearCall}
 use Rattle.wgsl.specs.SiteClaim.{bytesIn, shownBytes, IsBlock, SetOnSite, Cleared}
 use Rattle.wgsl.specs.BitField.{bitAt}
 use Rattle.wgsl.specs.Claim.{Outside, Apart, memberStep}
@@ -222,16 +222,16 @@ site-path t k m steps small h =
     let step : stepOf (2 ^ 31 + k) ≡ path.member k = ap stepOf (add-comm (2 ^ 31) k) ∙ stepOf-code (path.member k) small in
     rw step (then-is _ h ∙ rw zero-add refl)
 
--- ---- a fresh block
+-- ---- an inheriting block
 
-zero-bits : (k : ℕ) → bitAt 0 k ≡ false
+pub zero-bits : (k : ℕ) → bitAt 0 k ≡ false
 unfolding bitAt
 zero-bits k = rw zero-div refl
 
--- A fresh block has no member set on site.
-pub fresh-shows : (f : List ℕ) (e mask : ℕ) → freshCall f e ≡ good mask → (mask ≡ 0) × ((k : ℕ) → bitAt mask k ≡ false)
-unfolding freshCall
-fresh-shows f e mask h =
+-- An inheriting block has no member set on site.
+pub inheriting-shows : (f : List ℕ) (e mask : ℕ) → inheritingCall f e ≡ good mask → (mask ≡ 0) × ((k : ℕ) → bitAt mask k ≡ false)
+unfolding inheritingCall
+inheriting-shows f e mask h =
     let is : mask ≡ 0 = cc (then-good _ _ h .after) in
     rw is (refl, zero-bits)
 
@@ -262,7 +262,7 @@ module _ (i : ℕ) where
   sets-same (v ∷ vs) a b p g h same =
       sets-same vs (set a p v) (set b p v) (suc p) (rw length-set g) (rw length-set h) (set-same a b p v g h same)
 
-  words-same : (ps : List Place) (ws a b : List ℕ) → i < length a → i < length b → getD a i 0 ≡ getD b i 0 → getD (storeWords ps ws a) i 0 ≡ getD (storeWords ps ws b) i 0
+  pub words-same : (ps : List Place) (ws a b : List ℕ) → i < length a → i < length b → getD a i 0 ≡ getD b i 0 → getD (storeWords ps ws a) i 0 ≡ getD (storeWords ps ws b) i 0
   unfolding storeWords store
   words-same [] ws a b g h same = same
   words-same (p ∷ ps) [] a b g h same = same
@@ -272,7 +272,7 @@ module _ (i : ℕ) where
       (sets-same vs a b (p .at) g h same)
 
 -- two lists with the same bytes in a part have the same part
-part-same : (n o : ℕ) (a b : List ℕ) → o + n ≤ length a → o + n ≤ length b → ((i : ℕ) → o ≤ i → i < o + n → getD a i 0 ≡ getD b i 0) → take n (drop o a) ≡ take n (drop o b)
+pub part-same : (n o : ℕ) (a b : List ℕ) → o + n ≤ length a → o + n ≤ length b → ((i : ℕ) → o ≤ i → i < o + n → getD a i 0 ≡ getD b i 0) → take n (drop o a) ≡ take n (drop o b)
 part-same n o a b g h same =
     let long = part-length a g in
     ext-getD 0 (take n (drop o a)) (take n (drop o b)) (long ∙ sym (part-length b h)) (λ i l.
@@ -287,12 +287,12 @@ part-same n o a b g h same =
 -- ---- setting a scalar
 
 -- a target whose one scalar can hold the words: whatever the buffer holds, they are stored there
-record CanStore (target : Target) (ws : List ℕ) : Type 0 where
-  scalar-there : Scalar
-  is : target .shape ≡ one scalar-there
-  stores : (b : List ℕ) → setTarget target ws b ≡ good (done (target .offset) (storeWords (wordPlaces scalar-there (target .offset)) ws b))
+pub record CanStore (target : Target) (ws : List ℕ) : Type 0 where
+  pub scalar-there : Scalar
+  pub is : target .shape ≡ one scalar-there
+  pub stores : (b : List ℕ) → setTarget target ws b ≡ good (done (target .offset) (storeWords (wordPlaces scalar-there (target .offset)) ws b))
 
-can-store : (target : Target) (ws b : List ℕ) (d : Done) → setTarget target ws b ≡ good d → CanStore target ws
+pub can-store : (target : Target) (ws b : List ℕ) (d : Done) → setTarget target ws b ≡ good d → CanStore target ws
 unfolding setTarget setScalar
 can-store target ws b d h =
     let s = then-good _ _ h in
@@ -349,7 +349,7 @@ module _ (m : Target) (mask k : ℕ) (factory site : List ℕ) (from : m .offset
           ∙ getD-drop o factory (i - o) 0)
 
   -- what was shown lies in its buffer
-  shown-room : m .offset + spanOf (m .shape) ≤ length (shownIn mask k factory site)
+  pub shown-room : m .offset + spanOf (m .shape) ≤ length (shownIn mask k factory site)
   unfolding shownIn
   shown-room = go (bitAt mask k)
     where
@@ -389,7 +389,7 @@ asked {f} {e} {k} {mask} {factory} {site} {m} h =
     }
 
 -- this value, and this site buffer and mask at the end
-abbrev siteDone : ℕ → List ℕ → ℕ → SiteDone
+abbrev pub siteDone : ℕ → List ℕ → ℕ → SiteDone
 siteDone value site mask = record { value = value; site = site; mask = mask }
 
 -- words set at a path into a member

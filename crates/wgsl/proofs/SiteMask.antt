@@ -3,7 +3,7 @@
 -- In order: the lowest bit; a bit set; a bit dropped; masks stay as short as they were.
 -- Assumes nothing.
 use Prim.Native.Nat.{ℕ, zero, suc, _+_, _-_, _*_, _/_, _%_, _^_, _<_, _≤_}
-use mathlib.Core.Bool.{Bool, true, false, cond, not, _&&_, _||_}
+use mathlib.Core.Bool.{Bool, true, false, cond, not, _&&_, _||_, or-false, and-true}
 use mathlib.Core.Path.{_≡_, refl, ap, sym, _∙_}
 use mathlib.Core.Logic.{⊎-elim}
 use native.Mathlib.Omega.{arith}
@@ -17,14 +17,6 @@ use Rattle.wgsl.specs.Site.{withBit, withoutBit}
 use Rattle.wgsl.proofs.Bit.{lt-or-le, bit-low, bit-high}
 
 -- ---- the lowest bit
-
-or-false : (b : Bool) → (b || false) ≡ b
-or-false true = refl
-or-false false = refl
-
-and-true : (b : Bool) → (b && true) ≡ b
-and-true true = refl
-and-true false = refl
 
 lowest-0 : (h : ℕ) → bitAt (h * 2 + 0) 0 ≡ false
 unfolding bitAt

@@ -20,7 +20,7 @@ use Rattle.wgsl.specs.Place.{column, tailAt, membersTail, tailOf, extent
 use Rattle.wgsl.specs.Path.{Target, stepOf, enter, walk}
 use Rattle.wgsl.specs.Call.{entryOf, allowed, isShort, scalarAt, setScalar, setTarget}
 use Rattle.wgsl.specs.BitField.{bitAt}
-use Rattle.wgsl.specs.Site.{SiteDone, withBit, withoutBit, isBlock, blockEntry, blockIn, memberOf, freshCall, memberCall, shownIn, copiedIn, siteSetCall, clearCall}
+use Rattle.wgsl.specs.Site.{SiteDone, withBit, withoutBit, isBlock, blockEntry, blockIn, memberOf, inheritingCall, memberCall, shownIn, copiedIn, siteSetCall, clearCall}
 use Rattle.wgsl.specs.Case.{typeEntry, memberGiven, memberEntry, trailer}
 use Rattle.wgsl.specs.SiteCase.{settings, factoryBytes, siteBytes}
 use Rattle.wgsl.specs.Claim.{memberStep}
@@ -38,21 +38,21 @@ window = record { offset = 8; shape = shapeOf 0 (vector 2 u32) }
 pub record SiteWitnesses : Type 0 where
   pub block-is : IsBlock settings 3 5 factoryBytes siteBytes block
   pub block-if : blockIn settings 3 5 factoryBytes siteBytes ≡ good block
-  pub fresh-shows : bitAt 0 2 ≡ false
+  pub inheriting-shows : bitAt 0 2 ≡ false
   pub site-set : (d : SiteDone) × SetOnSite settings 3 1 (1 ∷ []) (9 ∷ []) 4 factoryBytes siteBytes d
   pub site-cleared : Cleared settings 3 2 5 1
   pub site-path : walk 0 0 (shapeOf 0 block) (map stepOf (memberStep 1 ∷ 1 ∷ [])) ≡ walk 1 (window .offset) (window .shape) (map stepOf (1 ∷ []))
   pub site-member-inside : window .offset + spanOf (window .shape) ≤ present (sizeOf block)
 
 pub site-witnesses : SiteWitnesses
-unfolding load bytesOf store up withinLimit isRuntime endsInRuntime isOpen everywhere everyMember isScalarKind scalarKind both givenOr isPresent present widthOf vec3Align vectorSize vectorAlign startAfter endAfter memberStart memberEnd sizeOf alignOf membersAlign membersEnd strideOf ownStrideOf minSizeOf offsetsOf innerNumbersOf numbersOf withinLimits fitsLimit hasLayout isStored isPlain isStorable _>>=_ _>>_ refuse orRefuse trailerOf lengthBy typeEntryFrom typeEntryAt memberEntryFrom memberEntryAt sizeIsGiven alignIsGiven givenSize givenAlign restIsZero between checkTrailer memberEntryLength when andThen unused scalarOfKind scalarIn lower membersFrom scalarMade vectorMade matrixMade runtimeMade atomicMade structMade overMade typeMade typeOfEntry isMatrixScalar isAtomicScalar isLast countOf memberAllowed membersAllowed isAllowed atLeast givenSizeFits isMultiple givenAlignFits membersGivenFit givenFits judged typesBelow typesOf column tailAt membersTail tailOf extentBy extentOf elementsBy elementsIn shapeOf fieldsOf spanOf wordsOver wordsFor wordPlaces repeated storeWords canHold checkWords stepOf enter walk entryOf allowed isShort scalarAt setScalar setTarget bitAt withBit withoutBit isBlock blockEntry blockIn memberOf freshCall memberCall shownIn copiedIn siteSetCall clearCall typeEntry memberGiven memberEntry trailer settings factoryBytes siteBytes memberStep block window
+unfolding load bytesOf store up withinLimit isRuntime endsInRuntime isOpen everywhere everyMember isScalarKind scalarKind both givenOr isPresent present widthOf vec3Align vectorSize vectorAlign startAfter endAfter memberStart memberEnd sizeOf alignOf membersAlign membersEnd strideOf ownStrideOf minSizeOf offsetsOf innerNumbersOf numbersOf withinLimits fitsLimit hasLayout isStored isPlain isStorable _>>=_ _>>_ refuse orRefuse trailerOf lengthBy typeEntryFrom typeEntryAt memberEntryFrom memberEntryAt sizeIsGiven alignIsGiven givenSize givenAlign restIsZero between checkTrailer memberEntryLength when andThen unused scalarOfKind scalarIn lower membersFrom scalarMade vectorMade matrixMade runtimeMade atomicMade structMade overMade typeMade typeOfEntry isMatrixScalar isAtomicScalar isLast countOf memberAllowed membersAllowed isAllowed atLeast givenSizeFits isMultiple givenAlignFits membersGivenFit givenFits judged typesBelow typesOf column tailAt membersTail tailOf extentBy extentOf elementsBy elementsIn shapeOf fieldsOf spanOf wordsOver wordsFor wordPlaces repeated storeWords canHold checkWords stepOf enter walk entryOf allowed isShort scalarAt setScalar setTarget bitAt withBit withoutBit isBlock blockEntry blockIn memberOf inheritingCall memberCall shownIn copiedIn siteSetCall clearCall typeEntry memberGiven memberEntry trailer settings factoryBytes siteBytes memberStep block window
 site-witnesses =
     let is : blockIn settings 3 5 factoryBytes siteBytes ≡ good block = refl in
     let held : IsBlock settings 3 5 factoryBytes siteBytes block = requests.block-is is in
     record {
       block-is = held;
       block-if = requests.block-if held;
-      fresh-shows = requests.fresh-shows settings 3 0 refl .1 2;
+      inheriting-shows = requests.inheriting-shows settings 3 0 refl .1 2;
       site-set = (_, requests.site-set refl);
       site-cleared = requests.site-cleared refl;
       site-path = requests.site-path block 1 window (1 ∷ []) (omega arith) refl;

@@ -24,7 +24,7 @@ use Rattle.wgsl.specs.Call.{Done, checkOf, entryOf, sizeCall, alignCall,
 use Rattle.wgsl.specs.BitFieldCall.{isInteger, extractCall, insertCall}
 use Rattle.wgsl.specs.Listing.{listed}
 use Rattle.wgsl.specs.Form.{nameAt, toForm2, toForm1, moveOnCall, moveBackCall}
-use Rattle.wgsl.specs.Site.{freshCall, memberCall, siteSetCall, clearCall}
+use Rattle.wgsl.specs.Site.{inheritingCall, freshCall, memberCall, siteSetCall, clearCall}
 use Rattle.wgsl.specs.Clean.{cleanCall}
 use Rattle.wgsl.specs.Order.{planCall, orderCall}
 use Rattle.wgsl.specs.Uniform.{isUniform, refersTo, isBroken, uniformCall}
@@ -304,7 +304,8 @@ pub record PlacesFit (f : List ℕ) : Type 0 where
   pub common : (es : List ℕ) → PlaceFits (commonCall f es)
   pub to-form-2 : (out : List ℕ) → PlaceFits (moveOnCall f out)
   pub to-form-1 : (out : List ℕ) → PlaceFits (moveBackCall f out)
-  pub site-fresh : (e : ℕ) → PlaceFits (freshCall f e)
+  pub site-inheriting : (e : ℕ) → PlaceFits (inheritingCall f e)
+  pub site-fresh : (e : ℕ) (factory site : List ℕ) → PlaceFits (freshCall f e factory site)
   pub site-clear : (e k mask : ℕ) → PlaceFits (clearCall f e k mask)
   pub site-member : (e k mask : ℕ) (factory site : List ℕ) → PlaceFits (memberCall f e k mask factory site)
   pub site-set : (e k : ℕ) (steps ws : List ℕ) (mask : ℕ) (factory site : List ℕ) → PlaceFits (siteSetCall f e k steps ws mask factory site)
@@ -332,7 +333,8 @@ pub record SameAnswers (f g : List ℕ) : Type 0 where
   pub rank : (x y : ℕ) → rankCall f x y ≡ rankCall g x y
   pub common : (es : List ℕ) → commonCall f es ≡ commonCall g es
   pub listing : listed (typesOf f) ≡ listed (typesOf g)
-  pub site-fresh : (e : ℕ) → freshCall f e ≡ freshCall g e
+  pub site-inheriting : (e : ℕ) → inheritingCall f e ≡ inheritingCall g e
+  pub site-fresh : (e : ℕ) (factory site : List ℕ) → freshCall f e factory site ≡ freshCall g e factory site
   pub site-clear : (e k mask : ℕ) → clearCall f e k mask ≡ clearCall g e k mask
   pub site-member : (e k mask : ℕ) (factory site : List ℕ) → memberCall f e k mask factory site ≡ memberCall g e k mask factory site
   pub site-set : (e k : ℕ) (steps ws : List ℕ) (mask : ℕ) (factory site : List ℕ) → siteSetCall f e k steps ws mask factory site ≡ siteSetCall g e k steps ws mask factory site

@@ -21,6 +21,7 @@ pub mod Clean
 pub mod Order
 pub mod Claim
 pub mod SiteClaim
+pub mod StartClaim
 pub mod Demand
 pub mod CleanClaim
 pub mod OrderClaim
@@ -31,6 +32,7 @@ pub mod UniformCase
 pub mod WideCase
 pub mod FormCase
 pub mod SiteCase
+pub mod StartCase
 pub mod CleanCase
 pub mod OrderCase
 pub mod Shapes

@@ -1,14 +1,16 @@
--- Factory sheet and site block (02, E8).
+-- Factory sheet and site block (02, E8, E11).
 --
--- In order: the mask; what a block is; the entry of a block; a fresh block; asking for a member; setting a scalar in one; clearing.
+-- In order: the mask; what a block is; the entry of a block; the two starts, inheriting and fresh; asking for a member; setting a scalar in
+-- one; clearing.
 -- Definitions only. Assumes nothing.
 use Prim.Native.Nat.{ℕ, _+_, _-_, _^_, max}
-use mathlib.Core.List.{List, map}
+use mathlib.Core.List.{List, map, _++_}
 use mathlib.Core.Bool.{Bool, true, false, cond, not, _&&_, _||_}
 use lib.ListN.{length, take, drop}
 use lib.Seq.{sets}
 use lib.Dec.{leb, ltb}
 use Rattle.wgsl.specs.Types.{Ty, scalar, vector, matrix, array, runtime, atomic, struct, isOpen}
+use Rattle.wgsl.specs.Size.{present, sizeOf}
 use Rattle.wgsl.specs.Said.{Said, good, refused, _>>=_, _>>_, refuse}
 use Rattle.wgsl.specs.Rule.{countOf}
 use Rattle.wgsl.specs.Place.{shapeOf, spanOf}
@@ -65,13 +67,45 @@ blockIn f e mask factory site = do
 unfoldable pub memberOf : Ty → ℕ → Said Target
 memberOf t k = enter 0 (shapeOf 0 t) (path.member k)
 
--- ---- a fresh block
+-- ---- an inheriting block
 
--- "A fresh block has mask 0; it takes the entry alone and refuses by 1 to 10 (no 17) and 21."
-unfoldable pub freshCall : List ℕ → ℕ → Said ℕ
-freshCall f e = do
+-- E11: "an inheriting block by name, with the old start"; E8: "mask 0; it takes the entry alone and refuses by 1 to 10 (no 17) and 21."
+unfoldable pub inheritingCall : List ℕ → ℕ → Said ℕ
+inheritingCall f e = do
   t ← blockEntry f e 0 0
   good 0
+
+-- ---- a fresh block
+
+-- what a fresh block and a set answer, and what the site buffer and the mask hold at the end
+pub record SiteDone : Type 0 where
+  pub value : ℕ
+  pub site : List ℕ
+  pub mask : ℕ
+
+-- how many members a type has; none but a struct has any
+unfoldable pub settingsOf : Ty → ℕ
+settingsOf (scalar s) = 0
+settingsOf (vector n s) = 0
+settingsOf (matrix c r s) = 0
+settingsOf (array n t) = 0
+settingsOf (runtime t) = 0
+settingsOf (atomic s) = 0
+settingsOf (struct k ms) = countOf ms
+
+-- E11: "every member's bit set"
+unfoldable pub everyBit : Ty → ℕ
+everyBit t = 2 ^ settingsOf t - 1
+
+-- E11: "the factory's bytes copied into the site buffer": those of the entry's size; later bytes of the site buffer stay
+unfoldable pub copiedWhole : Ty → List ℕ → List ℕ → List ℕ
+copiedWhole t factory site = take (present (sizeOf t)) factory ++ drop (present (sizeOf t)) site
+
+-- E11: "the fresh copy gives all that asking for a member gives, up to 15, before anything is copied"; it has no mask to refuse
+unfoldable pub freshCall : List ℕ → ℕ → List ℕ → List ℕ → Said SiteDone
+freshCall f e factory site = do
+  t ← blockIn f e 0 factory site
+  good (record { value = 0; site = copiedWhole t factory site; mask = everyBit t })
 
 -- ---- asking for a member
 
@@ -90,12 +124,6 @@ handedFrom (good t) mask k factory site = shownIn mask k factory site
 handedFrom (refused number place) mask k factory site = factory
 
 -- ---- setting a scalar in a member
-
--- what a set answers, and what the site buffer and the mask hold at the end
-pub record SiteDone : Type 0 where
-  pub value : ℕ
-  pub site : List ℕ
-  pub mask : ℕ
 
 -- "where the bit was clear, the member's bytes are first copied from the factory buffer"; "those of its type's size"
 unfoldable pub copiedIn : Target → ℕ → ℕ → List ℕ → List ℕ → List ℕ
@@ -134,7 +162,7 @@ unfoldable pub maskSet : ℕ → Said SiteDone → ℕ
 maskSet before (good d) = d .mask
 maskSet before (refused number place) = before
 
--- of a fresh block and of clearing: 0, and the mask
+-- of an inheriting block and of clearing: 0, and the mask
 unfoldable pub zeroOf : Said ℕ → Said ℕ
 zeroOf (good mask) = good 0
 zeroOf (refused number place) = refused number place

@@ -11,7 +11,7 @@ use Rattle.wgsl.specs.Number.{bytesOf}
 use Rattle.wgsl.specs.Said.{Said, good, refused}
 use Rattle.wgsl.specs.Path.{Target}
 use Rattle.wgsl.specs.Call.{offsetOf, partOf}
-use Rattle.wgsl.specs.Site.{freshCall, memberCall, handedFrom, SiteDone, siteSetCall, siteAnswer, siteAfter, maskSet, clearCall}
+use Rattle.wgsl.specs.Site.{inheritingCall, memberCall, handedFrom, SiteDone, siteSetCall, siteAnswer, siteAfter, maskSet, clearCall}
 use Rattle.wgsl.specs.Case.{says, typeEntry, memberEntry, memberGiven, trailer, allPass}
 use Rattle.wgsl.specs.StrideCase.{reads}
 
@@ -71,15 +71,15 @@ setIn k steps ws mask = siteSetCall settings 3 k steps ws mask factoryBytes site
 
 unfoldable pub siteCases : List Bool
 siteCases =
-    -- "A fresh block has mask 0"; 21 for no struct and for an open one, 10, 8
-    says (freshCall settings 3) (good 0)
-    ∷ says (freshCall settings 0) (refused 21 0)
-    ∷ says (freshCall settings 5) (refused 21 0)
-    ∷ says (freshCall settings 7) (refused 10 0)
-    ∷ says (freshCall settings 8) (refused 8 0)
+    -- the start with mask 0, since E11 an inheriting block; 21 for no struct and for an open one, 10, 8
+    says (inheritingCall settings 3) (good 0)
+    ∷ says (inheritingCall settings 0) (refused 21 0)
+    ∷ says (inheritingCall settings 5) (refused 21 0)
+    ∷ says (inheritingCall settings 7) (refused 10 0)
+    ∷ says (inheritingCall settings 8) (refused 8 0)
     -- "at most 64 members"
-    ∷ says (freshCall (wideStruct 64) 1) (good 0)
-    ∷ says (freshCall (wideStruct 65) 1) (refused 21 0)
+    ∷ says (inheritingCall (wideStruct 64) 1) (good 0)
+    ∷ says (inheritingCall (wideStruct 65) 1) (refused 21 0)
     -- "mask bits beyond them", and bit 63
     ∷ says (clearCall (wideStruct 64) 1 63 (2 ^ 64 - 1)) (good (2 ^ 63 - 1))
     ∷ says (clearCall settings 3 0 7) (good 6)
