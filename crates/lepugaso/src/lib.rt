@@ -44,11 +44,12 @@ pub use uniform::uniform;
 // A file in the other form, into a buffer (its length there); else 1 to 7, 15, and 20 on the way back.
 pub use forms::to_form_1;
 pub use forms::to_form_2;
-// A factory sheet and a site block of one struct: a fresh block's mask, where a member lies, whether the site buffer shows it, its bytes in
+// A factory sheet and a site block of one struct: an inheriting block's mask, a fresh block, where a member lies, whether the site buffer shows it, its bytes in
 // the buffer that does, a scalar set on site, a member cleared; else 1 to 17, 21.
 pub use site::clear::clear as site_clear;
-pub use site::clear::fresh as site_fresh;
 pub use site::mask::is_set as site_shows;
 pub use site::member::member as site_member;
 pub use site::member::member_at as site_member_at;
 pub use site::set::set as site_set;
+pub use site::start::fresh as site_fresh;
+pub use site::start::inheriting as site_inheriting;

@@ -1,4 +1,4 @@
--- A fresh block and a member cleared, step by step (crates/wgsl, specs/Site; specs/Clear).
+-- A member cleared, step by step (crates/wgsl, specs/Site; specs/Clear).
 -- Assumes nothing.
 use Prim.Native.Nat.{ℕ, _<_}
 use mathlib.Core.List.{List}
@@ -11,7 +11,7 @@ use Rattle.wgsl.specs.Place.{Shape, shapeOf}
 use Rattle.wgsl.specs.Path as path
 use Rattle.wgsl.specs.Path.{Target, enter}
 use Rattle.wgsl.specs.Rule.{countOf}
-use Rattle.wgsl.specs.Site.{blockEntry, memberOf, freshCall, clearCall, withoutBit, zeroOf, maskAfter}
+use Rattle.wgsl.specs.Site.{blockEntry, memberOf, clearCall, withoutBit, zeroOf, maskAfter}
 use Rattle.wgsl.proofs.Said.{then-good, then-is, then-refused}
 use Rattle.wgsl.proofs.Site.{block-struct, entry-is, member-low}
 use Rattle.site.specs.Clear.{thereIn, canClear}
@@ -81,13 +81,3 @@ mask-refused before e = (ap zeroOf (sym e), ap (maskAfter before) (sym e))
 pub mask-done : {said : Said ℕ} {mask : ℕ} (before : ℕ) → said ≡ good mask → (good 0 ≡ zeroOf said) × (mask ≡ maskAfter before said)
 unfolding zeroOf maskAfter
 mask-done before e = (ap zeroOf (sym e), ap (maskAfter before) (sym e))
-
--- ---- a fresh block
-
-pub fresh-missing : (f : List ℕ) (e : ℕ) {number place : ℕ} → blockEntry f e 0 0 ≡ refused number place → freshCall f e ≡ refused number place
-unfolding freshCall
-fresh-missing f e h = then-refused _ h
-
-pub fresh-there : (f : List ℕ) (e : ℕ) {t : Ty} → blockEntry f e 0 0 ≡ good t → freshCall f e ≡ good 0
-unfolding freshCall
-fresh-there f e h = then-is _ h

@@ -1,34 +1,34 @@
 -- The block that was found, and a member of it (specs/Block, specs/Spot).
 --
--- In order: what was found; what a walk in it asks; 15.
+-- In order: what was found; what a walk in it asks; its numbers in the table; the spot in it.
 -- Assumes nothing.
-use Prim.Native.Nat.{ℕ, _<_, _≤_, max}
-use mathlib.Core.Bool.{Bool, true, false, _||_}
+use Prim.Native.Nat.{ℕ, _≤_, max}
+use mathlib.Core.Bool.{true, false}
 use mathlib.Core.List.{List}
 use mathlib.Core.Option.{Option, none, some}
 use mathlib.Core.Path.{_≡_, refl, ap, sym, _∙_}
 use native.Mathlib.Omega.{arith}
-use borrow.Author.Tests.{lt-ltb, le-ltb}
-use lib.Dec.{ltb}
+use borrow.Author.Tests.{leb-true}
 use lib.ListN.{length}
 use Rattle.wgsl.specs.Round.{limit}
 use Rattle.wgsl.specs.Types.{Ty, isOpen, everywhere}
 use Rattle.wgsl.specs.Size.{present, sizeOf, hasLayout, isStorable, isPlain}
-use Rattle.wgsl.specs.Said.{Said, good, refused, _>>_, _>>=_}
+use Rattle.wgsl.specs.Said.{good, refused, _>>=_}
 use Rattle.wgsl.specs.Place.{shapeOf, spanOf}
-use Rattle.wgsl.specs.Call.{isShort}
-use Rattle.wgsl.specs.Site.{blockEntry, blockIn}
-use Rattle.wgsl.specs.Rule.{isWellFormed}
+use Rattle.wgsl.specs.Site.{blockEntry, blockIn, settingsOf}
+use Rattle.wgsl.specs.Rule.{isWellFormed, countOf}
 use Rattle.wgsl.proofs.Entry.{size-limit}
 use Rattle.wgsl.proofs.Absent.{both-hold}
-use Rattle.wgsl.proofs.Said.{Then, good-not-refused, then-good, then-cases, then-is, then-refused, refuse-yes, refuse-no}
+use Rattle.wgsl.proofs.Said.{Then, good-not-refused, then-good, then-cases, then-is, then-refused}
 use Rattle.wgsl.proofs.EntryFor.{entry-sound}
 use Rattle.wgsl.proofs.Tail.{closed-extent}
-use Rattle.wgsl.proofs.Site.{block-struct, entry-is}
+use Rattle.wgsl.proofs.Site.{Block, block-struct, entry-is}
 use Rattle.layout_table.specs.declared.Ground.{Ground}
 use Rattle.layout_table.specs.Table.{groundIn}
+use Rattle.layout_values.specs.declared.value.Value.{Value}
+use Rattle.layout_values.specs.Value.{valueOf, partsOf}
 use Rattle.walk_decide.specs.Meant.{membersPart}
-use Rattle.walk_decide.proofs.Meant.{entry-found, entry-missing, entry-site, entry-well-formed}
+use Rattle.walk_decide.proofs.Meant.{entry-found, entry-missing, entry-site, entry-value, entry-well-formed}
 use Rattle.walk_path.specs.declared.enter.Stand.the-variants.{Entry}
 use Rattle.walk_path.specs.Way.{at-entry, Standing}
 use Rattle.site.specs.Block.{blockGround, BlockAt}
@@ -59,6 +59,10 @@ size-low t well = go (sizeOf t) refl
     go (some z) e = size-limit t z well e
     go none e = omega arith
 
+members-are : {mask : ℕ} {t : Ty} (b : Block mask t) → settingsOf t ≡ countOf (b .members)
+unfolding settingsOf
+members-are b = rw (b .is) refl
+
 module _ {f : List ℕ} {e : ℕ} {g : Ground} {table : List (List ℕ)} {mask bytes : ℕ} {t : Ty} (x : BlockAt f e g table mask bytes t) where
   pub closed : isOpen t ≡ false
   closed = block-struct mask t (entry-is (x .block) .block) .closed
@@ -74,34 +78,35 @@ module _ {f : List ℕ} {e : ℕ} {g : Ground} {table : List (List ℕ)} {mask b
         within = omega (arith, span, closed-extent 0 t closed, size-low t (entry-well-formed (x .meant)));
       }
 
--- ---- 15
+  -- ---- its numbers in the table
 
-or-true : (a b : Bool) → b ≡ true → (a || b) ≡ true
-or-true true b e = refl
-or-true false b e = e
+  pub size-is : g .value .size ≡ present (sizeOf t)
+  unfolding valueOf
+  size-is = ap (λ (l : Value). l .size) (entry-value (x .meant))
+
+  pub count-is : g .value .count ≡ settingsOf t
+  unfolding valueOf partsOf settingsOf
+  count-is =
+      let b = block-struct mask t (entry-is (x .block) .block) in
+      ap (λ (l : Value). l .count) (entry-value (x .meant)) ∙ rw (b .is) refl
+
+  -- "at most 64 members"
+  pub count-low : g .value .count ≤ 64
+  count-low =
+      let b = block-struct mask t (entry-is (x .block) .block) in
+      omega (arith, count-is, members-are b, leb-true (countOf (b .members)) 64 (b .few))
+
+-- the block, in buffers of these lengths
+pub in-these : {f : List ℕ} {e : ℕ} {g : Ground} {table : List (List ℕ)} {mask m n : ℕ} {t : Ty} (a b : List ℕ) → BlockAt f e g table mask (max m n) t → length a ≡ m → length b ≡ n → blockEntry f e mask (max (length a) (length b)) ≡ good t
+in-these a b x la lb = rw (la, lb) (x .block)
+
+-- ---- the spot in it
 
 module _ (f : List ℕ) (e k : ℕ) (steps : List ℕ) (mask : ℕ) (a b : List ℕ) where
-  pub spot-missing : {number place : ℕ} → blockEntry f e mask (max (length a) (length b)) ≡ refused number place → refused number place ≡ spotCall f e k steps mask a b
-  unfolding spotCall blockIn _>>=_
-  spot-missing h = rw h refl
+  pub spot-stopped : {number place : ℕ} → blockIn f e mask a b ≡ refused number place → refused number place ≡ spotCall f e k steps mask a b
+  unfolding spotCall
+  spot-stopped h = sym (then-refused _ h)
 
-  module _ {t : Ty} (block : blockEntry f e mask (max (length a) (length b)) ≡ good t) (shut : isOpen t ≡ false) where
-    short-is : (c : List ℕ) → isShort t c ≡ ltb (length c) (present (sizeOf t))
-    unfolding isShort
-    short-is c = rw shut refl
-
-    pub spot-short : (isShort t a || isShort t b) ≡ true → refused 15 0 ≡ spotCall f e k steps mask a b
-    unfolding spotCall blockIn
-    spot-short h = sym (then-refused _ (then-is _ block ∙ refuse-yes _ h))
-
-    pub factory-short : length a < present (sizeOf t) → refused 15 0 ≡ spotCall f e k steps mask a b
-    factory-short h = spot-short (ap (λ c. c || isShort t b) (short-is a ∙ lt-ltb (length a) (present (sizeOf t)) h))
-
-    pub site-short : length b < present (sizeOf t) → refused 15 0 ≡ spotCall f e k steps mask a b
-    site-short h = spot-short (or-true (isShort t a) (isShort t b) (short-is b ∙ lt-ltb (length b) (present (sizeOf t)) h))
-
-    pub spot-goes : present (sizeOf t) ≤ length a → present (sizeOf t) ≤ length b → spotAt (shapeOf 0 t) k steps ≡ spotCall f e k steps mask a b
-    unfolding spotCall blockIn
-    spot-goes h l =
-        let roomy : (isShort t a || isShort t b) ≡ false = rw (short-is a, short-is b, le-ltb (length a) (present (sizeOf t)) h, le-ltb (length b) (present (sizeOf t)) l) refl in
-        sym (then-is _ (then-is _ block ∙ refuse-no 15 0 roomy))
+  pub spot-goes : {t : Ty} → blockIn f e mask a b ≡ good t → spotAt (shapeOf 0 t) k steps ≡ spotCall f e k steps mask a b
+  unfolding spotCall
+  spot-goes h = sym (then-is _ h)

@@ -1,4 +1,4 @@
-// A fresh block, and a member cleared: neither looks at a buffer.
+// A member cleared: no buffer is looked at.
 use crate::block::find_block;
 use crate::mask::without_bit;
 use layout_table::Ground;
@@ -18,29 +18,13 @@ ghost use mathlib.Core.List.{List};
 ghost use Prim.Native.Nat.{ℕ};
 ghost use Rattle.wgsl.specs.Types.{Ty};
 ghost use Rattle.wgsl.specs.Place.{Shape, shapeOf};
-ghost use Rattle.wgsl.specs.Site.{freshCall, clearCall, zeroOf, maskAfter};
+ghost use Rattle.wgsl.specs.Site.{clearCall, zeroOf, maskAfter};
 ghost use Rattle.said.specs.Answer.{saidNumber};
 ghost use Rattle.walk_path.specs.declared.enter.Stand.the-variants.{Entry};
 ghost use Rattle.walk_path.specs.Way.{Standing};
 ghost use Rattle.walk_decide.specs.Decide.{saidAllowed};
 ghost use Rattle.site.specs.Block.{BlockAt};
 ghost use Rattle.site.specs.Clear.{thereIn, canClear};
-
-// The mask of a fresh block, 0; the answer is 0.
-// Refuses 1 to 8, 9, 10, 21.
-pub fn fresh(file: &[u8], entry: u32, mask: &mut u64) -> Number
-    ensures answer { λ r. ⌜ saidNumber r ≡ zeroOf (freshCall (now (file .entry)) entry) ⌝ }
-    ensures mask { λ _. ⌜ now (mask .exit) ≡ maskAfter (now (mask .entry)) (freshCall (now (file .entry)) entry) ⌝ }
-{
-    let mut table = blank();
-    match find_block(file, entry, 0, 0, &mut table) {
-        Grounded::Refused(r) => Number::Refused(r),
-        Grounded::Is(_) => {
-            *mask = 0;
-            Number::Is(0)
-        }
-    }
-}
 
 // 11, with place 0, for a member that entry `e` has not.
 fn member_there(members: &[u8], table: &[Row], e: usize, k: u32) -> Allowed

@@ -1,6 +1,6 @@
 // The mask of a block: bit k says that member k was set on site.
 ghost use mathlib.Core.Path.{_≡_};
-ghost use Prim.Native.Nat.{_<_};
+ghost use Prim.Native.Nat.{_<_, _≤_, _-_, _^_};
 ghost use Rattle.wgsl.specs.BitField.{bitAt};
 ghost use Rattle.wgsl.specs.Site.{withBit, withoutBit};
 
@@ -42,4 +42,15 @@ pub fn without_bit(mask: u64, k: u32) -> u64
         return mask - (1 << k);
     }
     mask
+}
+
+// The mask with the bits of the first `count` members.
+pub fn every_bit(count: u32) -> u64
+    requires { ⌜ count ≤ 64 ⌝ }
+    ensures { λ r. ⌜ r ≡ 2 ^ count - 1 ⌝ }
+{
+    if count == 64 {
+        return 0xffff_ffff_ffff_ffff;
+    }
+    (1 << count) - 1
 }

@@ -1,5 +1,7 @@
 // Where a member of a block lies, and what a path leads to in it: 15, 11 for the member, then the first bad step.
 use crate::block::find_block;
+use crate::buffers::both_have;
+use crate::buffers::longer;
 use layout_table::Ground;
 use layout_table::Grounded;
 use layout_values::value::Row;
@@ -69,13 +71,6 @@ fn spot_at(members: &[u8], table: &[Row], e: usize, k: u32, path: &[u32]) -> Fou
     }
 }
 
-// The longer of two lengths.
-fn longer(a: usize, b: usize) -> usize
-    ensures { λ r. ⌜ r ≡ max a b ⌝ }
-{
-    if a < b { b } else { a }
-}
-
 // The same in the block that was found: 15 for either buffer, of which there are so many bytes, and then the rest.
 fn spot_in(
     file: &[u8],
@@ -91,15 +86,12 @@ fn spot_in(
     ensures { λ r. ⌜ ((t : Ty) (mask : ℕ) (a b : List ℕ) → BlockAt (now (file .entry)) e g (now (table .entry)) mask (max factory site) t → length a ≡ factory → length b ≡ site → saidFound r ≡ spotCall (now (file .entry)) e k (now (path .entry)) mask a b) ⌝ }
 {
     let size = wide(g.value.size);
-    if factory < size {
-        return Found::Refused(Refusal::Buffer);
+    if both_have(size, factory, site) {
+        let start = g.start;
+        let end = g.end;
+        return spot_at(&file[start..end], table, e, k, path);
     }
-    if site < size {
-        return Found::Refused(Refusal::Buffer);
-    }
-    let start = g.start;
-    let end = g.end;
-    spot_at(&file[start..end], table, e, k, path)
+    Found::Refused(Refusal::Buffer)
 }
 
 // Member `k` of a block of entry `entry`, and what `path` leads to in it; the buffers have so many bytes.

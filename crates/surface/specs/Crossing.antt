@@ -15,7 +15,7 @@ use Rattle.wgsl.specs.BitField.{bitAt}
 use Rattle.wgsl.specs.BitFieldCall.{extractCall, insertCall}
 use Rattle.wgsl.specs.Uniform.{uniformCall}
 use Rattle.wgsl.specs.Form.{moveOnCall, moveBackCall}
-use Rattle.wgsl.specs.Site.{freshCall, memberCall, siteSetCall, siteAnswer, clearCall, zeroOf}
+use Rattle.wgsl.specs.Site.{inheritingCall, freshCall, memberCall, siteSetCall, siteAnswer, clearCall, zeroOf}
 use Rattle.wgsl.specs.Clean.{cleanCall, changedOf}
 use Rattle.wgsl.specs.Order.{planCall, orderCall}
 use Rattle.surface.specs.declared.Crossing.{Crossing}
@@ -76,7 +76,8 @@ pub record AllCross (f : List ℕ) : Type 0 where
   pub common : (es : List ℕ) → CrossesWhole (commonCall f es)
   pub to-form-2 : (out : List ℕ) → CrossesWhole (answerOf (moveOnCall f out))
   pub to-form-1 : (out : List ℕ) → CrossesWhole (answerOf (moveBackCall f out))
-  pub site-fresh : (e : ℕ) → CrossesWhole (zeroOf (freshCall f e))
+  pub site-inheriting : (e : ℕ) → CrossesWhole (zeroOf (inheritingCall f e))
+  pub site-fresh : (e : ℕ) (factory site : List ℕ) → CrossesWhole (siteAnswer (freshCall f e factory site))
   pub site-clear : (e k mask : ℕ) → CrossesWhole (zeroOf (clearCall f e k mask))
   pub site-member : (e k mask : ℕ) (factory site : List ℕ) → CrossesWhole (offsetOf (memberCall f e k mask factory site))
   pub site-set : (e k : ℕ) (steps ws : List ℕ) (mask : ℕ) (factory site : List ℕ) → CrossesWhole (siteAnswer (siteSetCall f e k steps ws mask factory site))

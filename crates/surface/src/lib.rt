@@ -15,7 +15,7 @@ ghost use Rattle.wgsl.specs.BitField.{extractedU32, extractedI32, inserted, pat
 ghost use Rattle.wgsl.specs.BitFieldCall.{extractCall, insertCall};
 ghost use Rattle.wgsl.specs.Uniform.{uniformCall};
 ghost use Rattle.wgsl.specs.Form.{moveOnCall, moveBackCall};
-ghost use Rattle.wgsl.specs.Site.{freshCall, clearCall, memberCall, siteSetCall, zeroOf, maskAfter, siteAnswer, siteAfter, maskSet};
+ghost use Rattle.wgsl.specs.Site.{inheritingCall, freshCall, clearCall, memberCall, siteSetCall, zeroOf, maskAfter, siteAnswer, siteAfter, maskSet};
 ghost use Rattle.wgsl.specs.Order.{planCall, orderCall};
 ghost use Rattle.wgsl.specs.Clean.{cleanCall, changedOf, firstAfter, cleanAfter};
 ghost use Rattle.said.specs.Answer.{saidNumber, saidMoved, maybeOf};
@@ -301,11 +301,30 @@ fn cross_bool(b: bool) -> u64
 }
 
 #[no_mangle]
-pub extern "C" fn lepugaso_surface_site_fresh(file: &[u8], entry: u32, mask: &mut u64) -> Crossing
-    ensures answer { λ r. ⌜ r ≡ crossed (zeroOf (freshCall (now (file .entry)) entry)) ⌝ }
-    ensures mask { λ r. ⌜ now (mask .exit) ≡ maskAfter (now (mask .entry)) (freshCall (now (file .entry)) entry) ⌝ }
+pub extern "C" fn lepugaso_surface_site_inheriting(
+    file: &[u8],
+    entry: u32,
+    mask: &mut u64,
+) -> Crossing
+    ensures answer { λ r. ⌜ r ≡ crossed (zeroOf (inheritingCall (now (file .entry)) entry)) ⌝ }
+    ensures mask { λ r. ⌜ now (mask .exit) ≡ maskAfter (now (mask .entry)) (inheritingCall (now (file .entry)) entry) ⌝ }
 {
-    cross(lepugaso::site_fresh(file, entry, mask))
+    cross(lepugaso::site_inheriting(file, entry, mask))
+}
+
+#[no_mangle]
+pub extern "C" fn lepugaso_surface_site_fresh(
+    file: &[u8],
+    entry: u32,
+    factory: &[u8],
+    site: &mut [u8],
+    mask: &mut u64,
+) -> Crossing
+    ensures answer { λ r. ⌜ r ≡ crossed (siteAnswer (freshCall (now (file .entry)) entry (now (factory .entry)) (now (site .entry)))) ⌝ }
+    ensures site { λ r. ⌜ now (site .exit) ≡ siteAfter (now (site .entry)) (freshCall (now (file .entry)) entry (now (factory .entry)) (now (site .entry))) ⌝ }
+    ensures mask { λ r. ⌜ now (mask .exit) ≡ maskSet (now (mask .entry)) (freshCall (now (file .entry)) entry (now (factory .entry)) (now (site .entry))) ⌝ }
+{
+    cross(lepugaso::site_fresh(file, entry, factory, site, mask))
 }
 
 #[no_mangle]

@@ -5,7 +5,8 @@ use borrow.Author.Needs.{needs}
 use denote.Ref.{now}
 use Rattle.wgsl.specs.Types.{Ty}
 use Rattle.site.specs.Block.{BlockAt}
-use Rattle.site.proofs.SpotCall.{ground-refused, ground-at, spot-missing}
+use Rattle.site.proofs.InBoth.{in-missing}
+use Rattle.site.proofs.SpotCall.{ground-refused, ground-at, spot-stopped}
 use Rattle.site.proofs.spot.locate_in.Statement.{statement}
 use Rattle.site.proofs.spot.locate_in.Tie as tie
 
@@ -26,7 +27,7 @@ returns : tie.Need-returns
 returns c a b la lb =
     let r = c .before in
     let said = rw (r .r .given .1, r .before .before .before .before .before .longer .ensures) at (r .before .before .before .find-block .ensures) in
-    spot-missing _ _ _ _ _ a b (rw (la, lb) (ground-refused _ _ _ _ said))
+    spot-stopped _ _ _ _ _ a b (in-missing _ _ _ a b (rw (la, lb) (ground-refused _ _ _ _ said)))
 
 returns-2 : tie.Need-returns-2
 returns-2 c a b la lb =
