@@ -45,7 +45,7 @@ pub fn without_bit(mask: u64, k: u32) -> u64
 }
 
 // The mask with the bits of the first `count` members.
-pub fn every_bit(count: u32) -> u64
+fn every_bit(count: u32) -> u64
     requires { ⌜ count ≤ 64 ⌝ }
     ensures { λ r. ⌜ r ≡ 2 ^ count - 1 ⌝ }
 {
@@ -53,4 +53,12 @@ pub fn every_bit(count: u32) -> u64
         return 0xffff_ffff_ffff_ffff;
     }
     (1 << count) - 1
+}
+
+// Every member's bit, whatever the mask held.
+pub fn mark_all(mask: &mut u64, count: u32)
+    requires { ⌜ count ≤ 64 ⌝ }
+    ensures { λ _. ⌜ now (mask .exit) ≡ 2 ^ count - 1 ⌝ }
+{
+    *mask = every_bit(count);
 }

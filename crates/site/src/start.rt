@@ -2,7 +2,7 @@
 use crate::block::find_block;
 use crate::buffers::both_have;
 use crate::buffers::longer;
-use crate::mask::every_bit;
+use crate::mask::mark_all;
 use layout_table::Grounded;
 use layout_values::value::blank;
 use numbers::wide::wide;
@@ -56,7 +56,7 @@ pub fn fresh(file: &[u8], entry: u32, factory: &[u8], site: &mut [u8], mask: &mu
             let size = wide(g.value.size);
             if both_have(size, factory.len(), site.len()) {
                 copy_first(size, factory, site);
-                *mask = every_bit(g.value.count);
+                mark_all(mask, g.value.count);
                 return Number::Is(0);
             }
             Number::Refused(Refusal::Buffer)

@@ -48,19 +48,19 @@ copy-first-requires c κs =
     let room = both-hold _ _ (sym (both-is both) ∙ c .before .if1 .taken) in
     (omega (arith, size, leb-true _ (length (now (a .factory))) (room .0)), omega (arith, size, leb-true _ (length (now (a .site))) (room .1)))
 
-every-bit-requires : tie.Need-every-bit-requires
-every-bit-requires c κs = count-low (found (c .before .before .before .before .before) .1)
+mark-all-requires : tie.Need-mark-all-requires
+mark-all-requires c κs = count-low (found (c .before .before .before .before .before .before) .1)
 
 returns : tie.Need-returns
 unfolding copiedWhole everyBit
 returns c =
-    let both = c .before .before .before .before .before .before in
+    let both = c .before .before .before .before .before .before .before in
     let a = both .before .before .before .before .before .before .before .before .before .before .before .before .before .args in
     let x = found both .1 in
     let size = both .before .wide .ensures .0 ∙ size-is x in
-    let roomy = sym (both-is both) ∙ c .before .before .before .before .before .if1 .taken in
+    let roomy = sym (both-is both) ∙ c .before .before .before .before .before .before .if1 .taken in
     let y = site-done (now (a .site)) (now (a .mask)) (fresh-there _ _ _ _ (in-both _ _ 0 _ _ (x .block) roomy)) in
-    (y .0, (c .before .before .before .copy-first .ensures ∙ ap (λ n. take n (now (a .factory)) ++ drop n (now (a .site))) size ∙ y .1, c .every-bit .ensures ∙ ap (λ n. 2 ^ n - 1) (count-is x) ∙ y .2))
+    (y .0, (c .before .before .before .before .copy-first .ensures ∙ ap (λ n. take n (now (a .factory)) ++ drop n (now (a .site))) size ∙ y .1, c .mark-all .ensures ∙ ap (λ n. 2 ^ n - 1) (count-is x) ∙ y .2))
 
 returns-2 : tie.Need-returns-2
 returns-2 c =
@@ -82,4 +82,4 @@ pub fresh-spec : {M : Type 1} → statement M
 fresh-spec =
     tie.close (tie.spec
     (λ c κs. search needs) (λ c κs. search needs) (λ c. search needs) (λ c κs. search needs) (λ c. search needs) (λ c. search needs)
-    (λ c κs. search needs) (λ c κs. search needs) copy-first-requires every-bit-requires (λ c. search needs) returns returns-2 returns-3)
+    (λ c κs. search needs) (λ c κs. search needs) copy-first-requires mark-all-requires (λ c. search needs) returns returns-2 returns-3)
