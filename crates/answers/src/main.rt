@@ -1,4 +1,4 @@
-// Answers questions about layout files: reads them on standard input and writes a line for each (oracle/README.md, version 11).
+// Answers questions about layout files: reads them on standard input and writes a line for each (oracle/README.md, version 12).
 mod lines;
 mod question;
 mod say;
@@ -66,9 +66,9 @@ fn main() {
     let n = io::read_full(STDIN_FILENO, &mut input);
     let text = &input[..n];
     let first = next(text, 0, 10);
-    if !same(&text[..first], b"questions 11") {
-        return say(b"not questions 11\n");
+    if !same(&text[..first], b"questions 12") {
+        return say(b"not questions 12\n");
     }
-    say(b"answers 11\n");
+    say(b"answers 12\n");
     answer_all(text, first + 1, &mut file, &mut buffer, &mut factory);
 }

@@ -30,6 +30,7 @@ use lepugaso::read;
 use lepugaso::set;
 use lepugaso::site_clear;
 use lepugaso::site_fresh;
+use lepugaso::site_inheriting;
 use lepugaso::site_member;
 use lepugaso::site_member_at;
 use lepugaso::site_set;
@@ -188,11 +189,23 @@ fn mask_of(low: u32, high: u32) -> u64 {
     (high as u64) * 4294967296 + (low as u64)
 }
 
-// Says the mask of a fresh block.
-fn answer_fresh(file: &[u8], entry: u32, mask: u64) {
+// Says the mask of an inheriting block.
+fn answer_inheriting(file: &[u8], entry: u32, mask: u64) {
     let mut m = mask;
-    say_plain(site_fresh(file, entry, &mut m));
+    say_plain(site_inheriting(file, entry, &mut m));
     say_mask(m);
+    say(b"\n");
+}
+
+// Makes a fresh block in a copy of the buffer, and says the mask, and what the copy holds then.
+fn answer_fresh(file: &[u8], entry: u32, mask: u64, factory: &[u8], held: &[u8]) {
+    let mut buffer = io::buffer();
+    let p = copy(held, &mut buffer);
+    let n = p.count;
+    let mut m = mask;
+    say_plain(site_fresh(file, entry, factory, &mut buffer[..n], &mut m));
+    say_mask(m);
+    say_bytes(&buffer[..n]);
     say(b"\n");
 }
 
@@ -280,8 +293,11 @@ fn answer_site_set_of(
 // The questions about a site block, whose entry comes first; the others are not.
 fn answer_site<'a>(file: &[u8], held: &'a [u8], factory: &'a [u8], word: &[u8], ns: &[u32]) {
     if ns.len() == 3 {
+        if same(word, b"site_inheriting") {
+            return answer_inheriting(file, ns[0], mask_of(ns[1], ns[2]));
+        }
         if same(word, b"site_fresh") {
-            return answer_fresh(file, ns[0], mask_of(ns[1], ns[2]));
+            return answer_fresh(file, ns[0], mask_of(ns[1], ns[2]), factory, held);
         }
     }
     if ns.len() == 4 {

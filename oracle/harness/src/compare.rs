@@ -37,6 +37,8 @@ const PLAN: Plan = Plan {
     sites: 8000,
     site_asked: 12,
     site_bytes: 4096,
+    site_fresh: 4,
+    site_steps: 6,
     clean_edges: 1,
     clean_small: 3,
     cleans: 6000,
@@ -73,6 +75,8 @@ const RECORDED: Plan = Plan {
     sites: 6,
     site_asked: 3,
     site_bytes: 24,
+    site_fresh: 2,
+    site_steps: 3,
     clean_edges: 4,
     clean_small: 0,
     cleans: 4,
@@ -252,6 +256,18 @@ pub fn judge(document: &str, folder: &str) -> bool {
     faults.is_empty()
 }
 
+/// Blocks that have the same file, one after another, as one: its line is written once.
+fn joined(blocks: Vec<Block>) -> Vec<Block> {
+    let mut list: Vec<Block> = Vec::new();
+    for b in blocks {
+        match list.last_mut().filter(|last| last.file == b.file) {
+            Some(last) => last.questions.extend(b.questions),
+            None => list.push(b),
+        }
+    }
+    list
+}
+
 /// Writes FOLDER/stdin and FOLDER/stdout: questions, and the Rust's answers to them; where a row says that the Rust's is another, what 01
 /// says.
 pub fn record(document: &str, folder: &str) -> bool {
@@ -265,6 +281,7 @@ pub fn record(document: &str, folder: &str) -> bool {
     generate::site_blocks(1, &RECORDED, |b| blocks.push(b));
     generate::clean_blocks(1, &RECORDED, |b| blocks.push(b));
     generate::order_blocks(1, &RECORDED, |b| blocks.push(b));
+    let blocks = joined(blocks);
     let questions = blocks.iter().fold(format!("{HEAD}\n"), |s, b| s + &b.lines());
     let rust = answer(&questions);
     let mut rust = rust.lines();

@@ -1267,7 +1267,8 @@ pub struct Plan {
     pub large: usize,
     /// pairs of a damaged table and a damaged file
     pub damaged: usize,
-    /// how often every edge of offset and count is asked about, and how many of those fields at each path to an i32 or a u32
+    /// how often every edge of offset and count is asked about, and each site block made by hand is followed from its starts on; and how
+    /// many of those fields are asked about at each path to an i32 or a u32
     pub rounds: usize,
     pub fields: usize,
     /// tables of values with long paths, random and damaged ones, on which fields are asked about
@@ -1297,6 +1298,9 @@ pub struct Plan {
     /// questions on each of them, and the longest buffers there
     pub site_asked: usize,
     pub site_bytes: u64,
+    /// fresh blocks on each of them, and how many sets and clears follow each start of one
+    pub site_fresh: usize,
+    pub site_steps: usize,
     /// of the buffers with gaps of entries made by hand: one of so many
     pub clean_edges: u64,
     /// all tables of at most so many entries over the menu, without and with an i64, in each the gaps of its last entry
@@ -1719,7 +1723,7 @@ fn site_edges(r: &mut Random, good: &Good, e: usize, one_of: u64) -> Vec<Questio
     let (count, last) = (types.len() as u32, types.len() as u32 - 1);
     let (more, beside) = (1 + r.below(5), r.below(5));
     let room = Sheets { factory: bytes(r, size + beside), site: bytes(r, size + more) };
-    let mut qs = thinned(r, one_of, 0, [u64::MAX, full(count), 0].map(|mask| Question::SiteFresh(entry, mask)));
+    let mut qs = thinned(r, one_of, 0, [u64::MAX, full(count), 0].map(|mask| Question::SiteInheriting(entry, mask)));
     for k in (0..count).filter(|k| count < 16 || [0, 1, 31, 32, 33, 62, 63].contains(k)) {
         let ty = types[k as usize];
         for (i, mask) in masks(r, count, k).into_iter().enumerate() {
@@ -1788,10 +1792,94 @@ fn site_edges(r: &mut Random, good: &Good, e: usize, one_of: u64) -> Vec<Questio
     qs
 }
 
-/// A fresh block of an entry, whatever it is, and of the others one, or all.
+/// An inheriting block of an entry, whatever it is, and of the others one, or all.
 fn site_of_any(r: &mut Random, e: u32, mask: u64, sheets: &Sheets, one_of: u64) -> Vec<Question> {
     let asked = of_setting(e, 0, mask, vec![7], vec![], sheets);
-    [vec![Question::SiteFresh(e, mask)], thinned(r, one_of, e as usize, asked)].concat()
+    [vec![Question::SiteInheriting(e, mask)], thinned(r, one_of, e as usize, asked)].concat()
+}
+
+/// Fresh blocks of a struct, in buffers of each length at an edge and under each sort of mask. Of the lengths of a large struct one pair of
+/// so many and the first ones, of the masks one of so many and one in any case.
+fn fresh_edges(r: &mut Random, good: &Good, e: usize, one_of: u64) -> Vec<Question> {
+    let (count, size) = (good.table.entries[e].count, good.extent(e, 0));
+    let (short, beside, more) = (size - 1, size + 1 + r.below(5), size + 1 + r.below(5));
+    let room = Sheets { factory: bytes(r, beside), site: bytes(r, more) };
+    let masks = [u64::MAX, 0, 1 << (count % 64), full(count), 1 << 63, r.next()];
+    // each pair has a buffer of the one before
+    let lengths = [
+        (short, more),
+        (beside, more),
+        (beside, short),
+        (beside, size),
+        (size, size),
+        (size, 0),
+        (0, 0),
+        (0, size),
+        (short, size),
+        (short, short),
+    ];
+    let mut qs = Vec::new();
+    for (i, (factory, site)) in lengths.into_iter().enumerate() {
+        let of = |sheet: &[u8], length: u64| sheet[..length as usize].to_vec();
+        let sheets = Sheets { factory: of(&room.factory, factory), site: of(&room.site, site) };
+        if size < 16 || i < 3 || r.one_in(one_of) {
+            let asked = masks.map(|mask| Question::SiteFresh(e as u32, mask, sheets.clone())).into_iter().enumerate();
+            qs.extend(asked.filter(|(j, _)| *j == i % masks.len() || r.one_in(one_of)).map(|(_, q)| q));
+        }
+    }
+    qs
+}
+
+/// A block from either of its starts on: the same sets and clears, mostly by turns, of its last member and of another, each from the mask
+/// and the site buffer that the one before left; before one of them the factory sheet changes; after each a member is asked for.
+fn histories(r: &mut Random, good: &Good, e: usize, start: &Sheets, steps: usize) -> Vec<Question> {
+    let (entry, types) = (e as u32, member_types(good, e));
+    let last = types.len() as u32 - 1;
+    let other = r.below(last.max(1) as u64) as u32;
+    let mut step = |i: usize| {
+        let (k, asked) = (r.of(&[last, last, other]), r.of(&[last, other]));
+        let ty = types[k as usize];
+        let path = if r.one_in(8) { any_path(r, good, ty, 0) } else { good_path(r, good, ty, 0, 300) };
+        let words = match good.walk(ty, 0, &path).ok().and_then(|t| good.scalar(t.stand)) {
+            Some(scalar) if !r.one_in(8) => fitting_words(r, good, scalar, 0),
+            _ => site_words(r, good, ty, &path),
+        };
+        (k, asked, Some((words, path)).filter(|_| (i % 2 == 0) != r.one_in(4)))
+    };
+    let changes: Vec<_> = (0..steps).map(&mut step).collect();
+    let (sheet, changes_at) = (bytes(r, start.factory.len() as u64), r.below(steps.max(1) as u64) as usize);
+    let old = r.of(&[0, full(types.len() as u32), u64::MAX]);
+    let mut qs = Vec::new();
+    for inherits in [false, true] {
+        let (mut mask, mut sheets) = (old, start.clone());
+        let started = if inherits {
+            qs.push(Question::SiteInheriting(entry, mask));
+            good.site_inheriting(e, &mut mask)
+        } else {
+            qs.push(Question::SiteFresh(entry, mask, sheets.clone()));
+            good.site_fresh(e, &mut mask, &mut sheets)
+        };
+        started.expect("a struct that is fit for a block");
+        for (i, (k, asked, set)) in changes.iter().enumerate() {
+            if i == changes_at {
+                sheets.factory = sheet.clone();
+                qs.push(Question::SiteMember(entry, *asked, mask, sheets.clone()));
+            }
+            // what is refused leaves all as it was
+            let _ = match set {
+                Some((words, path)) => {
+                    qs.push(Question::SiteSet(entry, *k, mask, words.clone(), path.clone(), sheets.clone()));
+                    good.site_set(e, *k, path, words, &mut mask, &mut sheets)
+                }
+                None => {
+                    qs.push(Question::SiteClear(entry, *k, mask));
+                    good.site_clear(e, *k, &mut mask)
+                }
+            };
+            qs.push(Question::SiteMember(entry, if i % 2 == 0 { *k } else { *asked }, mask, sheets.clone()));
+        }
+    }
+    qs
 }
 
 /// Structs of 1, 2, 63, 64 and 65 members.
@@ -1856,6 +1944,18 @@ fn wide(r: &mut Random, n: u64, kinds: &[u8]) -> Table {
     with(&t, &structure(&t, ms))
 }
 
+/// The start of these buffers, as long as the entry, or so long where it has no size or a larger one; either may be short, or longer.
+fn some_sheets(r: &mut Random, good: Option<&Good>, entry: u32, size: u64, room: &Sheets) -> Sheets {
+    let most = room.site.len() as u64;
+    let size = good.map(|good| good.extent(entry as usize, 0)).filter(|extent| *extent <= most).unwrap_or(size);
+    let mut start = |sheet: &[u8]| {
+        let (less, more) = (r.below(size + 1), (size + r.below(9)).min(most));
+        let length = if r.one_in(8) { r.of(&[size.saturating_sub(1), less, more, more]) } else { size };
+        sheet[..length as usize].to_vec()
+    };
+    Sheets { factory: start(&room.factory), site: start(&room.site) }
+}
+
 /// A question about a site block of an entry that may be fit for none: of a member that may not be there, under a mask that may go beyond,
 /// at a path and with words that may be bad, with the start of these buffers, which may be short.
 fn faulty_site(r: &mut Random, good: Option<&Good>, entry: u32, room: &Sheets) -> Question {
@@ -1865,7 +1965,7 @@ fn faulty_site(r: &mut Random, good: Option<&Good>, entry: u32, room: &Sheets) -
     let k = if count == 0 || r.one_in(8) { r.of(&strangers(count)) } else { r.below(count as u64) as u32 };
     let (within, beyond) = (masks(r, count, k), [1u64.checked_shl(count).unwrap_or(1), 1 << 63, r.next()]);
     let mask = if r.one_in(12) { r.of(&beyond) } else { r.of(&within) };
-    let (mut path, mut words, mut size) = (vec![], any_words(r, 1), r.below(20));
+    let (mut path, mut words, size) = (vec![], any_words(r, 1), r.below(20));
     if let (Some(good), Some(ty)) = (good, types.get(k as usize)) {
         path = if r.one_in(2) { any_path(r, good, *ty, 0) } else { good_path(r, good, *ty, 0, 300) };
         words = site_words(r, good, *ty, &path);
@@ -1873,21 +1973,40 @@ fn faulty_site(r: &mut Random, good: Option<&Good>, entry: u32, room: &Sheets) -
     if r.one_in(8) {
         words.resize(r.below(4) as usize, 7);
     }
-    let most = room.site.len() as u64;
-    if let Some(extent) = good.map(|good| good.extent(entry as usize, 0)).filter(|extent| *extent <= most) {
-        size = extent;
-    }
-    let mut start = |sheet: &[u8]| {
-        let (less, more) = (r.below(size + 1), (size + r.below(9)).min(most));
-        let length = if r.one_in(8) { r.of(&[size.saturating_sub(1), less, more, more]) } else { size };
-        sheet[..length as usize].to_vec()
-    };
-    let sheets = Sheets { factory: start(&room.factory), site: start(&room.site) };
+    let sheets = some_sheets(r, good, entry, size, room);
     match r.below(8) {
-        0 => Question::SiteFresh(entry, mask),
+        0 => Question::SiteInheriting(entry, mask),
         1 => Question::SiteClear(entry, k, mask),
         2 | 3 => Question::SiteMember(entry, k, mask, sheets),
         _ => Question::SiteSet(entry, k, mask, words, path, sheets),
+    }
+}
+
+/// A fresh block of an entry that may be fit for none, under a mask that may go beyond, with the start of these buffers, which may be
+/// short.
+fn faulty_fresh(r: &mut Random, good: Option<&Good>, entry: u32, room: &Sheets) -> Question {
+    let good = good.filter(|g| (entry as usize) < g.laid.len());
+    let count = good.map_or(0, |good| member_types(good, entry as usize).len()) as u32;
+    let (any, size) = (r.next(), r.below(20));
+    let mask = r.of(&[0, full(count), any & full(count), any, u64::MAX]);
+    let sheets = some_sheets(r, good, entry, size, room);
+    Question::SiteFresh(entry, mask, sheets)
+}
+
+/// The entries of a table that are fit for a site block; none where it is refused.
+fn fit_for_site(good: Option<&Good>) -> Vec<u32> {
+    let is_fit = |good: &Good, e: u32| good.site_inheriting(e as usize, &mut 0).is_ok();
+    good.map_or(vec![], |good| (0..good.laid.len() as u32).filter(|e| is_fit(good, *e)).collect())
+}
+
+/// Mostly an entry that is fit for a site block; now and then one that is not there.
+fn some_entry(r: &mut Random, types: u64, fit: &[u32]) -> u32 {
+    let (past, any) = (r.of(&[types, 255, 4_294_967_295]) as u32, r.below(types) as u32);
+    match r.below(16) {
+        0 => past,
+        1..=3 => any,
+        _ if fit.is_empty() => any,
+        _ => r.of(fit),
     }
 }
 
@@ -1896,64 +2015,102 @@ fn faulty_site(r: &mut Random, good: Option<&Good>, entry: u32, room: &Sheets) -
 fn some_sites(r: &mut Random, t: &Table, n: usize, most: u64) -> Vec<Question> {
     let types = t.entries.len().max(1) as u64;
     let good = model::check(&t.write(&[])).ok();
-    let is_fit = |e: &u32| good.as_ref().is_some_and(|good| good.site_fresh(*e as usize, &mut 0).is_ok());
-    let fit: Vec<u32> = (0..types as u32).filter(is_fit).collect();
+    let fit = fit_for_site(good.as_ref());
     let room = Sheets { factory: bytes(r, most), site: bytes(r, most) };
     let mut one = || {
-        let (past, any) = (r.of(&[types, 255, 4_294_967_295]) as u32, r.below(types) as u32);
-        let entry = match r.below(16) {
-            0 => past,
-            1..=3 => any,
-            _ if fit.is_empty() => any,
-            _ => r.of(&fit),
-        };
+        let entry = some_entry(r, types, &fit);
         faulty_site(r, good.as_ref(), entry, &room)
     };
     (0..n).map(|_| one()).collect()
 }
 
-/// The questions about site blocks. They have random numbers of their own too.
+/// `n` fresh blocks in the same way; and of an entry that is fit for one so many sets and clears after either start.
+fn some_starts(r: &mut Random, t: &Table, n: usize, steps: usize, most: u64) -> Vec<Question> {
+    let types = t.entries.len().max(1) as u64;
+    let good = model::check(&t.write(&[])).ok();
+    let mut fit = fit_for_site(good.as_ref());
+    let room = Sheets { factory: bytes(r, most), site: bytes(r, most) };
+    let mut one = || {
+        let entry = some_entry(r, types, &fit);
+        faulty_fresh(r, good.as_ref(), entry, &room)
+    };
+    let mut qs: Vec<Question> = (0..n).map(|_| one()).collect();
+    let Some(good) = good else { return qs };
+    fit.retain(|e| good.extent(*e as usize, 0) <= most);
+    if !fit.is_empty() {
+        let e = r.of(&fit) as usize;
+        let mut length = || (good.extent(e, 0) + r.of(&[0, 1, 3])).min(most) as usize;
+        let start = Sheets { factory: room.factory[..length()].to_vec(), site: room.site[..length()].to_vec() };
+        qs.extend(histories(r, &good, e, &start, steps));
+    }
+    qs
+}
+
+/// The questions about site blocks. They have random numbers of their own too, and those about their starts others, so that the rest are
+/// the same with and without them.
 pub fn site_blocks(seed: u64, plan: &Plan, mut each: impl FnMut(Block)) {
-    let mut r = Random(seed.rotate_left(16));
+    let (mut r, mut s) = (Random(seed.rotate_left(16)), Random(seed.rotate_left(24)));
     let sheets = |r: &mut Random, length| Sheets { factory: bytes(r, length), site: bytes(r, length) };
+    let none = Sheets { factory: vec![], site: vec![] };
     for t in [site_counts(), site_sorts()] {
         let good = model::check(&t.write(&[])).ok().expect("an accepted table");
         let (mut questions, room) = (vec![], sheets(&mut r, 16));
         // one more than there are
-        for e in 0..=t.entries.len() as u32 {
+        let all = 0..=t.entries.len() as u32;
+        for e in all.clone() {
             questions.extend(site_of_any(&mut r, e, 1, &room, plan.site_edges));
         }
-        for e in 0..t.entries.len() {
-            if good.site_fresh(e, &mut 0).is_ok() {
-                questions.extend(site_edges(&mut r, &good, e, plan.site_edges));
+        // the same of fresh ones; with no byte in either buffer, what comes before 15
+        for sheets in [&room, &none] {
+            let mask = |e: u32| [u64::MAX, 1, 0][e as usize % 3];
+            questions.extend(all.clone().map(|e| Question::SiteFresh(e, mask(e), sheets.clone())));
+        }
+        for e in fit_for_site(Some(&good)) {
+            questions.extend(site_edges(&mut r, &good, e as usize, plan.site_edges));
+        }
+        for e in fit_for_site(Some(&good)) {
+            let e = e as usize;
+            questions.extend(fresh_edges(&mut s, &good, e, plan.site_edges));
+            // of those with many members the largest
+            let (size, count) = (good.extent(e, 0), good.table.entries[e].count);
+            if count < 16 || count == model::SETTINGS || s.one_in(plan.site_edges) {
+                for _ in 0..plan.rounds {
+                    let start = sheets(&mut s, size);
+                    questions.extend(histories(&mut s, &good, e, &start, plan.site_steps));
+                }
             }
         }
         each(Block { file: t.write(&[]), questions });
     }
     // no table, and a bad entry
     for file in [vec![0], table(&[scalar(2), scalar(16)]).write(&[])] {
-        let room = sheets(&mut r, 5);
-        each(Block { file, questions: site_of_any(&mut r, 0, 1 << 32 | 5, &room, 1) });
+        let (room, mask) = (sheets(&mut r, 5), 1 << 32 | 5);
+        let fresh = [&room, &none].map(|sheets| Question::SiteFresh(0, mask, sheets.clone()));
+        each(Block { file, questions: [site_of_any(&mut r, 0, mask, &room, 1), fresh.to_vec()].concat() });
     }
-    let (n, kinds) = (plan.site_asked, [0, 1, 2, 3, 3, 4, 4, 5, 13, 14, 15]);
+    let mut ask = |file: Vec<u8>, t: &Table, n: usize, steps: usize, most: u64, r: &mut Random| {
+        let asked = some_sites(r, t, n, most);
+        each(Block { file, questions: [asked, some_starts(&mut s, t, plan.site_fresh, steps, most)].concat() });
+    };
+    let (n, steps, kinds) = (plan.site_asked, plan.site_steps, [0, 1, 2, 3, 3, 4, 4, 5, 13, 14, 15]);
     for i in 0..plan.sites {
         let (base, types) = (table(&[scalar(r.of(&kinds))]), 3 + r.below(7) as usize);
         let t = random_over(&mut r, base, types, if i % 8 == 7 { 60 } else { 12 }, &kinds);
         let form = if r.one_in(4) { 2 } else { 1 };
         let most = if r.one_in(40) { plan.site_bytes } else { plan.site_bytes.min(FEW_BYTES) };
-        each(Block { file: named(&mut r, &t).write_as(form, &[]), questions: some_sites(&mut r, &t, n, most) });
+        ask(named(&mut r, &t).write_as(form, &[]), &t, n, steps, most, &mut r);
         if i % 4 == 3 {
             let d = damaged_table(&mut r, &t);
-            each(Block { file: file(&mut r, &d), questions: some_sites(&mut r, &d, n.min(4), most) });
+            ask(file(&mut r, &d), &d, n.min(4), 1, most, &mut r);
             let b = file(&mut r, &t);
-            each(Block { file: damaged_file(&mut r, &b), questions: some_sites(&mut r, &t, n.min(3), most) });
+            ask(damaged_file(&mut r, &b), &t, n.min(3), 1, most, &mut r);
         }
         if i % 8 == 7 {
             let deep = nested(&mut r, &[STORED.as_slice(), &LONG].concat());
-            each(Block { file: deep.write(&[]), questions: some_sites(&mut r, &deep, n, most) });
+            ask(deep.write(&[]), &deep, n, steps, most, &mut r);
             let many = 1 + r.below(66);
             let w = wide(&mut r, many, &kinds);
-            each(Block { file: w.write(&[]), questions: some_sites(&mut r, &w, n, plan.site_bytes) });
+            ask(w.write(&[]), &w, n, steps, plan.site_bytes, &mut r);
         }
     }
 }

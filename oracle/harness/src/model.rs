@@ -700,22 +700,37 @@ impl Good {
         Ok(self.table.members_of(&x).expect("members within the table"))
     }
 
-    /// The type of member k and where it begins: then "15 for either buffer, 11 for k (place 0)".
-    fn setting(&self, e: usize, k: u32, mask: u64, sheets: &Sheets) -> Result<(usize, usize), (u32, u64)> {
+    /// The same for these two: then "15 for either buffer". And how many bytes the block has in each.
+    fn sheeted(&self, e: usize, mask: u64, sheets: &Sheets) -> Result<(&[Member], usize), (u32, u64)> {
         let lengths = [sheets.factory.len() as u64, sheets.site.len() as u64];
         let ms = self.settings(e, mask, lengths[0].max(lengths[1]))?;
         let size = self.laid[e].size.expect("a struct that is not open");
         if lengths.iter().any(|length| *length < size) {
             return Err((15, 0));
         }
+        Ok((ms, size as usize))
+    }
+
+    /// The type of member k and where it begins: then "11 for k (place 0)".
+    fn setting(&self, e: usize, k: u32, mask: u64, sheets: &Sheets) -> Result<(usize, usize), (u32, u64)> {
+        let (ms, _) = self.sheeted(e, mask, sheets)?;
         let m = ms.get(k as usize).ok_or((11, 0))?;
         Ok((m.ty as usize, members(&self.laid, ms)[k as usize].offset as usize))
     }
 
-    /// A fresh block: "it takes the entry alone", whatever the mask was.
-    pub fn site_fresh(&self, e: usize, mask: &mut u64) -> Answer {
+    /// An inheriting block, E11's "old start": "mask 0; it takes the entry alone", whatever the mask was.
+    pub fn site_inheriting(&self, e: usize, mask: &mut u64) -> Answer {
         self.settings(e, 0, 0)?;
         *mask = 0;
+        Ok(0)
+    }
+
+    /// A fresh block (E11): "the factory's bytes copied into the site buffer and every member's bit set", whatever the mask was. "the fresh
+    /// copy gives all that asking for a member gives, up to 15, before anything is copied"
+    pub fn site_fresh(&self, e: usize, mask: &mut u64, sheets: &mut Sheets) -> Answer {
+        let (ms, size) = self.sheeted(e, 0, sheets)?;
+        sheets.site[..size].copy_from_slice(&sheets.factory[..size]);
+        *mask = (0..ms.len()).map(|k| 1 << k).sum();
         Ok(0)
     }
 
@@ -933,8 +948,10 @@ fn unchanged(q: &Question, number: u32, place: u64) -> String {
         }
         Question::Read(_, words, _) | Question::PlanOrder(_, words) => with_words(Err((number, place)), words),
         Question::Clean(_, buffer) => with_gaps(Err((number, place)), buffer, buffer),
-        Question::SiteFresh(_, mask) | Question::SiteClear(_, _, mask) => with_mask(Err((number, place)), *mask),
-        Question::SiteSet(_, _, mask, _, _, sheets) => with_site(Err((number, place)), *mask, &sheets.site),
+        Question::SiteInheriting(_, mask) | Question::SiteClear(_, _, mask) => with_mask(Err((number, place)), *mask),
+        Question::SiteFresh(_, mask, sheets) | Question::SiteSet(_, _, mask, _, _, sheets) => {
+            with_site(Err((number, place)), *mask, &sheets.site)
+        }
         _ => format!("refused {number} at {place}"),
     }
 }
@@ -1026,9 +1043,13 @@ pub fn answer(file: &[u8], checked: &Result<Good, Refusal>, nodes: &[u64], q: &Q
             let mut buffer = buffer.clone();
             with_buffer(good.insert(*e as usize, path, *new, *field, &mut buffer), &buffer)
         }
-        Question::SiteFresh(e, mask) => {
+        Question::SiteInheriting(e, mask) => {
             let mut mask = *mask;
-            with_mask(good.site_fresh(*e as usize, &mut mask), mask)
+            with_mask(good.site_inheriting(*e as usize, &mut mask), mask)
+        }
+        Question::SiteFresh(e, mask, sheets) => {
+            let (mut mask, mut sheets) = (*mask, sheets.clone());
+            with_site(good.site_fresh(*e as usize, &mut mask, &mut sheets), mask, &sheets.site)
         }
         Question::SiteClear(e, k, mask) => {
             let mut mask = *mask;

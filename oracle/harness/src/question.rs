@@ -1,7 +1,7 @@
-//! Questions, their lines and those of their answers (oracle/README.md, version 11).
+//! Questions, their lines and those of their answers (oracle/README.md, version 12).
 
-pub const HEAD: &str = "questions 11";
-pub const ANSWERS_HEAD: &str = "answers 11";
+pub const HEAD: &str = "questions 12";
+pub const ANSWERS_HEAD: &str = "answers 12";
 
 #[derive(Clone)]
 pub enum Question {
@@ -38,7 +38,9 @@ pub enum Question {
     /// the form to move to, and what the output holds before
     Move(u16, Vec<u8>),
     /// an entry, and the mask before
-    SiteFresh(u32, u64),
+    SiteInheriting(u32, u64),
+    /// an entry, the mask, and the two buffers, of all of which the mask and the site's may change
+    SiteFresh(u32, u64, Sheets),
     /// an entry, a member, and the mask before
     SiteClear(u32, u32, u64),
     /// an entry, a member, the mask, and the two buffers
@@ -113,7 +115,8 @@ impl Question {
             Question::ExtractU32(word, field) => format!("extract_u32 {word} {}", field.line()),
             Question::InsertU32(word, new, field) => format!("insert_u32 {word} {new} {}", field.line()),
             Question::Move(form, _) => format!("to_form_{form}"),
-            Question::SiteFresh(e, mask) => format!("site_fresh {e} {}", halves(*mask)),
+            Question::SiteInheriting(e, mask) => format!("site_inheriting {e} {}", halves(*mask)),
+            Question::SiteFresh(e, mask, _) => format!("site_fresh {e} {}", halves(*mask)),
             Question::SiteClear(e, k, mask) => format!("site_clear {e} {k} {}", halves(*mask)),
             Question::SiteMember(e, k, mask, _) => format!("site_member {e} {k} {}", halves(*mask)),
             Question::SiteSet(e, k, mask, words, path, _) => {
@@ -157,7 +160,8 @@ impl Question {
             ("insert_u32", [word, new, o, c]) => Question::InsertU32(*word, *new, field(o, c)),
             ("to_form_1", []) => Question::Move(1, buffer.to_vec()),
             ("to_form_2", []) => Question::Move(2, buffer.to_vec()),
-            ("site_fresh", [e, l, h]) => Question::SiteFresh(*e, mask(l, h)),
+            ("site_inheriting", [e, l, h]) => Question::SiteInheriting(*e, mask(l, h)),
+            ("site_fresh", [e, l, h]) => Question::SiteFresh(*e, mask(l, h), sheets()),
             ("site_clear", [e, k, l, h]) => Question::SiteClear(*e, *k, mask(l, h)),
             ("site_member", [e, k, l, h]) => Question::SiteMember(*e, *k, mask(l, h), sheets()),
             ("site_set", [e, k, l, h, count, rest @ ..]) if *count as usize <= rest.len() => {
@@ -178,7 +182,7 @@ impl Question {
             Question::View(e, _, _) | Question::Set(e, _, _, _) | Question::Clean(e, _) => vec![*e],
             Question::PlanOrder(e, _) | Question::CheckOrder(e, _) => vec![*e],
             Question::Extract(e, _, _, _) | Question::Insert(e, _, _, _, _) => vec![*e],
-            Question::SiteFresh(e, _) | Question::SiteClear(e, _, _) => vec![*e],
+            Question::SiteInheriting(e, _) | Question::SiteFresh(e, _, _) | Question::SiteClear(e, _, _) => vec![*e],
             Question::SiteMember(e, _, _, _) | Question::SiteSet(e, _, _, _, _, _) => vec![*e],
             Question::Rank(a, b) => vec![*a, *b],
             Question::Common(list) => list.clone(),
@@ -192,15 +196,20 @@ impl Question {
             Question::View(_, _, buffer) | Question::Set(_, _, _, buffer) => Some(buffer),
             Question::Extract(_, _, _, buffer) | Question::Insert(_, _, _, _, buffer) => Some(buffer),
             Question::Clean(_, buffer) | Question::Move(_, buffer) => Some(buffer),
-            Question::SiteMember(_, _, _, sheets) | Question::SiteSet(_, _, _, _, _, sheets) => Some(&sheets.site),
-            _ => None,
+            _ => self.sheets().map(|sheets| sheets.site.as_slice()),
         }
     }
 
     /// The factory buffer that the question is about.
     pub fn factory(&self) -> Option<&[u8]> {
+        self.sheets().map(|sheets| sheets.factory.as_slice())
+    }
+
+    /// The two buffers of a block that the question is about.
+    fn sheets(&self) -> Option<&Sheets> {
         match self {
-            Question::SiteMember(_, _, _, sheets) | Question::SiteSet(_, _, _, _, _, sheets) => Some(&sheets.factory),
+            Question::SiteFresh(_, _, sheets) | Question::SiteMember(_, _, _, sheets) => Some(sheets),
+            Question::SiteSet(_, _, _, _, _, sheets) => Some(sheets),
             _ => None,
         }
     }
@@ -297,12 +306,12 @@ pub fn with_part(viewed: Result<(u64, Vec<u8>), (u32, u64)>) -> String {
     }
 }
 
-/// What is said of a fresh block and of clearing: its answer, and the mask after it.
+/// What is said of an inheriting block and of clearing: its answer, and the mask after it.
 pub fn with_mask(answer: Answer, mask: u64) -> String {
     format!("{} {mask}", told(answer))
 }
 
-/// What is said of a set on site: its answer, the mask after it, and what the site buffer holds then.
+/// What is said of a fresh block and of a set on site: its answer, the mask after it, and what the site buffer holds then.
 pub fn with_site(answer: Answer, mask: u64, site: &[u8]) -> String {
     format!("{} {}", with_mask(answer, mask), hex(site)).trim_end().into()
 }

@@ -425,9 +425,8 @@ pub fn departure(good: &Good, q: &Question, says: &str) -> Option<(Row, String)>
         Question::CheckOrder(e, order) => reordered(good, *e as usize, order)?,
         Question::Extract(..) | Question::Insert(..) => (Row::BitFields, NOTHING.into()),
         Question::Uniform(_) => (Row::Uniform, NOTHING.into()),
-        Question::SiteFresh(..) | Question::SiteClear(..) | Question::SiteMember(..) | Question::SiteSet(..) => {
-            (Row::Site, NOTHING.into())
-        }
+        Question::SiteInheriting(..) | Question::SiteFresh(..) | Question::SiteClear(..) => (Row::Site, NOTHING.into()),
+        Question::SiteMember(..) | Question::SiteSet(..) => (Row::Site, NOTHING.into()),
         _ => return None,
     };
     (said != says).then_some((row, said))

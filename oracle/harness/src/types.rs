@@ -499,7 +499,8 @@ pub fn answer(types: &[Option<Type>], checked: &Result<Good, Refusal>, q: &Quest
         // The six files have no such function.
         Question::Uniform(_) | Question::Move(..) => None,
         Question::Extract(..) | Question::Insert(..) | Question::ExtractU32(..) | Question::InsertU32(..) => None,
-        Question::SiteFresh(..) | Question::SiteClear(..) | Question::SiteMember(..) | Question::SiteSet(..) => None,
+        Question::SiteInheriting(..) | Question::SiteFresh(..) | Question::SiteClear(..) => None,
+        Question::SiteMember(..) | Question::SiteSet(..) => None,
     };
     ASKING.set(true);
     let said = catch_unwind(AssertUnwindSafe(ask));
