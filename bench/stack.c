@@ -21,12 +21,12 @@ static const uint32_t seven = 7;
 static uint32_t path[ENTRIES - 1];
 static enum {
     CHECK, SIZE, ALIGN, MIN_SIZE, LAYOUT_OF, UNIFORM, RANK, COMMON, TO_FORM_2, TO_FORM_1, WRITE, READ, CLEAN, VIEW, SET, INSERT,
-    EXTRACT, SITE_FRESH, SITE_MEMBER, SITE_CLEAR, SITE_SET, PLAN_ORDER, CHECK_ORDER, CALLS
+    EXTRACT, SITE_FRESH, SITE_INHERITING, SITE_MEMBER, SITE_CLEAR, SITE_SET, PLAN_ORDER, CHECK_ORDER, CALLS
 } way;
 static const char *const names[CALLS] = {
-    "check",       "size",       "align",    "min_size",   "layout_of",   "uniform", "rank",        "common",       "to_form_2",
-    "to_form_1",   "write",      "read",     "clean",      "view",        "set",     "insert_bits", "extract_bits", "site_fresh",
-    "site_member", "site_clear", "site_set", "plan_order", "check_order",
+    "check",           "size",        "align",      "min_size", "layout_of",  "uniform",     "rank",        "common",       "to_form_2",
+    "to_form_1",       "write",       "read",       "clean",    "view",       "set",         "insert_bits", "extract_bits", "site_fresh",
+    "site_inheriting", "site_member", "site_clear", "site_set", "plan_order", "check_order",
 };
 enum { ARRAYS, STRUCTS, BOTH, TABLES };
 static lepugaso_answer answer;
@@ -91,7 +91,8 @@ static void *call(void *unused) {
     case SET: answer = lepugaso_set(file, file_len, last, path, ENTRIES - 1, &seven, 1, buf, sizeof buf); break;
     case INSERT: answer = lepugaso_insert_bits(file, file_len, last, path, ENTRIES - 1, 1, 3, 12, buf, sizeof buf); break;
     case EXTRACT: answer = lepugaso_extract_bits(file, file_len, last, path, ENTRIES - 1, buf, sizeof buf, 0, 12); break;
-    case SITE_FRESH: answer = lepugaso_site_fresh(file, file_len, last, &mask); break;
+    case SITE_FRESH: answer = lepugaso_site_fresh(file, file_len, last, buf, sizeof buf, site, sizeof site, &mask); break;
+    case SITE_INHERITING: answer = lepugaso_site_inheriting(file, file_len, last, &mask); break;
     case SITE_MEMBER:
         answer = lepugaso_site_member(file, file_len, last, 0, mask, buf, sizeof buf, site, sizeof site, &part, &part_len);
         break;
@@ -124,19 +125,21 @@ static size_t used(int table) {
     int at_path = (way >= VIEW && way <= EXTRACT) || way == SITE_SET;
     if (answer.refusal || (at_path && answer.value != (way == EXTRACT ? 15 : 8))) exit(1);
     if (way == CLEAN && (answer.value != 4 || first != 12)) exit(1);
+    /* All 16 bytes are copied, of the one member. */
+    if (way == SITE_FRESH && (mask != 1 || memcmp(site, buf, sizeof site))) exit(1);
     if (way >= PLAN_ORDER && (answer.value != (way == PLAN_ORDER ? 3 : 32) || order[0] != 1)) exit(1);
     return STACK - clean;
 }
 
 int main(void) {
-    printf("%-12s %8s %8s %8s %8s\n", "stack of", "arrays", "structs", "both", "most");
+    printf("%-15s %8s %8s %8s %8s\n", "stack of", "arrays", "structs", "both", "most");
     for (way = CHECK; way < CALLS; way++) {
         size_t most = 0, each[TABLES];
         for (int table = 0; table < TABLES; table++) {
             each[table] = used(table);
             if (each[table] > most) most = each[table];
         }
-        printf("%-12s %8zu %8zu %8zu %8zu\n", names[way], each[ARRAYS], each[STRUCTS], each[BOTH], most);
+        printf("%-15s %8zu %8zu %8zu %8zu\n", names[way], each[ARRAYS], each[STRUCTS], each[BOTH], most);
         if (most > LEPUGASO_STACK) return 1;
     }
     return 0;

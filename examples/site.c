@@ -1,5 +1,6 @@
-/* The limits block of a receiver board (limits.c) as it leaves the factory, and on site: a grower changes the frost limit, and later wants
- * the factory's again.
+/* The limits block of a receiver board (limits.c) on site: a grower changes the frost limit, the factory has another sheet, and the grower
+ * wants the factory's limit again. A fresh block keeps what the sheet said on the day when it was made. An inherit tool asks for an
+ * inheriting block by name: what is not set on site goes along with the sheet.
  */
 #include <inttypes.h>
 #include <stdio.h>
@@ -41,28 +42,40 @@ static int show(const char *when, uint64_t mask, const uint8_t *factory, const u
     float frost, hours[2];
     const char *whose_frost, *whose_hours;
     if (ask(FROST, mask, factory, site, &frost, &whose_frost) || ask(WINDOW, mask, factory, site, hours, &whose_hours)) return 1;
-    printf("%-24s mask %2" PRIu64 ", frost below %g, the %s; from %g to %g o'clock, the %s\n", when, mask, frost, whose_frost, hours[0],
+    printf("  %-19s mask %2" PRIu64 ", frost below %g, the %s; from %g to %g o'clock, the %s\n", when, mask, frost, whose_frost, hours[0],
            hours[1], whose_hours);
     return 0;
 }
 
-int main(void) {
-    const uint32_t made[] = {7, bits_of(12), bits_of(4.5f), bits_of(0.25f), bits_of(-1.5f), bits_of(20), bits_of(7), 1};
-    const uint32_t colder[] = {bits_of(-2.5f)}, later[] = {bits_of(22)}, start[] = {0};
-    uint8_t factory[SIZE], site[SIZE] = {0};
-    uint64_t mask;
-    if (lepugaso_write(limits, sizeof limits, LIMITS, made, 8, factory, SIZE).refusal) return 1;
-    if (lepugaso_site_fresh(limits, sizeof limits, LIMITS, &mask).refusal) return 1;
-    if (show("as made:", mask, factory, site)) return 1;
-
-    if (lepugaso_site_set(limits, sizeof limits, LIMITS, FROST, NULL, 0, colder, 1, factory, SIZE, site, SIZE, &mask).refusal) return 1;
-    if (show("frost set on site:", mask, factory, site)) return 1;
-    /* The window has two numbers: the one that is not set is copied along. */
-    if (lepugaso_site_set(limits, sizeof limits, LIMITS, WINDOW, start, 1, later, 1, factory, SIZE, site, SIZE, &mask).refusal) return 1;
-    if (show("the window's start too:", mask, factory, site)) return 1;
-
+/* What happens to a block on site, whichever way it started. */
+static int on_site(uint64_t mask, const uint8_t *sheet, const uint8_t *other_sheet, uint8_t *site) {
+    const uint32_t colder[] = {bits_of(-2.5f)};
+    if (show("as made:", mask, sheet, site)) return 1;
+    if (lepugaso_site_set(limits, sizeof limits, LIMITS, FROST, NULL, 0, colder, 1, sheet, SIZE, site, SIZE, &mask).refusal) return 1;
+    if (show("frost set on site:", mask, sheet, site)) return 1;
+    if (show("another sheet:", mask, other_sheet, site)) return 1;
     if (lepugaso_site_clear(limits, sizeof limits, LIMITS, FROST, &mask).refusal) return 1;
-    if (show("frost cleared:", mask, factory, site)) return 1;
+    return show("frost cleared:", mask, other_sheet, site);
+}
+
+static int write_sheet(float frost, float from, float to, uint8_t *sheet) {
+    const uint32_t words[] = {7, bits_of(12), bits_of(4.5f), bits_of(0.25f), bits_of(frost), bits_of(from), bits_of(to), 1};
+    return lepugaso_write(limits, sizeof limits, LIMITS, words, 8, sheet, SIZE).refusal != 0;
+}
+
+int main(void) {
+    uint8_t sheet[SIZE], other_sheet[SIZE], copy[SIZE], empty[SIZE] = {0};
+    uint64_t mask;
+    if (write_sheet(-1.5f, 20, 7, sheet) || write_sheet(-1, 21, 6, other_sheet)) return 1;
+
+    printf("a fresh block:\n");
+    if (lepugaso_site_fresh(limits, sizeof limits, LIMITS, sheet, SIZE, copy, SIZE, &mask).refusal) return 1;
+    if (on_site(mask, sheet, other_sheet, copy)) return 1;
+
+    printf("an inheriting block:\n");
+    if (lepugaso_site_inheriting(limits, sizeof limits, LIMITS, &mask).refusal) return 1;
+    if (on_site(mask, sheet, other_sheet, empty)) return 1;
+
     printf("a sixth member cleared: refused %" PRIu32 "\n", lepugaso_site_clear(limits, sizeof limits, LIMITS, 5, &mask).refusal);
     return 0;
 }

@@ -220,13 +220,27 @@ lepugaso_answer lepugaso_to_form_2(const uint8_t *file, size_t file_len, uint8_t
 lepugaso_answer lepugaso_to_form_1(const uint8_t *file, size_t file_len, uint8_t *out, size_t out_len);
 
 /* A factory sheet and a site block: two buffers of one struct entry, of fixed size and at most 64 members, and a mask whose bit k, the k-th
- * lowest, says that member k was set on site. A member is shown in the site buffer if its bit is set, else in the factory buffer. Its bytes
- * are those of its type's size, whatever size it is given. Only the calls that write the mask change where a member is shown; the three
- * things are the caller's to keep together. `member` is any number, counted from 0.
+ * lowest, says that member k is the site's own. A member is shown in the site buffer if its bit is set, else in the factory buffer. Its
+ * bytes are those of its type's size, whatever size it is given. Only the calls that write the mask change where a member is shown; the
+ * three things are the caller's to keep together. `member` is any number, counted from 0.
  *
- * The mask of a fresh block, 0, into `*mask`: every member is the factory's. The value is 0. Refuses 1 to 7, then 8, 9 (the type has no
- * layout), 10 (it holds a bool), 21 (it is no struct, is open, or has more than 64 members), and leaves `*mask` as it was. */
-lepugaso_answer lepugaso_site_fresh(const uint8_t *file, size_t file_len, uint32_t entry, uint64_t *mask);
+ * A block starts in one of two ways. A fresh one is a copy, and another factory sheet changes nothing that it shows until a member is
+ * cleared. An inheriting one is empty, and what was not set on site is shown as the factory sheet has it, another one too. Beside the sheet
+ * that was copied, both answer the same sets and clears alike, and then show the same bytes.
+ *
+ * A fresh block: as many bytes of `factory` as the entry's size, gaps too, copied to the front of `site`, and the bits of all members, no
+ * other, into `*mask`. The value is 0. Later bytes of `site` stay; what `*mask` held is not looked at. `site` may share no byte with
+ * `factory`, nor with anything else.
+ * Before there were two starts the call took the file, the entry and the mask alone, and made the mask 0, so that a program which was
+ * written for the older header has to be changed: one that wants the empty mask calls lepugaso_site_inheriting, with those arguments.
+ * Refuses 1 to 7, then 8, 17 (a buffer is above 4,294,967,295 bytes), 9 (the type has no layout), 10 (it holds a bool), 21 (it is no
+ * struct, is open, or has more than 64 members), 15 (a buffer is below the size), and leaves `site` and `*mask` as they were. */
+lepugaso_answer lepugaso_site_fresh(const uint8_t *file, size_t file_len, uint32_t entry, const uint8_t *factory, size_t factory_len,
+                                    uint8_t *site, size_t site_len, uint64_t *mask);
+
+/* The mask of an inheriting block, 0, into `*mask`: every member is the factory's. The value is 0. What `*mask` held is not looked at, and
+ * no buffer is. Refuses 1 to 7, then 8, 9, 10, 21 as for a fresh block, and leaves `*mask` as it was. */
+lepugaso_answer lepugaso_site_inheriting(const uint8_t *file, size_t file_len, uint32_t entry, uint64_t *mask);
 
 /* What shows `member`, as that part of `site` or of `factory`: `*part` is where it begins and `*part_len` how many bytes it has; nothing is
  * copied. The value is its offset in that buffer, and in the other too. The buffers may overlap in any way.

@@ -469,16 +469,66 @@ pub unsafe extern "C" fn lepugaso_to_form_1(
     }
 }
 
-/// The mask of a fresh block, into `mask`.
+/// The factory's bytes of a block into the front of `site`, and the bits of all its members into `mask`.
 ///
 /// # Safety
 /// As `lepugaso_check`.
 #[no_mangle]
-pub unsafe extern "C" fn lepugaso_site_fresh(file: *const u8, file_len: usize, entry: u32, mask: *mut u64) -> Crossing {
+pub unsafe extern "C" fn lepugaso_site_fresh(
+    file: *const u8,
+    file_len: usize,
+    entry: u32,
+    factory: *const u8,
+    factory_len: usize,
+    site: *mut u8,
+    site_len: usize,
+    mask: *mut u64,
+) -> Crossing {
+    match (
+        Lent::new(file, file_len),
+        Lent::new(factory, factory_len),
+        Lent::new(site, site_len),
+        Lent::new(mask, 1),
+    ) {
+        // SAFETY: the caller lends all, `site` and `mask` to be written, and their pointers have passed the tests. No byte of these two is
+        // another's; the file and `factory` are only read, so they may overlap.
+        (Some(file), Some(factory), Some(site), Some(mask))
+            if site.is_apart_from(&file)
+                && site.is_apart_from(&factory)
+                && site.is_apart_from(&mask)
+                && mask.is_apart_from(&file)
+                && mask.is_apart_from(&factory) =>
+        unsafe {
+            lepugaso_surface_site_fresh(
+                file.start(),
+                file.count(),
+                entry,
+                factory.start(),
+                factory.count(),
+                site.start(),
+                site.count(),
+                mask.start(),
+            )
+        },
+        _ => BAD_POINTER,
+    }
+}
+
+/// The mask of an inheriting block, into `mask`.
+///
+/// # Safety
+/// As `lepugaso_check`.
+#[no_mangle]
+pub unsafe extern "C" fn lepugaso_site_inheriting(
+    file: *const u8,
+    file_len: usize,
+    entry: u32,
+    mask: *mut u64,
+) -> Crossing {
     match (Lent::new(file, file_len), Lent::new(mask, 1)) {
         // SAFETY: the caller lends both, `mask` to be written, and their pointers have passed the tests. No byte of `mask` is the file's.
         (Some(file), Some(mask)) if mask.is_apart_from(&file) => unsafe {
-            lepugaso_surface_site_fresh(file.start(), file.count(), entry, mask.start())
+            lepugaso_surface_site_inheriting(file.start(), file.count(), entry, mask.start())
         },
         _ => BAD_POINTER,
     }
@@ -623,7 +673,7 @@ pub unsafe extern "C" fn lepugaso_site_clear(
     mask: *mut u64,
 ) -> Crossing {
     match (Lent::new(file, file_len), Lent::new(mask, 1)) {
-        // SAFETY: as for a fresh block.
+        // SAFETY: as for an inheriting block.
         (Some(file), Some(mask)) if mask.is_apart_from(&file) => unsafe {
             lepugaso_surface_site_clear(file.start(), file.count(), entry, member, mask.start())
         },

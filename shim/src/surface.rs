@@ -91,7 +91,17 @@ extern "C" {
     pub fn lepugaso_surface_uniform(file: *const u8, file_len: usize, entry: u32) -> Crossing;
     pub fn lepugaso_surface_to_form_2(file: *const u8, file_len: usize, out: *mut u8, out_len: usize) -> Crossing;
     pub fn lepugaso_surface_to_form_1(file: *const u8, file_len: usize, out: *mut u8, out_len: usize) -> Crossing;
-    pub fn lepugaso_surface_site_fresh(file: *const u8, file_len: usize, entry: u32, mask: *mut u64) -> Crossing;
+    pub fn lepugaso_surface_site_inheriting(file: *const u8, file_len: usize, entry: u32, mask: *mut u64) -> Crossing;
+    pub fn lepugaso_surface_site_fresh(
+        file: *const u8,
+        file_len: usize,
+        entry: u32,
+        factory: *const u8,
+        factory_len: usize,
+        site: *mut u8,
+        site_len: usize,
+        mask: *mut u64,
+    ) -> Crossing;
     pub fn lepugaso_surface_site_clear(
         file: *const u8,
         file_len: usize,

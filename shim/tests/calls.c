@@ -83,7 +83,8 @@ static void refused_files(void) {
         EXPECT(lepugaso_site_member(file, length, 0, 0, 5, bytes, sizeof bytes, buf, sizeof buf, &part, &part_len), refusal, place, 0);
         HOLDS(part == bytes && part_len == 0);
         uint64_t mask = 5;
-        EXPECT(lepugaso_site_fresh(file, length, 0, &mask), refusal, place, 0);
+        EXPECT(lepugaso_site_fresh(file, length, 0, bytes, sizeof bytes, buf, sizeof buf, &mask), refusal, place, 0);
+        EXPECT(lepugaso_site_inheriting(file, length, 0, &mask), refusal, place, 0);
         EXPECT(lepugaso_site_set(file, length, 0, 0, NULL, 0, list, 1, bytes, sizeof bytes, buf, sizeof buf, &mask), refusal, place, 0);
         EXPECT(lepugaso_site_clear(file, length, 0, 0, &mask), refusal, place, 0);
         HOLDS(mask == 5);

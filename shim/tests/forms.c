@@ -121,7 +121,12 @@ static void same_blocks(struct file one, struct file other, uint32_t entry, cons
     static const uint32_t members[] = {0, 1, 3, 5};
     for (size_t m = 0; m < sizeof masks / sizeof masks[0]; m++) {
         old.mask = masks[m];
-        ASK(lepugaso_site_fresh, entry, mask);
+        ASK(lepugaso_site_inheriting, entry, mask);
+        for (uint32_t which = 0; which < 4; which++) {
+            size_t factory_len = which % 2 ? 124 : 24, site_len = which / 2 ? 124 : 24;
+            uint8_t *factory = buf + ROOM - factory_len, *site = factory - site_len;
+            ASK(lepugaso_site_fresh, entry, factory, factory_len, site, site_len, mask);
+        }
         for (size_t k = 0; k < sizeof members / sizeof members[0]; k++) {
             uint32_t member = members[k];
             ASK(lepugaso_site_clear, entry, member, mask);
@@ -214,7 +219,7 @@ static void same_table(void) {
     /* A vec3<f32> at 32. */
     uint8_t *site = fresh(96);
     for (uint8_t k = 0; k < 96; k++) bytes[k] = (uint8_t)(k + 1);
-    EXPECT(lepugaso_site_fresh(file.bytes, file.length, 8, mask), 0, 0, 0);
+    EXPECT(lepugaso_site_inheriting(file.bytes, file.length, 8, mask), 0, 0, 0);
     EXPECT(lepugaso_site_set(file.bytes, file.length, 8, 1, (const uint32_t[]){1}, 1, (const uint32_t[]){7}, 1, bytes, 96, site, 96, mask),
            0, 0, 36);
     HOLDS(*mask == 2 && memcmp(site + 31, "\0\41\42\43\44\7\0\0\0\51\52\53\54\0", 14) == 0);
@@ -222,7 +227,13 @@ static void same_table(void) {
     HOLDS(at == site + 32 && count == 12);
     EXPECT(lepugaso_site_clear(file.bytes, file.length, 8, 1, mask), 0, 0, 0);
     HOLDS(*mask == 0);
-    EXPECT(lepugaso_site_fresh(file.bytes, file.length, 10, mask), LEPUGASO_REFUSED_NO_SITE, 0, 0);
+    EXPECT(lepugaso_site_fresh(file.bytes, file.length, 8, bytes, 96, site, 95, mask), LEPUGASO_REFUSED_SHORT_BUFFER, 0, 0);
+    HOLDS(*mask == 0 && site[31] == 0);
+    EXPECT(lepugaso_site_fresh(file.bytes, file.length, 8, bytes, 96, site, 96, mask), 0, 0, 0);
+    HOLDS(*mask == 31 && memcmp(site, bytes, 96) == 0);
+    EXPECT(lepugaso_site_inheriting(file.bytes, file.length, 10, mask), LEPUGASO_REFUSED_NO_SITE, 0, 0);
+    EXPECT(lepugaso_site_fresh(file.bytes, file.length, 10, bytes, 96, site, 96, mask), LEPUGASO_REFUSED_NO_SITE, 0, 0);
+    HOLDS(*mask == 31);
 
     /* 26 of the 96 bytes are a scalar's, and the first that is none's lies at 4. */
     EXPECT(lepugaso_clean(file.bytes, file.length, 8, bytes, 96, first), 0, 0, 70);

@@ -93,10 +93,12 @@ static void fill_path(void) {
     path[STEPS] = 0;
 }
 
-/* What is asked of the last type, the answer no other type's; and of the deepest block. */
+/* What is asked of the last type, the answer no other type's; and of the deepest block, with its two starts. */
 static void questions(const uint8_t *file, size_t length) {
     lepugaso_layout *out = (void *)fresh(sizeof *out);
     uint64_t *mask = (void *)fresh(sizeof *mask);
+    const uint8_t *factory = lent((const uint8_t *)rows + SIZE - BLOCK_SIZE, BLOCK_SIZE);
+    uint8_t *site = fresh(BLOCK_SIZE);
     EXPECT(lepugaso_check(file, length), 0, 0, TYPES);
     EXPECT(lepugaso_size(file, length, LAST), 0, 0, SIZE);
     EXPECT(lepugaso_align(file, length, LAST), 0, 0, 16);
@@ -107,12 +109,17 @@ static void questions(const uint8_t *file, size_t length) {
     EXPECT(lepugaso_common(file, length, (const uint32_t[]){LAST}, 1), 0, 0, LAST);
     EXPECT(lepugaso_uniform(file, length, LAST), 0, 0, 0);
     *mask = 9;
-    EXPECT(lepugaso_site_fresh(file, length, LAST, mask), LEPUGASO_REFUSED_NO_SITE, 0, 0);
-    HOLDS(*mask == 9);
+    EXPECT(lepugaso_site_inheriting(file, length, LAST, mask), LEPUGASO_REFUSED_NO_SITE, 0, 0);
+    EXPECT(lepugaso_site_fresh(file, length, LAST, factory, BLOCK_SIZE, site, BLOCK_SIZE, mask), LEPUGASO_REFUSED_NO_SITE, 0, 0);
+    EXPECT(lepugaso_site_fresh(file, length, BLOCK, factory, BLOCK_SIZE - 1, site, BLOCK_SIZE, mask), LEPUGASO_REFUSED_SHORT_BUFFER, 0, 0);
+    EXPECT(lepugaso_site_fresh(file, length, BLOCK, factory, BLOCK_SIZE, site, BLOCK_SIZE - 1, mask), LEPUGASO_REFUSED_SHORT_BUFFER, 0, 0);
+    HOLDS(*mask == 9 && site[0] == 0 && memcmp(site, site + 1, BLOCK_SIZE - 1) == 0);
     EXPECT(lepugaso_site_clear(file, length, BLOCK, 3, mask), 0, 0, 0);
     HOLDS(*mask == 1);
-    EXPECT(lepugaso_site_fresh(file, length, BLOCK, mask), 0, 0, 0);
-    HOLDS(*mask == 0);
+    EXPECT(lepugaso_site_inheriting(file, length, BLOCK, mask), 0, 0, 0);
+    HOLDS(*mask == 0 && site[0] == 0 && memcmp(site, site + 1, BLOCK_SIZE - 1) == 0);
+    EXPECT(lepugaso_site_fresh(file, length, BLOCK, factory, BLOCK_SIZE, site, BLOCK_SIZE, mask), 0, 0, 0);
+    HOLDS(*mask == 15 && memcmp(site, factory, BLOCK_SIZE) == 0);
 }
 
 static void many_words(const uint8_t *file, size_t length) {
@@ -272,7 +279,8 @@ static void no_entries(const uint8_t *file, size_t length) {
             NO_ENTRY(lepugaso_insert_bits(file, length, entry, NULL, 0, 7, 0, 12, buf, 4));
             NO_ENTRY(lepugaso_uniform(file, length, entry));
             HOLDS(part == buf && part_len == 0);
-            NO_ENTRY(lepugaso_site_fresh(file, length, entry, mask));
+            NO_ENTRY(lepugaso_site_fresh(file, length, entry, factory, 4, buf, 4, mask));
+            NO_ENTRY(lepugaso_site_inheriting(file, length, entry, mask));
             NO_ENTRY(lepugaso_site_member(file, length, entry, 0, *mask, factory, 4, buf, 4, &part, &part_len));
             NO_ENTRY(lepugaso_site_set(file, length, entry, 0, NULL, 0, word, 1, factory, 4, buf, 4, mask));
             NO_ENTRY(lepugaso_site_clear(file, length, entry, 0, mask));
@@ -287,7 +295,7 @@ static void no_entries(const uint8_t *file, size_t length) {
     HOLDS(*word == 5 && *mask == 6 && *first == 7 && memcmp(buf, "abcd", 4) == 0);
 }
 
-/* Members that are none, and masks of members that are none, but for their low bits. */
+/* Members that are none, and masks of members that are none, but for their low bits. A start writes all bits of a mask. */
 static void no_members(const uint8_t *file, size_t length) {
     const void *word = lent((const uint32_t[]){7}, sizeof(uint32_t));
     const uint8_t *factory = lent(rows, BLOCK_SIZE), *part;
@@ -303,9 +311,14 @@ static void no_members(const uint8_t *file, size_t length) {
         EXPECT(lepugaso_site_set(file, length, BLOCK, member, NULL, 0, word, 1, factory, BLOCK_SIZE, site, BLOCK_SIZE, &mask), refusal, 0,
                0);
         EXPECT(lepugaso_site_clear(file, length, BLOCK, member, &mask), refusal, 0, 0);
-        HOLDS(mask == bits);
+        HOLDS(mask == bits && site[0] == 0 && memcmp(site, site + 1, BLOCK_SIZE - 1) == 0);
+        EXPECT(lepugaso_site_inheriting(file, length, BLOCK, &mask), 0, 0, 0);
+        HOLDS(mask == 0);
+        mask = bits;
+        EXPECT(lepugaso_site_fresh(file, length, BLOCK, factory, BLOCK_SIZE, site, BLOCK_SIZE, &mask), 0, 0, 0);
+        HOLDS(mask == 15 && memcmp(site, factory, BLOCK_SIZE) == 0);
+        memset(site, 0, BLOCK_SIZE);
     }
-    HOLDS(site[0] == 0 && memcmp(site, site + 1, BLOCK_SIZE - 1) == 0);
 }
 
 static const uint8_t few[] = {
@@ -412,6 +425,8 @@ static void large_block(void) {
            LEPUGASO_REFUSED_SHORT_BUFFER, 0, 0);
     EXPECT(lepugaso_site_set(file, sizeof blocks, 6, 1, step, 1, word, 1, factory, LONG, site, LONG - 1, &mask),
            LEPUGASO_REFUSED_SHORT_BUFFER, 0, 0);
+    EXPECT(lepugaso_site_fresh(file, sizeof blocks, 6, factory, LONG - 1, site, LONG, &mask), LEPUGASO_REFUSED_SHORT_BUFFER, 0, 0);
+    EXPECT(lepugaso_site_fresh(file, sizeof blocks, 6, factory, LONG, site, LONG - 1, &mask), LEPUGASO_REFUSED_SHORT_BUFFER, 0, 0);
     HOLDS(mask == 0 && site[0] == 0 && memcmp(site, site + 1, LONG - 1) == 0);
     EXPECT(lepugaso_site_set(file, sizeof blocks, 6, 1, step, 1, word, 1, factory, LONG, site, LONG, &mask), 0, 0, AT);
     HOLDS(mask == 2 && site[3] == 0 && memcmp(site + 4, factory + 4, AT - 4) == 0 && site[LONG - 4] == 0);
@@ -427,9 +442,11 @@ static void large_block(void) {
                LEPUGASO_REFUSED_SHORT_BUFFER, 0, 0);
         HOLDS(part == factory && part_len == 0);
     }
+    EXPECT(lepugaso_site_fresh(file, sizeof blocks, 6, factory, LONG, site, LONG, &mask), 0, 0, 0);
+    HOLDS(mask == 7 && memcmp(site, factory, LONG) == 0);
 }
 
-/* Member 1 of a block of 16 bytes, asked for and set. */
+/* Member 1 of a block of 16 bytes, asked for and set; and the block started as a copy. */
 static void long_block(uint32_t refusal, uint32_t entry, const uint8_t *factory, size_t factory_len, uint8_t *site, size_t site_len) {
     const uint8_t *file = lent(blocks, sizeof blocks), *part;
     const void *word = lent((const uint32_t[]){7}, sizeof(uint32_t));
@@ -441,12 +458,18 @@ static void long_block(uint32_t refusal, uint32_t entry, const uint8_t *factory,
     HOLDS(part == factory + at && part_len == (refusal ? 0 : 4));
     EXPECT(lepugaso_site_set(file, sizeof blocks, entry, 1, NULL, 0, word, 1, factory, factory_len, site, site_len, &mask), refusal, 0, at);
     HOLDS(mask == (refusal ? 0 : 2) && site[8] == (refusal ? 0 : 7));
+    memset(site, 0, 20);
+    mask = 77;
+    EXPECT(lepugaso_site_fresh(file, sizeof blocks, entry, factory, factory_len, site, site_len, &mask), refusal, 0, 0);
+    HOLDS(mask == (refusal ? 77 : 3) && memcmp(site + 16, "\0\0\0\0", 4) == 0);
+    HOLDS(memcmp(site, refusal ? site + 1 : factory, 16) == 0);
 }
 
 /* A block in buffers of 4,294,967,295 bytes, and in longer ones: 17 for either, after 8, before everything else. */
 static void long_blocks(void) {
     const size_t limit = UINT32_MAX;
     uint8_t *factory = far(limit + 5), *site = far(limit + 5);
+    memcpy(factory, "the factory's sheet.", 20);
     for (uint32_t bit = 4; bit < 32; bit++) {
         long_block(0, 4, factory, (size_t)1 << bit, site, 16);
         long_block(0, 4, factory, 16, site, (size_t)1 << bit);
@@ -465,7 +488,8 @@ static void long_blocks(void) {
     }
 }
 
-/* A block that fills such buffers, and its members. */
+/* A block that fills such buffers, and its members. A fresh one that is not refused is not run, nor one that a wrong shim might not refuse:
+ * it copies 4 GiB. */
 static void largest_block(void) {
     const size_t size = 4294967284u, at = size - 4;
     const uint8_t *file = lent(blocks, sizeof blocks), *part;
@@ -486,7 +510,11 @@ static void largest_block(void) {
            LEPUGASO_REFUSED_SHORT_BUFFER, 0, 0);
     EXPECT(lepugaso_site_set(file, sizeof blocks, 8, 1, NULL, 0, word, 1, factory, size, site, size - 1, &mask),
            LEPUGASO_REFUSED_SHORT_BUFFER, 0, 0);
+    EXPECT(lepugaso_site_fresh(file, sizeof blocks, 8, factory, size - 1, site, size - 1, &mask), LEPUGASO_REFUSED_SHORT_BUFFER, 0, 0);
     HOLDS(mask == 0 && memcmp(site + at, "\0\0\0\0", 4) == 0);
+    mask = 3;
+    EXPECT(lepugaso_site_inheriting(file, sizeof blocks, 8, &mask), 0, 0, 0);
+    HOLDS(mask == 0);
     EXPECT(lepugaso_site_set(file, sizeof blocks, 8, 1, NULL, 0, word, 1, factory, size, site, size, &mask), 0, 0, at);
     HOLDS(mask == 2 && memcmp(site + at, "\7\0\0\0", 4) == 0 && memcmp(factory + at, "abcd", 4) == 0);
 }

@@ -33,7 +33,8 @@ static void bad_file(const uint8_t *at, size_t length) {
     REFUSED(lepugaso_site_member(at, length, 0, 0, 0, bytes, sizeof bytes, bytes, sizeof bytes, &part, &part_len));
     HOLDS(part == NULL && part_len == 5);
     uint64_t mask = 5;
-    REFUSED(lepugaso_site_fresh(at, length, 0, &mask));
+    REFUSED(lepugaso_site_fresh(at, length, 0, bytes, sizeof bytes, buf, sizeof buf, &mask));
+    REFUSED(lepugaso_site_inheriting(at, length, 0, &mask));
     REFUSED(lepugaso_site_set(at, length, 0, 0, NULL, 0, list, 1, bytes, sizeof bytes, buf, sizeof buf, &mask));
     REFUSED(lepugaso_site_clear(at, length, 0, 0, &mask));
     HOLDS(mask == 5);
@@ -82,7 +83,8 @@ static void files(void) {
     EXPECT(lepugaso_uniform(NULL, 0, 0), LEPUGASO_REFUSED_SHORT_FILE, 0, 0);
     EXPECT(lepugaso_to_form_2(NULL, 0, buf, sizeof buf), LEPUGASO_REFUSED_SHORT_FILE, 0, 0);
     EXPECT(lepugaso_to_form_1(NULL, 0, buf, sizeof buf), LEPUGASO_REFUSED_SHORT_FILE, 0, 0);
-    EXPECT(lepugaso_site_fresh(NULL, 0, 0, &mask), LEPUGASO_REFUSED_SHORT_FILE, 0, 0);
+    EXPECT(lepugaso_site_fresh(NULL, 0, 0, bytes, sizeof bytes, buf, sizeof buf, &mask), LEPUGASO_REFUSED_SHORT_FILE, 0, 0);
+    EXPECT(lepugaso_site_inheriting(NULL, 0, 0, &mask), LEPUGASO_REFUSED_SHORT_FILE, 0, 0);
     EXPECT(lepugaso_site_member(NULL, 0, 0, 0, 0, buf, sizeof buf, buf, sizeof buf, &part, &part_len), LEPUGASO_REFUSED_SHORT_FILE, 0, 0);
     EXPECT(lepugaso_site_set(NULL, 0, 0, 0, NULL, 0, list, 1, bytes, sizeof bytes, buf, sizeof buf, &mask), LEPUGASO_REFUSED_SHORT_FILE, 0,
            0);
@@ -208,6 +210,11 @@ static void bad_buffer(uint8_t *at, size_t length) {
     REFUSED(lepugaso_site_member(NULL, 0, 9, 9, UINT64_MAX, at, length, NULL, 0, &part, &part_len));
     REFUSED(lepugaso_site_member(NULL, 0, 9, 9, UINT64_MAX, NULL, 0, at, length, &part, &part_len));
     HOLDS(part == NULL && part_len == 5);
+    REFUSED(lepugaso_site_fresh(form_1, sizeof form_1, 1, at, length, bytes, sizeof bytes, &mask));
+    REFUSED(lepugaso_site_fresh(form_1, sizeof form_1, 1, bytes, sizeof bytes, at, length, &mask));
+    REFUSED(lepugaso_site_fresh(form_1, sizeof form_1, 1, at, length, at, length, &mask));
+    REFUSED(lepugaso_site_fresh(NULL, 0, 9, at, length, NULL, 0, &mask));
+    REFUSED(lepugaso_site_fresh(NULL, 0, 9, NULL, 0, at, length, &mask));
     REFUSED(lepugaso_site_set(form_1, sizeof form_1, 1, 0, NULL, 0, &word, 1, at, length, bytes, sizeof bytes, &mask));
     REFUSED(lepugaso_site_set(form_1, sizeof form_1, 1, 0, NULL, 0, &word, 1, bytes, sizeof bytes, at, length, &mask));
     REFUSED(lepugaso_site_set(NULL, 0, 9, 9, NULL, 0, NULL, 0, at, length, NULL, 0, &mask));
@@ -270,16 +277,18 @@ static void parts(part_of *ask) {
     HOLDS(out->part == (uint8_t *)out + 3 && out->part_len == 0);
 }
 
-/* A mask that cannot be, to the three calls that write one. */
+/* A mask that cannot be, to the four calls that write one. */
 static void bad_mask(uint64_t *at) {
     static const uint32_t word[] = {1};
     static const uint8_t bytes[4];
     uint8_t buf[] = {6, 7, 8, 9};
-    REFUSED(lepugaso_site_fresh(form_1, sizeof form_1, 1, at));
+    REFUSED(lepugaso_site_fresh(form_1, sizeof form_1, 1, bytes, sizeof bytes, buf, sizeof buf, at));
+    REFUSED(lepugaso_site_inheriting(form_1, sizeof form_1, 1, at));
     REFUSED(lepugaso_site_clear(form_1, sizeof form_1, 1, 0, at));
     REFUSED(lepugaso_site_set(form_1, sizeof form_1, 1, 0, NULL, 0, word, 1, bytes, sizeof bytes, buf, sizeof buf, at));
     /* Before any number of documents 01 and 02. */
-    REFUSED(lepugaso_site_fresh(NULL, 0, 9, at));
+    REFUSED(lepugaso_site_fresh(NULL, 0, 9, NULL, 0, NULL, 0, at));
+    REFUSED(lepugaso_site_inheriting(NULL, 0, 9, at));
     REFUSED(lepugaso_site_clear(NULL, 0, 9, 9, at));
     REFUSED(lepugaso_site_set(NULL, 0, 9, 9, NULL, 0, NULL, 0, NULL, 0, NULL, 0, at));
     HOLDS(buf[0] == 6 && buf[1] == 7 && buf[2] == 8 && buf[3] == 9);
@@ -296,15 +305,27 @@ static void masks(void) {
     uint8_t *in = (uint8_t *)two + 3, buf[] = {6, 7, 8, 9, 10};
     uint32_t word = 1, *path = (uint32_t *)(void *)((uint8_t *)two + 4);
     static const uint8_t bytes[5] = {1, 2, 3, 4, 5};
-    EXPECT(lepugaso_site_fresh(in, 0, 1, two), LEPUGASO_REFUSED_SHORT_FILE, 0, 0);
+    EXPECT(lepugaso_site_fresh(in, 0, 1, bytes, 4, buf, 4, two), LEPUGASO_REFUSED_SHORT_FILE, 0, 0);
+    EXPECT(lepugaso_site_fresh(form_1, sizeof form_1, 1, in, 0, buf, 4, two), LEPUGASO_REFUSED_SHORT_BUFFER, 0, 0);
+    EXPECT(lepugaso_site_fresh(form_1, sizeof form_1, 1, bytes, 4, in, 0, two), LEPUGASO_REFUSED_SHORT_BUFFER, 0, 0);
+    EXPECT(lepugaso_site_fresh(form_1, sizeof form_1, 1, (uint8_t *)UINTPTR_MAX, 0, NULL, 0, two), LEPUGASO_REFUSED_SHORT_BUFFER, 0, 0);
+    EXPECT(lepugaso_site_inheriting(in, 0, 1, two), LEPUGASO_REFUSED_SHORT_FILE, 0, 0);
     EXPECT(lepugaso_site_clear(in, 0, 1, 0, two), LEPUGASO_REFUSED_SHORT_FILE, 0, 0);
     EXPECT(lepugaso_site_set(form_1, sizeof form_1, 1, 0, path, 0, &word, 1, bytes, 4, in, 0, two), LEPUGASO_REFUSED_SHORT_BUFFER, 0, 0);
     EXPECT(lepugaso_site_set(form_1, sizeof form_1, 1, 0, NULL, 0, path, 0, bytes, 4, buf, 4, two), LEPUGASO_REFUSED_WORDS, 0, 0);
     EXPECT(lepugaso_site_set(form_1, sizeof form_1, 1, 0, NULL, 0, &word, 1, in, 0, buf, 4, two), LEPUGASO_REFUSED_SHORT_BUFFER, 0, 0);
     EXPECT(lepugaso_site_set(form_1, sizeof form_1, 1, 0, NULL, 0, &word, 1, (uint8_t *)UINTPTR_MAX, 0, NULL, 0, two),
            LEPUGASO_REFUSED_SHORT_BUFFER, 0, 0);
-    HOLDS(two[0] == 0 && two[1] == 0 && buf[0] == 6);
+    /* Nor do a factory and a site in each other, or a file in the site. */
+    EXPECT(lepugaso_site_fresh(form_1, sizeof form_1, 1, buf + 1, 0, buf, 4, two), LEPUGASO_REFUSED_SHORT_BUFFER, 0, 0);
+    EXPECT(lepugaso_site_fresh(form_1, sizeof form_1, 1, buf, 4, buf + 1, 0, two), LEPUGASO_REFUSED_SHORT_BUFFER, 0, 0);
+    EXPECT(lepugaso_site_fresh(buf + 1, 0, 1, bytes, 4, buf, 4, two), LEPUGASO_REFUSED_SHORT_FILE, 0, 0);
+    HOLDS(two[0] == 0 && two[1] == 0 && buf[0] == 6 && buf[1] == 7 && buf[2] == 8 && buf[3] == 9);
     /* A buffer is of bytes, and may begin anywhere. */
+    EXPECT(lepugaso_site_fresh(form_1, sizeof form_1, 1, bytes + 1, 4, buf + 1, 4, two), 0, 0, 0);
+    HOLDS(two[0] == 1 && two[1] == 0 && buf[0] == 6 && memcmp(buf + 1, bytes + 1, 4) == 0);
+    EXPECT(lepugaso_site_inheriting(form_1, sizeof form_1, 1, two), 0, 0, 0);
+    HOLDS(two[0] == 0 && two[1] == 0);
     EXPECT(lepugaso_site_set(form_1, sizeof form_1, 1, 0, NULL, 0, &word, 1, bytes + 1, 4, buf + 1, 4, two), 0, 0, 0);
     HOLDS(two[0] == 1 && two[1] == 0 && buf[0] == 6 && buf[1] == 1 && buf[4] == 0);
 }
@@ -542,6 +563,35 @@ static void block_set(int shared, size_t site, size_t mask) {
     HOLDS(memcmp(&m, &expected, sizeof m) == 0);
 }
 
+/* A fresh block with the file, the factory, the site and the mask at these places: refused exactly where the site or the mask shares a byte
+ * with another of them. The file and the factory are apart. */
+static void block_fresh(size_t file_at, size_t factory, size_t site, size_t mask) {
+    int shared = shares(site, BLOCK, file_at, sizeof pairs) || shares(site, BLOCK, factory, BLOCK) || shares(site, BLOCK, mask, 8) ||
+                 shares(mask, 8, file_at, sizeof pairs) || shares(mask, 8, factory, BLOCK);
+    union memory m = filled_memory(), expected;
+    memcpy(m.bytes + file_at, pairs, sizeof pairs);
+    expected = m;
+    if (!shared) {
+        memcpy(expected.bytes + site, m.bytes + factory, 8);
+        expected.masks[mask / 8] = 1;
+    }
+    EXPECT(lepugaso_site_fresh(m.bytes + file_at, sizeof pairs, 2, m.bytes + factory, BLOCK, m.bytes + site, BLOCK, &m.masks[mask / 8]),
+           shared ? LEPUGASO_BAD_POINTER : 0, 0, 0);
+    HOLDS(memcmp(&m, &expected, sizeof m) == 0);
+}
+
+/* The site at each place, and the mask, with what is read a little off too, so that the mask touches that before it and behind it. */
+static void fresh_overlaps(void) {
+    for (size_t off = 0; off < 8; off++) {
+        for (size_t at = 0; at + BLOCK <= MEMORY; at++) block_fresh(FILE_AT + off, FACTORY_AT, at, MASK_AT);
+        for (size_t at = 0; at < MEMORY; at += 8) {
+            block_fresh(FILE_AT + off, FACTORY_AT, SITE_AT, at);
+            block_fresh(FILE_AT, FACTORY_AT + off, SITE_AT, at);
+            block_fresh(FILE_AT, FACTORY_AT, SITE_AT + off, at);
+        }
+    }
+}
+
 /* The site at each place, and the mask. */
 static void block_overlaps(void) {
     for (size_t at = 0; at + BLOCK <= MEMORY; at++) block_set(shares_read(at, BLOCK) || shares(at, BLOCK, MASK_AT, 8), at, MASK_AT);
@@ -556,7 +606,7 @@ static void block_overlaps(void) {
         EXPECT(lepugaso_site_clear(m.bytes + FILE_AT, sizeof pairs, 2, 0, &m.masks[at / 8]), shared ? LEPUGASO_BAD_POINTER : 0, 0, 0);
         HOLDS(memcmp(&m, &expected, sizeof m) == 0);
         if (!shared) m.masks[at / 8] = 7;
-        EXPECT(lepugaso_site_fresh(m.bytes + FILE_AT, sizeof pairs, 2, &m.masks[at / 8]), shared ? LEPUGASO_BAD_POINTER : 0, 0, 0);
+        EXPECT(lepugaso_site_inheriting(m.bytes + FILE_AT, sizeof pairs, 2, &m.masks[at / 8]), shared ? LEPUGASO_BAD_POINTER : 0, 0, 0);
         HOLDS(memcmp(&m, &expected, sizeof m) == 0);
     }
 }
@@ -672,13 +722,18 @@ static void read_only_overlaps(void) {
     /* And a field of the file itself, by a path in it: its first byte is U32's kind. */
     EXPECT(lepugaso_extract_bits(m.bytes + FILE_AT, sizeof pair, 1, &m.words[FILE_AT / 4 + 1], 1, m.bytes + FILE_AT, sizeof pair, 1, 31), 0,
            0, 1);
-    /* A path, a word and a factory in the file; and a file that is the factory and the site of its own block. */
+    /* A path, a word and a factory in the file, and a factory at each place around it; and a file that is the factory and the site of its
+     * own block. */
     uint64_t mask = 0;
     m = block_memory();
     EXPECT(lepugaso_site_set(m.bytes + FILE_AT, sizeof pairs, 2, 0, &m.words[FILE_AT / 4 + 1], 1, &m.words[FILE_AT / 4 + 3], 1,
                              m.bytes + FILE_AT, sizeof pairs, buf, sizeof buf, &mask),
            0, 0, 0);
     HOLDS(mask == 1 && memcmp(buf, pairs + 12, 4) == 0 && memcmp(buf + 4, pairs + 4, 4) == 0);
+    for (size_t at = 0; at + 8 <= MEMORY; at++) {
+        EXPECT(lepugaso_site_fresh(m.bytes + FILE_AT, sizeof pairs, 2, m.bytes + at, 8, buf, sizeof buf, &mask), 0, 0, 0);
+        HOLDS(mask == 1 && memcmp(buf, m.bytes + at, 8) == 0);
+    }
     for (mask = 0; mask < 2; mask++) {
         EXPECT(lepugaso_site_member(m.bytes + FILE_AT, sizeof pairs, 2, 0, mask, m.bytes + FILE_AT, sizeof pairs, m.bytes + FILE_AT,
                                     sizeof pairs, &part, &part_len),
@@ -766,6 +821,7 @@ int main(void) {
     path_overlaps();
     wide_overlaps();
     block_overlaps();
+    fresh_overlaps();
     shown_overlaps();
     clean_overlaps();
     plan_overlaps();

@@ -1,5 +1,6 @@
-/* A factory sheet and a site block (E8), beside a model of two buffers and a mask. What is lent stands at the end of a page after which
- * nothing can be touched, and what is lent to be read cannot be written. Long buffers are in large.c, bad files in calls.c. */
+/* A factory sheet and a site block (E8), from either start (E11), beside a model of two buffers and a mask. What is lent stands at the end
+ * of a page after which nothing can be touched, and what is lent to be read cannot be written. Long buffers are in large.c, bad files in
+ * calls.c. */
 #include "pages.h"
 #include "test.h"
 
@@ -37,7 +38,7 @@ static const uint8_t types[] = {
     MEMBER(1), MEMBER(17),                                                    /* 14, 15 */
     TRAILER(21, 16),
 };
-enum { SHEET = 12, NO_ENTRY = 21, MEMBERS = 5, SIZE = 192, SPARE = 5 };
+enum { SHEET = 12, NO_ENTRY = 21, MEMBERS = 5, ALL = 31, SIZE = 192, SPARE = 5 };
 
 /* The sheet's members: where each lies, and how many bytes its type has. The first and the last are given more. */
 static const struct {
@@ -62,8 +63,9 @@ static const struct scalar {
     {4, 3, {M(1), 1, M(2)}, 172, 2},
 };
 
-/* What the factory buffer holds, and the site buffer at first: no byte is the same in both, and none is the next one's. */
+/* What the factory buffer holds, a later one, and the site buffer at first: no byte is the same in two, and none is the next one's. */
 static uint8_t made_byte(size_t k) { return (uint8_t)(0xC5 + 75 * k); }
+static uint8_t later_byte(size_t k) { return (uint8_t)(made_byte(k) ^ 0x36); }
 static uint8_t own_byte(size_t k) { return (uint8_t)~made_byte(k); }
 
 static uint8_t *filled(size_t length, uint8_t byte(size_t)) {
@@ -95,6 +97,7 @@ struct block {
     size_t *part_len;
 };
 
+/* A block before its start. */
 static struct block new_block(size_t factory_len, size_t site_len) {
     struct block b = {.file = lent(types, sizeof types), .factory_len = factory_len, .site_len = site_len};
     b.factory = factory_of(factory_len);
@@ -103,9 +106,6 @@ static struct block new_block(size_t factory_len, size_t site_len) {
     b.mask = (void *)fresh(sizeof *b.mask);
     b.part = (void *)fresh(sizeof *b.part);
     b.part_len = (void *)fresh(sizeof *b.part_len);
-    *b.mask = UINT64_MAX;
-    EXPECT(lepugaso_site_fresh(b.file, sizeof types, SHEET, b.mask), 0, 0, 0);
-    HOLDS(*b.mask == 0);
     return b;
 }
 
@@ -122,6 +122,21 @@ static void as_modelled(int line, struct block *b) {
                0, 0, members[k].at);
         hold(__FILE__, line, "what shows a member", *b->part == from + members[k].at && *b->part_len == members[k].size);
     }
+}
+
+/* The two starts, in the block and in the model, whatever its mask and its site buffer held. */
+static void start_fresh(int line, struct block *b) {
+    memcpy(b->own, b->factory, SIZE);
+    b->bits = ALL;
+    expect(__FILE__, line, "a fresh block",
+           lepugaso_site_fresh(b->file, sizeof types, SHEET, b->factory, b->factory_len, b->site, b->site_len, b->mask), 0, 0, 0);
+    as_modelled(line, b);
+}
+
+static void start_inheriting(int line, struct block *b) {
+    b->bits = 0;
+    expect(__FILE__, line, "an inheriting block", lepugaso_site_inheriting(b->file, sizeof types, SHEET, b->mask), 0, 0, 0);
+    as_modelled(line, b);
 }
 
 /* Sets a scalar, in the block and in the model; two words of which as many count as it has bytes. */
@@ -148,7 +163,7 @@ static void clear(int line, struct block *b, uint32_t k) {
 /* Every mask of the sheet: each scalar set, each member cleared, from a block that was not touched. */
 static void every_mask(size_t factory_len, size_t site_len) {
     struct block b = new_block(factory_len, site_len);
-    for (uint64_t bits = 0; bits < BIT(MEMBERS); bits++) {
+    for (uint64_t bits = 0; bits <= ALL; bits++) {
         for (size_t k = 0; k < COUNT(scalars) + MEMBERS; k++) {
             for (size_t j = 0; j < site_len; j++) b.site[j] = b.own[j] = own_byte(j);
             *b.mask = b.bits = bits;
@@ -161,23 +176,108 @@ static void every_mask(size_t factory_len, size_t site_len) {
     }
 }
 
-/* Sets and clears in any order, some of them refused: a block goes from one to the next. */
-static void any_order(void) {
-    struct block b = new_block(SIZE, SIZE);
+/* Both starts, from any mask, one with bits beyond the members too. */
+static void every_start(size_t factory_len, size_t site_len) {
+    struct block b = new_block(factory_len, site_len);
+    for (uint32_t turn = 0; turn < 2 * (ALL + 1 + 64); turn++) {
+        uint64_t bits = turn / 2 <= ALL ? turn / 2 : UINT64_MAX >> (turn / 2 - ALL - 1);
+        for (size_t j = 0; j < site_len; j++) b.site[j] = b.own[j] = own_byte(j);
+        *b.mask = bits;
+        (turn % 2 ? start_fresh : start_inheriting)(__LINE__, &b);
+        HOLDS(memcmp(b.site, turn % 2 ? b.factory : b.own, SIZE) == 0);
+        /* Again, and the other way. */
+        start_fresh(__LINE__, &b);
+        start_inheriting(__LINE__, &b);
+        HOLDS(memcmp(b.site, b.factory, SIZE) == 0);
+    }
+}
+
+/* Two blocks beside the same sheet show the same bytes for every member, wherever these lie. */
+static void show_alike(int line, struct block *a, struct block *b) {
+    for (uint32_t k = 0; k < MEMBERS; k++) {
+        const uint8_t *of_a = a->bits & BIT(k) ? a->site : a->factory, *of_b = b->bits & BIT(k) ? b->site : b->factory;
+        hold(__FILE__, line, "the same bytes shown", memcmp(of_a + members[k].at, of_b + members[k].at, members[k].size) == 0);
+    }
+}
+
+/* A set or a clear that is refused, one of several by `which`, and changes nothing. */
+static void refuse(int line, struct block *b, uint32_t which) {
+    static const struct {
+        uint32_t refusal, member, steps, path[2];
+        size_t site_len;
+    } sets[] = {
+        {LEPUGASO_REFUSED_SHORT_BUFFER, 0, 0, {0}, SIZE - 1}, {LEPUGASO_REFUSED_MEMBER_STEP, MEMBERS, 0, {0}, SIZE},
+        {LEPUGASO_REFUSED_MEMBER_STEP, 4, 1, {M(2)}, SIZE},   {LEPUGASO_REFUSED_INDEX, 2, 2, {3, 0}, SIZE},
+        {LEPUGASO_REFUSED_INDEX_STEP, 4, 1, {1}, SIZE},       {LEPUGASO_REFUSED_WORDS, 3, 0, {0}, SIZE},
+        {LEPUGASO_REFUSED_F16_WORD, 1, 0, {0}, SIZE},
+    };
+    uint32_t k = which % (COUNT(sets) + 1);
+    if (k < COUNT(sets)) {
+        expect(__FILE__, line, "setting, refused",
+               lepugaso_site_set(b->file, sizeof types, SHEET, sets[k].member, sets[k].path, sets[k].steps, (const uint32_t[]){65536}, 1,
+                                 b->factory, b->factory_len, b->site, sets[k].site_len, b->mask),
+               sets[k].refusal, 0, 0);
+    } else {
+        expect(__FILE__, line, "clearing, refused", lepugaso_site_clear(b->file, sizeof types, SHEET, MEMBERS, b->mask),
+               LEPUGASO_REFUSED_MEMBER_STEP, 0, 0);
+    }
+    as_modelled(line, b);
+}
+
+/* Sets and clears in any order, some of them refused, put to a block of either start, which goes from one to the next: they answer alike,
+ * and the two blocks show the same bytes. */
+static void any_order(size_t factory_len, size_t site_len) {
+    struct block copied = new_block(factory_len, site_len), inheriting = new_block(factory_len, site_len);
+    start_fresh(__LINE__, &copied);
+    start_inheriting(__LINE__, &inheriting);
+    show_alike(__LINE__, &copied, &inheriting);
     for (int turn = 0; turn < 1500; turn++) {
         const struct scalar *s = &scalars[next_word() % COUNT(scalars)];
-        uint32_t words[] = {next_word(), next_word()};
-        if (next_word() % 3 == 0) {
-            clear(__LINE__, &b, next_word() % MEMBERS);
-        } else if (s->size == 2 && words[0] > 65535 && next_word() % 2) {
-            EXPECT(lepugaso_site_set(b.file, sizeof types, SHEET, s->member, s->path, s->steps, words, 1, b.factory, SIZE, b.site, SIZE,
-                                     b.mask),
-                   LEPUGASO_REFUSED_F16_WORD, 0, 0);
-            as_modelled(__LINE__, &b);
-        } else {
-            if (s->size == 2) words[0] %= 65536;
-            set(__LINE__, &b, s, words);
+        uint32_t words[] = {next_word(), next_word()}, which = next_word(), way = next_word() % 8;
+        if (s->size == 2) words[0] %= 65536;
+        for (int k = 0; k < 2; k++) {
+            struct block *b = k ? &inheriting : &copied;
+            if (way == 0) {
+                refuse(__LINE__, b, which);
+            } else if (way < 4) {
+                clear(__LINE__, b, which % MEMBERS);
+            } else {
+                set(__LINE__, b, s, words);
+            }
         }
+        show_alike(__LINE__, &copied, &inheriting);
+    }
+}
+
+/* Another sheet after the start, at another place: a fresh block shows nothing of it until a member is cleared, and then that member alone;
+ * an inheriting one shows it in all that was not set on site. */
+static void another_sheet(void) {
+    const uint8_t *later = sealed(filled(SIZE, later_byte), SIZE);
+    for (uint32_t k = 0; k < MEMBERS; k++) {
+        struct block copied = new_block(SIZE, SIZE), inheriting = new_block(SIZE, SIZE);
+        const uint8_t *made = copied.factory;
+        size_t end = members[k].at + members[k].size;
+        start_fresh(__LINE__, &copied);
+        start_inheriting(__LINE__, &inheriting);
+        copied.factory = inheriting.factory = later;
+        as_modelled(__LINE__, &copied);
+        HOLDS(copied.bits == ALL && memcmp(copied.site, made, SIZE) == 0);
+        as_modelled(__LINE__, &inheriting);
+        HOLDS(inheriting.bits == 0);
+
+        clear(__LINE__, &copied, k);
+        HOLDS(copied.bits == (ALL & ~BIT(k)) && memcmp(copied.site, made, SIZE) == 0);
+        /* Set again, it is the later sheet's but for that scalar; on the inheriting block too. */
+        for (size_t j = 0; j < COUNT(scalars); j++) {
+            if (scalars[j].member != k) continue;
+            clear(__LINE__, &copied, k);
+            clear(__LINE__, &inheriting, k);
+            set(__LINE__, &copied, &scalars[j], (const uint32_t[]){65535, 0x89ABCDEF});
+            set(__LINE__, &inheriting, &scalars[j], (const uint32_t[]){65535, 0x89ABCDEF});
+            HOLDS(memcmp(copied.site + members[k].at, inheriting.site + members[k].at, members[k].size) == 0);
+            HOLDS(memcmp(copied.site, made, members[k].at) == 0 && memcmp(copied.site + end, made + end, SIZE - end) == 0);
+        }
+        HOLDS(copied.bits == ALL && inheriting.bits == BIT(k));
     }
 }
 
@@ -188,8 +288,8 @@ static void written_out(void) {
     uint8_t *site = filled(SIZE, own_byte), *before = filled(SIZE, own_byte);
     uint64_t mask = 9;
     size_t part_len;
-    EXPECT(lepugaso_site_fresh(file, sizeof types, SHEET, &mask), 0, 0, 0);
-    HOLDS(mask == 0);
+    EXPECT(lepugaso_site_inheriting(file, sizeof types, SHEET, &mask), 0, 0, 0);
+    HOLDS(mask == 0 && memcmp(site, before, SIZE) == 0);
 
     /* A column's gap is copied with the matrix, what is around the matrix is not. */
     EXPECT(lepugaso_site_set(file, sizeof types, SHEET, 2, (const uint32_t[]){1, 2}, 2, (const uint32_t[]){0x04030201}, 1, factory, SIZE,
@@ -232,9 +332,42 @@ static void written_out(void) {
     HOLDS(mask == 15 && site[19] == before[19] && site[20] == 255 && site[21] == 255 && site[22] == before[22]);
 }
 
+static void written_out_fresh(void) {
+    const uint8_t *file = lent(types, sizeof types), *factory = factory_of(SIZE + 2), *part;
+    const uint8_t *later = sealed(filled(SIZE, later_byte), SIZE);
+    uint8_t *site = filled(SIZE + 1, own_byte), *before = filled(SIZE + 1, own_byte);
+    uint64_t mask = 9;
+    size_t part_len;
+
+    /* All of its bytes are copied, those between members too, and none behind it; every member is the site's. */
+    EXPECT(lepugaso_site_fresh(file, sizeof types, SHEET, factory, SIZE + 2, site, SIZE + 1, &mask), 0, 0, 0);
+    HOLDS(mask == 31 && memcmp(site, factory, SIZE) == 0 && site[SIZE] == before[SIZE]);
+    EXPECT(lepugaso_site_member(file, sizeof types, SHEET, 2, mask, factory, SIZE, site, SIZE, &part, &part_len), 0, 0, 32);
+    HOLDS(part == site + 32 && part_len == 48);
+
+    /* A set copies nothing, and changes one scalar. */
+    EXPECT(lepugaso_site_set(file, sizeof types, SHEET, 2, (const uint32_t[]){1, 2}, 2, (const uint32_t[]){0x04030201}, 1, later, SIZE,
+                             site, SIZE, &mask),
+           0, 0, 56);
+    HOLDS(mask == 31 && memcmp(site, factory, 56) == 0 && memcmp(site + 56, "\1\2\3\4", 4) == 0);
+    HOLDS(memcmp(site + 60, factory + 60, SIZE - 60) == 0 && site[SIZE] == before[SIZE]);
+
+    /* Cleared, the member is the factory's, whichever lies beside the block; no other one is. */
+    EXPECT(lepugaso_site_clear(file, sizeof types, SHEET, 2, &mask), 0, 0, 0);
+    HOLDS(mask == 27 && memcmp(site + 56, "\1\2\3\4", 4) == 0);
+    EXPECT(lepugaso_site_member(file, sizeof types, SHEET, 2, mask, later, SIZE, site, SIZE, &part, &part_len), 0, 0, 32);
+    HOLDS(part == later + 32 && part_len == 48);
+    EXPECT(lepugaso_site_member(file, sizeof types, SHEET, 3, mask, later, SIZE, site, SIZE, &part, &part_len), 0, 0, 80);
+    HOLDS(part == site + 80 && part_len == 8 && memcmp(part, factory + 80, 8) == 0);
+
+    /* Started anew, it is a copy again. */
+    EXPECT(lepugaso_site_fresh(file, sizeof types, SHEET, factory, SIZE, site, SIZE, &mask), 0, 0, 0);
+    HOLDS(mask == 31 && memcmp(site, factory, SIZE) == 0 && site[SIZE] == before[SIZE]);
+}
+
 /* ---- members, and bits of a mask */
 
-/* A struct of `count` u32. A block has at most 64 members, and its mask no bit beyond them. */
+/* A struct of `count` u32. A block has at most 64 members, and its mask no bit beyond them; a start does not look at the mask. */
 static void members_of(uint32_t count) {
     size_t length = 24 + 12 * (size_t)count + 10, size = 4 * (size_t)count;
     uint8_t *bytes = fresh(length), *site = filled(size, own_byte), *before = filled(size, own_byte);
@@ -245,16 +378,30 @@ static void members_of(uint32_t count) {
     memcpy(bytes + length - 10, (const uint8_t[]){TRAILER(2, count)}, 10);
     const uint8_t *file = sealed(bytes, length);
 
-    uint32_t last = count - 1, refusal = count <= 64 ? 0 : LEPUGASO_REFUSED_NO_SITE;
-    uint64_t mask = 77;
+    uint32_t last = count - 1, start = count <= 64 ? 0 : LEPUGASO_REFUSED_NO_SITE, refusal;
+    uint64_t mask, all = count < 64 ? BIT(count) - 1 : UINT64_MAX;
     size_t part_len, at = 4 * (size_t)last;
-    EXPECT(lepugaso_site_fresh(file, length, 1, &mask), refusal, 0, 0);
-    HOLDS(mask == (refusal ? 77 : 0));
     for (uint32_t turn = 0; turn < 2 * 64; turn++) {
         /* One bit, or that and all below it. */
         uint64_t bits = turn % 2 ? BIT(turn / 2) : (BIT(turn / 2) - 1) | BIT(turn / 2), own = BIT(last % 64);
         refusal = turn / 2 < count && count <= 64 ? 0 : LEPUGASO_REFUSED_NO_SITE;
         const uint8_t *from = !refusal && bits & own ? site : factory;
+        mask = bits;
+        EXPECT(lepugaso_site_inheriting(file, length, 1, &mask), start, 0, 0);
+        HOLDS(mask == (start ? bits : 0));
+        memcpy(site, before, size);
+        mask = bits;
+        EXPECT(lepugaso_site_fresh(file, length, 1, factory, size - 1, site, size, &mask), start ? start : LEPUGASO_REFUSED_SHORT_BUFFER, 0,
+               0);
+        EXPECT(lepugaso_site_fresh(file, length, 1, factory, size, site, size - 1, &mask), start ? start : LEPUGASO_REFUSED_SHORT_BUFFER, 0,
+               0);
+        HOLDS(mask == bits && memcmp(site, before, size) == 0);
+        EXPECT(lepugaso_site_fresh(file, length, 1, factory, size, site, size, &mask), start, 0, 0);
+        HOLDS(mask == (start ? bits : all) && memcmp(site, start ? before : factory, size) == 0);
+        for (uint32_t k = 0; k < count && !start; k++) {
+            EXPECT(lepugaso_site_member(file, length, 1, k, mask, factory, size, site, size, &part, &part_len), 0, 0, 4 * (uint64_t)k);
+            HOLDS(part == site + 4 * (size_t)k && part_len == 4);
+        }
         memcpy(site, before, size);
         EXPECT(lepugaso_site_member(file, length, 1, last, bits, factory, size, site, size, &part, &part_len), refusal, 0,
                refusal ? 0 : at);
@@ -289,11 +436,12 @@ struct question {
 static const uint32_t seven[] = {7};
 static const struct question good = {SHEET, 0, 0, SIZE, SIZE, NULL, seven, 0, 1};
 
-/* The calls, each lent more than the one before it. */
-enum { FRESH, CLEAR, ASK, SET };
+/* The calls, each lent more than the one before it; START is both starts. */
+enum { START, CLEAR, ASK, SET };
 
 /* A question that the calls from `first` on refuse alike, and leave all that is lent as it was. Those before it do not look at what is
- * wrong, but that clearing looks at the member: asking may refuse a buffer first. */
+ * wrong, but that clearing looks at the member: asking may refuse a buffer first. If not the entry is wrong, a fresh block looks at the
+ * buffers alone, neither at the mask nor at the member. */
 #define REFUSED(first, refusal, place, ...)          \
     do {                                             \
         struct question q = good;                    \
@@ -309,8 +457,20 @@ static void refused(int line, int first, uint32_t refusal, uint32_t place, struc
     uint64_t *mask = (void *)fresh(sizeof *mask);
     size_t part_len = 5;
     *mask = 77;
-    expect(__FILE__, line, "a fresh block", lepugaso_site_fresh(file, sizeof types, q.entry, mask), first == FRESH ? refusal : 0, 0, 0);
-    hold(__FILE__, line, "the mask of a fresh block", *mask == (first == FRESH ? 77 : 0));
+    expect(__FILE__, line, "an inheriting block", lepugaso_site_inheriting(file, sizeof types, q.entry, mask), first == START ? refusal : 0,
+           0, 0);
+    hold(__FILE__, line, "the mask of an inheriting block", *mask == (first == START ? 77 : 0));
+
+    *mask = q.mask;
+    int is_short = q.factory_len < SIZE || q.site_len < SIZE;
+    uint32_t started = first == START ? refusal : is_short ? LEPUGASO_REFUSED_SHORT_BUFFER : 0;
+    expect(__FILE__, line, "a fresh block",
+           lepugaso_site_fresh(file, sizeof types, q.entry, factory, q.factory_len, site, q.site_len, mask), started, 0, 0);
+    hold(__FILE__, line, "the mask of a fresh block", *mask == (started ? q.mask : ALL));
+    hold(__FILE__, line, "the site buffer of a fresh block",
+         started ? memcmp(site, before, q.site_len) == 0
+                 : memcmp(site, factory, SIZE) == 0 && memcmp(site + SIZE, before + SIZE, q.site_len - SIZE) == 0);
+    memcpy(site, before, q.site_len);
 
     *mask = q.mask;
     uint32_t cleared = first <= CLEAR ? refusal : q.member < MEMBERS ? 0 : LEPUGASO_REFUSED_MEMBER_STEP;
@@ -333,14 +493,19 @@ static void refused(int line, int first, uint32_t refusal, uint32_t place, struc
     hold(__FILE__, line, "the site buffer after setting", memcmp(site, before, q.site_len) == 0);
 }
 
-/* No entry, or an entry that is no block. */
+/* No entry, or an entry that is no block, whatever the buffers are. */
 static void entries(void) {
     static const uint32_t absent[] = {4, 19, 20}, bools[] = {0, 16, 17, 18}, no_blocks[] = {1, 3, 5, 6, 7, 8, 10, 13, 14, 15};
-    REFUSED(FRESH, LEPUGASO_REFUSED_ENTRY, 0, q.entry = NO_ENTRY);
-    REFUSED(FRESH, LEPUGASO_REFUSED_ENTRY, 0, q.entry = UINT32_MAX);
-    for (size_t k = 0; k < COUNT(absent); k++) REFUSED(FRESH, LEPUGASO_REFUSED_ABSENT, 0, q.entry = absent[k]);
-    for (size_t k = 0; k < COUNT(bools); k++) REFUSED(FRESH, LEPUGASO_REFUSED_NOT_STORABLE, 0, q.entry = bools[k]);
-    for (size_t k = 0; k < COUNT(no_blocks); k++) REFUSED(FRESH, LEPUGASO_REFUSED_NO_SITE, 0, q.entry = no_blocks[k]);
+    static const size_t lengths[][2] = {{SIZE, SIZE}, {SIZE + SPARE, SIZE}, {SIZE, SIZE + SPARE}, {0, SIZE}, {SIZE, 0}, {0, 0}};
+    for (size_t j = 0; j < COUNT(lengths); j++) {
+#define ENTRY(refusal, number) REFUSED(START, refusal, 0, q.entry = number, q.factory_len = lengths[j][0], q.site_len = lengths[j][1])
+        ENTRY(LEPUGASO_REFUSED_ENTRY, NO_ENTRY);
+        ENTRY(LEPUGASO_REFUSED_ENTRY, UINT32_MAX);
+        for (size_t k = 0; k < COUNT(absent); k++) ENTRY(LEPUGASO_REFUSED_ABSENT, absent[k]);
+        for (size_t k = 0; k < COUNT(bools); k++) ENTRY(LEPUGASO_REFUSED_NOT_STORABLE, bools[k]);
+        for (size_t k = 0; k < COUNT(no_blocks); k++) ENTRY(LEPUGASO_REFUSED_NO_SITE, no_blocks[k]);
+#undef ENTRY
+    }
 }
 
 static void masks(void) {
@@ -370,6 +535,13 @@ static void buffers(void) {
     EXPECT(lepugaso_site_member(file, sizeof types, SHEET, 0, 1, bytes, SIZE, NULL, 0, &part, &part_len), LEPUGASO_REFUSED_SHORT_BUFFER, 0,
            0);
     HOLDS(part == bytes && part_len == 0);
+    /* Of either no block starts. */
+    uint8_t *site = filled(SIZE, own_byte), *before = filled(SIZE, own_byte);
+    uint64_t mask = 9;
+    EXPECT(lepugaso_site_fresh(file, sizeof types, SHEET, NULL, 0, site, SIZE, &mask), LEPUGASO_REFUSED_SHORT_BUFFER, 0, 0);
+    EXPECT(lepugaso_site_fresh(file, sizeof types, SHEET, bytes, SIZE, NULL, 0, &mask), LEPUGASO_REFUSED_SHORT_BUFFER, 0, 0);
+    EXPECT(lepugaso_site_fresh(file, sizeof types, SHEET, NULL, 0, NULL, 0, &mask), LEPUGASO_REFUSED_SHORT_BUFFER, 0, 0);
+    HOLDS(mask == 9 && memcmp(site, before, SIZE) == 0);
 }
 
 /* A member is a number and no step: 0 with bit 31 is not member 0. */
@@ -422,13 +594,13 @@ static void paths_and_words(void) {
 
 /* Of two refusals that stand next to each other in document 02's order, the first; 17 is in large.c. No type has both 9 and 10. */
 static void order(void) {
-    REFUSED(FRESH, LEPUGASO_REFUSED_ENTRY, 0, q.entry = NO_ENTRY, q.mask = BIT(63), q.site_len = 0, q.member = M(0), q.count = 0);
-    REFUSED(FRESH, LEPUGASO_REFUSED_ABSENT, 0, q.entry = 4, q.mask = BIT(63), q.factory_len = 0);
-    REFUSED(FRESH, LEPUGASO_REFUSED_NOT_STORABLE, 0, q.entry = 0, q.site_len = 0);
-    REFUSED(FRESH, LEPUGASO_REFUSED_NOT_STORABLE, 0, q.entry = 18, q.factory_len = 0);
-    REFUSED(FRESH, LEPUGASO_REFUSED_NOT_STORABLE, 0, q.entry = 16, q.mask = BIT(2));
-    REFUSED(FRESH, LEPUGASO_REFUSED_NO_SITE, 0, q.entry = 1, q.factory_len = 0);
-    REFUSED(FRESH, LEPUGASO_REFUSED_NO_SITE, 0, q.entry = 15, q.site_len = 0);
+    REFUSED(START, LEPUGASO_REFUSED_ENTRY, 0, q.entry = NO_ENTRY, q.mask = BIT(63), q.site_len = 0, q.member = M(0), q.count = 0);
+    REFUSED(START, LEPUGASO_REFUSED_ABSENT, 0, q.entry = 4, q.mask = BIT(63), q.factory_len = 0);
+    REFUSED(START, LEPUGASO_REFUSED_NOT_STORABLE, 0, q.entry = 0, q.site_len = 0);
+    REFUSED(START, LEPUGASO_REFUSED_NOT_STORABLE, 0, q.entry = 18, q.factory_len = 0);
+    REFUSED(START, LEPUGASO_REFUSED_NOT_STORABLE, 0, q.entry = 16, q.mask = BIT(2));
+    REFUSED(START, LEPUGASO_REFUSED_NO_SITE, 0, q.entry = 1, q.factory_len = 0);
+    REFUSED(START, LEPUGASO_REFUSED_NO_SITE, 0, q.entry = 15, q.site_len = 0);
     REFUSED(CLEAR, LEPUGASO_REFUSED_NO_SITE, 0, q.mask = BIT(5), q.factory_len = SIZE - 1);
     REFUSED(CLEAR, LEPUGASO_REFUSED_NO_SITE, 0, q.mask = BIT(5), q.site_len = SIZE - 1);
     REFUSED(CLEAR, LEPUGASO_REFUSED_NO_SITE, 0, q.mask = BIT(5), q.member = MEMBERS);
@@ -468,8 +640,14 @@ int main(void) {
     every_mask(SIZE, SIZE);
     every_mask(SIZE + SPARE, SIZE);
     every_mask(SIZE, SIZE + SPARE);
-    any_order();
+    every_start(SIZE, SIZE);
+    every_start(SIZE + SPARE, SIZE);
+    every_start(SIZE, SIZE + SPARE);
+    any_order(SIZE, SIZE);
+    any_order(SIZE + SPARE, SIZE + 1);
+    another_sheet();
     written_out();
+    written_out_fresh();
     for (uint32_t count = 1; count <= 66; count++) members_of(count);
     members_of(1024);
     entries();
