@@ -1,7 +1,7 @@
 -- Files that are accepted, and the types of their entries (specs/Rule, `typesBelow` and `typesOf`).
 --
--- In order: lists read by number; the types of the lowest entries; the lowest bad entry; every type within is well formed; an accepted
--- file.
+-- In order: lists read by number; the types of the lowest entries; the lowest bad entry; every type within is well formed; what is
+-- refused of a file; an accepted file.
 -- Not here: one entry (`Judged`), what it makes (`Made`), the trailer (`Trailed`).
 -- Assumes nothing.
 use Prim.Native.Nat.{ℕ, zero, suc, _<_, _≤_}
@@ -15,15 +15,16 @@ use native.Mathlib.Nat.{eq-or-lt-of-le}
 use lib.ListN.{length, take, getElem?, length-append}
 use lib.Seq.{take-all, take-append-le}
 use Rattle.wgsl.specs.Types.{Ty, everywhere}
-use Rattle.wgsl.specs.Said.{good, refused}
-use Rattle.wgsl.specs.File.{trailerOf}
-use Rattle.wgsl.specs.Rule.{isWellFormed, judged, typesBelow, typesOf}
-use Rattle.wgsl.specs.Claim.{Lowest}
+use Rattle.wgsl.specs.Said.{Said, good, refused, _>>=_, _>>_}
+use Rattle.wgsl.specs.File.{Trailer, trailerOf, checkTrailer}
+use Rattle.wgsl.specs.Rule.{isWellFormed, judged, typesBelow, allNamed, typesOf}
+use Rattle.wgsl.specs.Claim.{Broken, no-type, not-allowed, not-given, too-large, Lowest}
 use Rattle.wgsl.proofs.Absent.{some-not-none}
-use Rattle.wgsl.proofs.Said.{good-not-refused, then-good, then-cases}
+use Rattle.wgsl.proofs.Said.{good-not-refused, then-good, then-cases, next-good, refuse-cases}
 use Rattle.wgsl.proofs.Judged.{judged-broken, judged-good, judged-well-formed}
 use Rattle.wgsl.proofs.Made.{made-everywhere}
 use Rattle.wgsl.proofs.Trailed.{Trailed, trailed, trailer-place}
+use Rattle.wgsl.proofs.Stray.{Unnamed, unnamed}
 
 module _ {A : Type 0} where
   -- The first elements are those of the list.
@@ -125,17 +126,46 @@ below-well-formed f (suc n) ts e k t h =
     rw (← same) (made-everywhere isWellFormed f (s .before) n (s .last) (j .made) all (judged-well-formed j)))
     (getElem-cases (s .before) (s .last) k t (rw (s .whole) at h))
 
--- The place of a file's refusal is an entry, and there are at most 256.
-pub refused-place : {number place : ℕ} (f : List ℕ) → typesOf f ≡ refused number place → place < 256
+-- A trailer is refused with a number up to 4,
+pub trailer-number : (f : List ℕ) {number place : ℕ} → checkTrailer f ≡ refused number place → number ≤ 4
+unfolding checkTrailer
+trailer-number f {number} {place} h =
+    refuse-cases {s = refused number place} 1 0 _ _ h (λ t q. let n : number ≡ 1 = cc in omega arith) (λ t h2.
+    refuse-cases {s = refused number place} 2 0 _ _ h2 (λ t q. let n : number ≡ 2 = cc in omega arith) (λ t h3.
+    refuse-cases {s = refused number place} 3 0 _ _ h3 (λ t q. let n : number ≡ 3 = cc in omega arith) (λ t h4.
+    refuse-cases {s = refused number place} 4 0 _ _ h4 (λ t q. let n : number ≡ 4 = cc in omega arith) (λ t h5. good-not-refused refl h5))))
+
+-- and an entry with one up to 7.
+pub broken-number : {f : List ℕ} {ts : List Ty} {k number : ℕ} → Broken f ts k number → number ≤ 7
+broken-number (no-type a) = omega arith
+broken-number (not-allowed t a b) = omega arith
+broken-number (not-given t a b c) = omega arith
+broken-number (too-large t a b c d) = omega arith
+
+-- What is refused of a file whose trailer is good is its lowest bad entry, or else the lowest member that nobody names.
+pub refused-by : {number place : ℕ} {C : Type 0} (f : List ℕ) (r : Trailer) → _>>=_ (typesBelow f (r .types)) (λ ts. _>>_ (allNamed f (r .types) (r .members)) (good ts)) ≡ refused number place → (Lowest f (r .types) number place → C) → ((ts : List Ty) → typesBelow f (r .types) ≡ good ts → Unnamed f (r .types) (r .members) number place → C) → C
+unfolding _>>_
+refused-by {number} {place} {C} f r e entry member =
+    then-cases _ _ e (λ h. entry (below-lowest f (r .types) h)) (λ h.
+    go (h .value) (allNamed f (r .types) (r .members)) (h .first) refl (h .after))
+  where
+    go : (ts : List Ty) (s : Said (Unit {0})) → typesBelow f (r .types) ≡ good ts → allNamed f (r .types) (r .members) ≡ s → _>>_ s (good ts) ≡ refused number place → C
+    go ts (good u) below p h = good-not-refused refl h
+    go ts (refused n m) below p h = member ts below (unnamed f (r .types) (r .members) (p ∙ cc))
+
+-- The place of a file's refusal is an entry or a member, and there are at most 256 and 1,024.
+pub refused-place : {number place : ℕ} (f : List ℕ) → typesOf f ≡ refused number place → place < 1024
 unfolding typesOf
 refused-place f e =
     then-cases _ _ e (λ h. omega (arith, trailer-place f h)) (λ h.
-    omega (arith, trailed f (h .value) (h .first) .high, below-lowest f (h .value .types) (h .after) .low))
+    let t = trailed f (h .value) (h .first) in
+    refused-by f (h .value) (h .after) (λ x. omega (arith, t .high, x .low)) (λ ts below x. omega (arith, t .few, x .there)))
 
 -- The file f is accepted, and ts are the types of its entries.
 pub record Accepted (f : List ℕ) (ts : List Ty) : Type 0 where
   pub types-below : typesBelow f (trailerOf f .types) ≡ good ts
   pub count : length ts ≡ trailerOf f .types
+  pub named : allNamed f (trailerOf f .types) (trailerOf f .members) ≡ good tt
   pub trailer-good : Trailed f (trailerOf f)
 
 -- Where the verdict on a file is its types, the trailer is as it should be and every entry is good.
@@ -144,8 +174,16 @@ unfolding typesOf
 accepted f ts e =
     let h = then-good _ _ e in
     let t = trailed f (h .value) (h .first) in
-    let below : typesBelow f (trailerOf f .types) ≡ good ts = rw (t .is) at (h .after) in
-    record { types-below = below; count = below-length f (trailerOf f .types) ts below; trailer-good = rw (t .is) at t }
+    let x = rw (t .is) at (then-good _ _ (h .after)) in
+    let last = next-good _ _ (x .after) in
+    let same : x .value ≡ ts = cc (last .1) in
+    let below : typesBelow f (trailerOf f .types) ≡ good ts = x .first ∙ ap good same in
+    record {
+      types-below = below;
+      count = below-length f (trailerOf f .types) ts below;
+      named = last .0;
+      trailer-good = rw (t .is) at t;
+    }
 
 -- The types of an accepted file are well formed, and so is every type within them.
 pub accepted-well-formed : (f : List ℕ) (ts : List Ty) → typesOf f ≡ good ts → (k : ℕ) (t : Ty) → getElem? ts k ≡ some t → everywhere isWellFormed t ≡ true

@@ -15,7 +15,7 @@ use Rattle.wgsl.specs.Types.{u32, Ty, scalar, vector, runtime, struct, n
 use Rattle.wgsl.specs.Size.{both, givenOr, isPresent, present, widthOf, vec3Align, vectorSize, vectorAlign, startAfter, endAfter, memberStart, memberEnd, sizeOf, alignOf, membersAlign, membersEnd, strideOf, ownStrideOf, minSizeOf, offsetsOf, innerNumbersOf, numbersOf, withinLimits, fitsLimit, hasLayout, isStored, isPlain, isStorable}
 use Rattle.wgsl.specs.Said.{good, _>>=_, _>>_, refuse, orRefuse}
 use Rattle.wgsl.specs.File.{trailerOf, lengthBy, typeEntryFrom, typeEntryAt, memberEntryFrom, memberEntryAt, sizeIsGiven, alignIsGiven, givenSize, givenAlign, restIsZero, between, checkTrailer, memberEntryLength}
-use Rattle.wgsl.specs.Rule.{when, andThen, unused, scalarOfKind, scalarIn, lower, membersFrom, scalarMade, vectorMade, matrixMade, arrayMade, runtimeMade, atomicMade, structMade, overMade, typeMade, typeOfEntry, isMatrixScalar, isAtomicScalar, isLast, countOf, memberAllowed, membersAllowed, isAllowed, atLeast, givenSizeFits, isMultiple, givenAlignFits, membersGivenFit, givenFits, judged, typesBelow, typesOf}
+use Rattle.wgsl.specs.Rule.{when, andThen, unused, scalarOfKind, scalarIn, lower, membersFrom, scalarMade, vectorMade, matrixMade, arrayMade, runtimeMade, atomicMade, structMade, overMade, typeMade, typeOfEntry, isMatrixScalar, isAtomicScalar, isLast, countOf, memberAllowed, membersAllowed, isAllowed, atLeast, givenSizeFits, isMultiple, givenAlignFits, membersGivenFit, givenFits, judged, typesBelow, namesMember, isNamed, allNamed, typesOf}
 use Rattle.wgsl.specs.Place.{column, tailAt, membersTail, tailOf, extentBy, extentOf, elementsBy, elementsIn, shapeOf, fieldsOf, spanOf, wordsOver, wordsFor, wordPlaces, repeated, placesOf, places, wordCount, wordsRead}
 use Rattle.wgsl.specs.Call.{entryOf, allowed, entryFor, isShort, readElements, readType, readCall, writeCall}
 use Rattle.wgsl.specs.Clean.{CleanDone, isInside, isCovered, cleanByte, cleanFrom, cleaned, differing, firstDiffering, doneFrom, cleanType, cleanCall}
@@ -62,7 +62,7 @@ pub record CleanWitnesses : Type 0 where
   pub clean-is-write : writeCall gappy 4 (replicate 5 4294967295) (full 33) ≡ good (record { value = 32; contents = clean33 })
 
 pub clean-witnesses : CleanWitnesses
-unfolding allBytes load bytesOf up withinLimit isRuntime endsInRuntime isOpen everywhere everyMember isScalarKind scalarKind both givenOr isPresent present widthOf vec3Align vectorSize vectorAlign startAfter endAfter memberStart memberEnd sizeOf alignOf membersAlign membersEnd strideOf ownStrideOf minSizeOf offsetsOf innerNumbersOf numbersOf withinLimits fitsLimit hasLayout isStored isPlain isStorable _>>=_ _>>_ refuse orRefuse trailerOf lengthBy typeEntryFrom typeEntryAt memberEntryFrom memberEntryAt sizeIsGiven alignIsGiven givenSize givenAlign restIsZero between checkTrailer memberEntryLength when andThen unused scalarOfKind scalarIn lower membersFrom scalarMade vectorMade matrixMade arrayMade runtimeMade atomicMade structMade overMade typeMade typeOfEntry isMatrixScalar isAtomicScalar isLast countOf memberAllowed membersAllowed isAllowed atLeast givenSizeFits isMultiple givenAlignFits membersGivenFit givenFits judged typesBelow typesOf column tailAt membersTail tailOf extentBy extentOf elementsBy elementsIn shapeOf fieldsOf spanOf wordsOver wordsFor wordPlaces repeated placesOf places wordCount wordsRead entryOf allowed entryFor isShort readElements readType readCall isInside isCovered cleanByte cleanFrom cleaned differing firstDiffering doneFrom cleanType cleanCall typeEntry memberGiven memberEntry trailer gappy full bare spaced vectors
+unfolding allBytes load bytesOf up withinLimit isRuntime endsInRuntime isOpen everywhere everyMember isScalarKind scalarKind both givenOr isPresent present widthOf vec3Align vectorSize vectorAlign startAfter endAfter memberStart memberEnd sizeOf alignOf membersAlign membersEnd strideOf ownStrideOf minSizeOf offsetsOf innerNumbersOf numbersOf withinLimits fitsLimit hasLayout isStored isPlain isStorable _>>=_ _>>_ refuse orRefuse trailerOf lengthBy typeEntryFrom typeEntryAt memberEntryFrom memberEntryAt sizeIsGiven alignIsGiven givenSize givenAlign restIsZero between checkTrailer memberEntryLength when andThen unused scalarOfKind scalarIn lower membersFrom scalarMade vectorMade matrixMade arrayMade runtimeMade atomicMade structMade overMade typeMade typeOfEntry isMatrixScalar isAtomicScalar isLast countOf memberAllowed membersAllowed isAllowed atLeast givenSizeFits isMultiple givenAlignFits membersGivenFit givenFits judged typesBelow namesMember isNamed allNamed typesOf column tailAt membersTail tailOf extentBy extentOf elementsBy elementsIn shapeOf fieldsOf spanOf wordsOver wordsFor wordPlaces repeated placesOf places wordCount wordsRead entryOf allowed entryFor isShort readElements readType readCall isInside isCovered cleanByte cleanFrom cleaned differing firstDiffering doneFrom cleanType cleanCall typeEntry memberGiven memberEntry trailer gappy full bare spaced vectors
 clean-witnesses =
     let stored : Stored gappy 4 (full 33) spaced = record { entry = refl; within = omega arith; layout = refl; storable = refl } in
     let room : HasRoom spaced (full 33) = omega arith in

@@ -17,7 +17,7 @@ use Rattle.wgsl.specs.Types.{isRuntime, endsInRuntime, isOpen, everywher
 use Rattle.wgsl.specs.Size.{both, givenOr, isPresent, present, widthOf, vec3Align, vectorSize, vectorAlign, startAfter, endAfter, memberStart, memberEnd, sizeOf, alignOf, membersAlign, membersEnd, strideOf, ownStrideOf, minSizeOf, offsetsOf, innerNumbersOf, numbersOf, withinLimits, fitsLimit, hasLayout, isStored, isPlain, isStorable}
 use Rattle.wgsl.specs.Said.{good, refused, _>>=_, _>>_, refuse, orRefuse}
 use Rattle.wgsl.specs.File.{trailerOf, lengthBy, typeEntryFrom, typeEntryAt, memberEntryFrom, memberEntryAt, sizeIsGiven, alignIsGiven, givenSize, givenAlign, restIsZero, between, checkTrailer, memberEntryLength}
-use Rattle.wgsl.specs.Rule.{when, andThen, unused, scalarOfKind, scalarIn, lower, membersFrom, scalarMade, vectorMade, matrixMade, runtimeMade, atomicMade, structMade, overMade, typeMade, typeOfEntry, isMatrixScalar, isAtomicScalar, isLast, countOf, memberAllowed, membersAllowed, isAllowed, atLeast, givenSizeFits, isMultiple, givenAlignFits, membersGivenFit, givenFits, judged, typesBelow, typesOf}
+use Rattle.wgsl.specs.Rule.{when, andThen, unused, scalarOfKind, scalarIn, lower, membersFrom, scalarMade, vectorMade, matrixMade, runtimeMade, atomicMade, structMade, overMade, typeMade, typeOfEntry, isMatrixScalar, isAtomicScalar, isLast, countOf, memberAllowed, membersAllowed, isAllowed, atLeast, givenSizeFits, isMultiple, givenAlignFits, membersGivenFit, givenFits, judged, typesBelow, namesMember, isNamed, allNamed, typesOf}
 use Rattle.wgsl.specs.Place.{column, tailAt, membersTail, tailOf, extentBy, extentOf, elementsBy, elementsIn, shapeOf, fieldsOf, spanOf, wordsOver, wordsFor, wordPlaces, repeated, placesOf, places, wordCount}
 use Rattle.wgsl.specs.Path.{stepOf, enter, walk}
 use Rattle.wgsl.specs.Call.{checkOf, entryOf, sizeCall, answerOf, contentsOf, allowed, entryFor, isShort, targetIn, targetCall, viewCall, offsetOf}
@@ -59,7 +59,7 @@ byte-at (b ∷ bs) h zero = ltb-true b 256 (both-hold (ltb b 256) (allBytes bs) 
 byte-at (b ∷ bs) h (suc i) = byte-at bs (both-hold (ltb b 256) (allBytes bs) h .1) i
 
 pub form-witnesses : FormWitnesses
-unfolding allBytes load bytesOf up withinLimit isRuntime endsInRuntime isOpen everywhere everyMember both givenOr isPresent present widthOf vec3Align vectorSize vectorAlign startAfter endAfter memberStart memberEnd sizeOf alignOf membersAlign membersEnd strideOf ownStrideOf minSizeOf offsetsOf innerNumbersOf numbersOf withinLimits fitsLimit hasLayout isStored isPlain isStorable refuse orRefuse trailerOf lengthBy memberEntryLength typeEntryFrom typeEntryAt memberEntryFrom memberEntryAt sizeIsGiven alignIsGiven givenSize givenAlign restIsZero between checkTrailer when andThen unused scalarOfKind isScalarKind scalarIn lower membersFrom scalarMade vectorMade matrixMade runtimeMade atomicMade structMade overMade typeMade typeOfEntry isMatrixScalar isAtomicScalar isLast countOf memberAllowed membersAllowed isAllowed atLeast givenSizeFits isMultiple givenAlignFits membersGivenFit givenFits judged typesBelow typesOf tailAt membersTail tailOf extentBy extentOf elementsBy elementsIn shapeOf fieldsOf spanOf wordsOver wordsFor wordPlaces repeated placesOf places wordCount stepOf enter walk scalarKind checkOf entryOf sizeCall answerOf contentsOf allowed entryFor isShort targetIn targetCall viewCall offsetOf memberStep typeEntry memberGiven memberEntry column _>>=_ _>>_ memberPlace nameAt nameless entriesWith trailerAs movedTo toForm2 toForm1 formIs filled putOut moveOnCall moveBackCall trailerAt namedMember twoEntries plainFile namedFile oldTrailer
+unfolding allBytes load bytesOf up withinLimit isRuntime endsInRuntime isOpen everywhere everyMember both givenOr isPresent present widthOf vec3Align vectorSize vectorAlign startAfter endAfter memberStart memberEnd sizeOf alignOf membersAlign membersEnd strideOf ownStrideOf minSizeOf offsetsOf innerNumbersOf numbersOf withinLimits fitsLimit hasLayout isStored isPlain isStorable refuse orRefuse trailerOf lengthBy memberEntryLength typeEntryFrom typeEntryAt memberEntryFrom memberEntryAt sizeIsGiven alignIsGiven givenSize givenAlign restIsZero between checkTrailer when andThen unused scalarOfKind isScalarKind scalarIn lower membersFrom scalarMade vectorMade matrixMade runtimeMade atomicMade structMade overMade typeMade typeOfEntry isMatrixScalar isAtomicScalar isLast countOf memberAllowed membersAllowed isAllowed atLeast givenSizeFits isMultiple givenAlignFits membersGivenFit givenFits judged typesBelow namesMember isNamed allNamed typesOf tailAt membersTail tailOf extentBy extentOf elementsBy elementsIn shapeOf fieldsOf spanOf wordsOver wordsFor wordPlaces repeated placesOf places wordCount stepOf enter walk scalarKind checkOf entryOf sizeCall answerOf contentsOf allowed entryFor isShort targetIn targetCall viewCall offsetOf memberStep typeEntry memberGiven memberEntry column _>>=_ _>>_ memberPlace nameAt nameless entriesWith trailerAs movedTo toForm2 toForm1 formIs filled putOut moveOnCall moveBackCall trailerAt namedMember twoEntries plainFile namedFile oldTrailer
 form-witnesses =
     let one : OfForm 1 plainFile = record { form-is = refl; types = _; accepted = refl } in
     let two : OfForm 2 (namedFile 0 0 0) = record { form-is = refl; types = _; accepted = refl } in

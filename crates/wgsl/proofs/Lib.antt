@@ -11,7 +11,9 @@ pub mod ScalarKind
 pub mod Made
 pub mod Trailed
 pub mod MemberLength
+pub mod Stray
 pub mod Accepted
+pub mod StrayFile
 pub mod Fields
 pub mod AtEntry
 pub mod SameEntries
@@ -62,6 +64,7 @@ pub mod FormCase
 pub mod SiteMask
 pub mod SiteWitness
 pub mod StartWitness
+pub mod StrayWitness
 pub mod CleanWitness
 pub mod OrderWitness
 pub mod Site
@@ -70,6 +73,7 @@ pub mod Changes
 pub mod Starts
 pub mod SiteCase
 pub mod StartCase
+pub mod StrayCase
 pub mod CleanCase
 pub mod OrderCase
 pub mod OrderList

@@ -1,7 +1,8 @@
 -- What is claimed of the definitions of document 02, request by request. Each proof is one citation: read the statements.
 --
 -- Here: E1, strides; E2, bit fields; E4, vectors of three bools; E5, the uniform profile; E6, scalars of 64 bits; E7, the two forms of a
--- file; E8, factory sheet and site block; E9, the gaps cleaned; E10, a better member order; E11, the two starts of a site block.
+-- file; E8, factory sheet and site block; E9, the gaps cleaned; E10, a better member order; E11, the two starts of a site block; E12, members
+-- that nobody names.
 -- That the places of refusals fit and what the calls have in common with those of 01 stands in Claims.
 -- Assumes nothing.
 use Prim.Native.Nat.{ℕ, _+_, _-_, _*_, _%_, _^_, _<_, _≤_, max, min}
@@ -17,7 +18,7 @@ use Rattle.wgsl.specs.Round.{up, limit}
 use Rattle.wgsl.specs.Types.{Scalar, Ty, array, runtime, struct, Members, everywhere}
 use Rattle.wgsl.specs.Size.{present, widthOf, sizeOf, alignOf, ownStrideOf, isStorable}
 use Rattle.wgsl.specs.Said.{good, refused}
-use Rattle.wgsl.specs.Rule.{isWellFormed, countOf, typesOf}
+use Rattle.wgsl.specs.Rule.{isWellFormed, countOf, typesBelow, typesOf}
 use Rattle.wgsl.specs.Place.{shapeOf, spanOf, one, elementsIn, Place, wordsFor, wordPlaces, places, wordCount, wordsRead}
 use Rattle.wgsl.specs.Call.{Done, entryOf, entryFor, readCall, writeCall, setCall}
 use Rattle.wgsl.specs.Path.{Target, walk, stepOf}
@@ -28,7 +29,7 @@ use Rattle.wgsl.specs.BitFieldCall.{isInteger, isSigned, FoundInteger, i
 use Rattle.wgsl.specs.Uniform.{reaches, uniformCall}
 use Rattle.wgsl.specs.File.{Trailer, trailerOf, checkTrailer}
 use Rattle.wgsl.specs.Form.{memberPlace, nameAt, toForm1, toForm2, filled, moveOnCall, moveBackCall, oldTrailer}
-use Rattle.wgsl.specs.Claim.{Holds, together, IsStride, ByElement, HoldsBool, LaidOut, Stored, HasRoom, GoodIf, CanField, Reaches, CanUniform, LowestBroken, SameReached, SameAnswers, OfForm, CanMoveOn, CanMoveBack, PlaceFits, memberStep}
+use Rattle.wgsl.specs.Claim.{IsAccepted, Stray, Holds, together, IsStride, ByElement, HoldsBool, LaidOut, Stored, HasRoom, GoodIf, CanField, Reaches, CanUniform, LowestBroken, SameReached, SameAnswers, OfForm, CanMoveOn, CanMoveBack, PlaceFits, memberStep}
 use Rattle.wgsl.specs.Site.{blockIn, memberOf, SiteDone, inheritingCall, freshCall, memberCall, siteSetCall, clearCall}
 use Rattle.wgsl.specs.SiteClaim.{bytesIn, shownBytes, IsBlock, SetOnSite, Cleared}
 use Rattle.wgsl.specs.StartClaim.{Fresh, Kept, madeFresh, madeInheriting, Change, answersTo, leftAfter, neverSets, ShowAlike, Independent}
@@ -42,6 +43,7 @@ use Rattle.wgsl.specs.WideCase.{wideCasesPass}
 use Rattle.wgsl.specs.FormCase.{formCasesPass}
 use Rattle.wgsl.specs.SiteCase.{siteCasesPass}
 use Rattle.wgsl.specs.StartCase.{startCasesPass}
+use Rattle.wgsl.specs.StrayCase.{strayCasesPass}
 use Rattle.wgsl.specs.CleanCase.{cleanCasesPass}
 use Rattle.wgsl.specs.Order.{plannedOrder, planCall, endOf, orderCall}
 use Rattle.wgsl.specs.OrderClaim.{IsPlanned, CanPlan, Accepted, CanOrder}
@@ -66,6 +68,8 @@ use Rattle.wgsl.proofs.SiteCase.{site-cases-pass}
 use Rattle.wgsl.proofs.Start as start
 use Rattle.wgsl.proofs.Starts as starts
 use Rattle.wgsl.proofs.StartCase.{start-cases-pass}
+use Rattle.wgsl.proofs.StrayFile as strays
+use Rattle.wgsl.proofs.StrayCase.{stray-cases-pass}
 use Rattle.wgsl.proofs.CleanPath as clean-path
 use Rattle.wgsl.proofs.CleanCall as clean-call
 use Rattle.wgsl.proofs.CleanSame as clean-same
@@ -447,3 +451,30 @@ inheriting-follows = starts.inheriting-follows
 -- The edges of the fresh copy, and the two starts side by side.
 pub start-cases : T startCasesPass
 start-cases = start-cases-pass
+
+-- ---- E12: members that nobody names
+
+-- "A table whose M members are not each named by at least one struct is refused.": a file is accepted exactly if 1 to 7 pass and some struct,
+-- used or not, names every member.
+pub accepted-if : (f : List ℕ) → GoodIf (typesOf f) (IsAccepted f)
+accepted-if = strays.accepted-if
+
+-- "24, place the lowest such member": 24 is of that member, where 1 to 7 pass,
+pub stray-is : (f : List ℕ) (place : ℕ) → typesOf f ≡ refused 24 place → Stray f place
+stray-is = strays.stray-is
+
+-- that member is refused so,
+pub stray-refused : (f : List ℕ) (place : ℕ) → Stray f place → typesOf f ≡ refused 24 place
+stray-refused = strays.stray-refused
+
+-- and there is no other.
+pub stray-one : {f : List ℕ} {a b : ℕ} → Stray f a → Stray f b → a ≡ b
+stray-one = strays.stray-one
+
+-- "after all entries have passed 5 to 7": an entry that is refused comes first.
+pub entries-first : (f : List ℕ) {number place : ℕ} → checkTrailer f ≡ good (trailerOf f) → typesBelow f (trailerOf f .types) ≡ refused number place → typesOf f ≡ refused number place
+entries-first = strays.entries-first
+
+-- Members named once and twice, strays at each end and between, and 24 among the other refusals.
+pub stray-cases : T strayCasesPass
+stray-cases = stray-cases-pass

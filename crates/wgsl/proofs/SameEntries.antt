@@ -13,7 +13,7 @@ use lib.Dec.{leb}
 use Rattle.wgsl.specs.Types.{Ty, struct, Members}
 use Rattle.wgsl.specs.Said.{Said, good, refused, _>>=_}
 use Rattle.wgsl.specs.File.{Trailer, TypeEntry, MemberEntry, trailerOf, typeEntryAt, memberEntryAt, checkTrailer}
-use Rattle.wgsl.specs.Rule.{when, andThen, unused, lower, membersFrom, structMade, typeMade, typeOfEntry, judged, typesBelow, typesOf}
+use Rattle.wgsl.specs.Rule.{when, andThen, unused, lower, membersFrom, structMade, typeMade, typeOfEntry, judged, typesBelow, isNamed, allNamed, typesOf}
 use Rattle.wgsl.proofs.Said.{then-is}
 use Rattle.wgsl.proofs.Trailed.{trailed}
 
@@ -67,11 +67,24 @@ module _ {f g : List ℕ} (same : SameEntries f g) where
   below-same (suc n) h =
       rw (below-same n (omega arith)) (bind-same (typesBelow g n) _ _ (λ ts. ap (λ (s : Said Ty). _>>=_ s (λ t. good (ts ++ (t ∷ [])))) (judged-same ts n (omega arith))))
 
--- The types of the entries are the same, or the refusal of the lowest bad one.
+  named-same : (n : ℕ) → n ≤ trailerOf f .types → (m : ℕ) → isNamed f n m ≡ isNamed g n m
+  unfolding isNamed
+  named-same zero h m = refl
+  named-same (suc n) h m = rw (named-same n (omega arith) m, same .entry n (omega arith))
+
+  all-same : (n : ℕ) → n ≤ trailerOf f .types → (m : ℕ) → allNamed f n m ≡ allNamed g n m
+  unfolding allNamed
+  all-same n h zero = refl
+  all-same n h (suc m) = rw (all-same n h m, named-same n h m)
+
+-- The types of the entries are the same, or the refusal of the lowest bad one, or of the lowest member that nobody names.
 pub same-types : {f g : List ℕ} {r s : Trailer} → checkTrailer f ≡ good r → checkTrailer g ≡ good s → SameEntries f g → typesOf f ≡ typesOf g
 unfolding typesOf
 same-types {f} {g} {r} {s} p q same =
     let few : r .types ≡ trailerOf f .types = ap (λ (x : Trailer). x .types) (trailed f r p .is) in
     let few′ : s .types ≡ trailerOf g .types = ap (λ (x : Trailer). x .types) (trailed g s q .is) in
     let count : r .types ≡ s .types = few ∙ same .types ∙ sym few′ in
-    then-is _ p ∙ below-same same (r .types) (omega arith) ∙ ap (typesBelow g) count ∙ sym (then-is _ q)
+    let few″ : r .members ≡ s .members = ap (λ (x : Trailer). x .members) (trailed f r p .is) ∙ same .members ∙ sym (ap (λ (x : Trailer). x .members) (trailed g s q .is)) in
+    then-is _ p
+    ∙ rw (below-same same (r .types) (omega arith), all-same same (r .types) (omega arith) (r .members), count, few″) refl
+    ∙ sym (then-is _ q)

@@ -7,7 +7,7 @@ use Rattle.wgsl.specs.Types.{isRuntime, endsInRuntime, isOpen, everywher
 use Rattle.wgsl.specs.Size.{both, givenOr, isPresent, present, widthOf, vec3Align, vectorSize, vectorAlign, startAfter, endAfter, memberStart, memberEnd, sizeOf, alignOf, membersAlign, membersEnd, strideOf, ownStrideOf, minSizeOf, offsetsOf, innerNumbersOf, numbersOf, withinLimits, fitsLimit, hasLayout, isStored, isPlain, isStorable}
 use Rattle.wgsl.specs.Said.{_>>=_, _>>_, refuse, orRefuse}
 use Rattle.wgsl.specs.File.{trailerOf, lengthBy, typeEntryFrom, typeEntryAt, memberEntryFrom, memberEntryAt, sizeIsGiven, alignIsGiven, givenSize, givenAlign, restIsZero, between, checkTrailer, memberEntryLength}
-use Rattle.wgsl.specs.Rule.{when, andThen, unused, scalarOfKind, scalarIn, lower, membersFrom, scalarMade, vectorMade, matrixMade, runtimeMade, atomicMade, structMade, overMade, typeMade, typeOfEntry, isMatrixScalar, isAtomicScalar, isLast, countOf, memberAllowed, membersAllowed, isAllowed, atLeast, givenSizeFits, isMultiple, givenAlignFits, membersGivenFit, givenFits, judged, typesBelow, typesOf}
+use Rattle.wgsl.specs.Rule.{when, andThen, unused, scalarOfKind, scalarIn, lower, membersFrom, scalarMade, vectorMade, matrixMade, runtimeMade, atomicMade, structMade, overMade, typeMade, typeOfEntry, isMatrixScalar, isAtomicScalar, isLast, countOf, memberAllowed, membersAllowed, isAllowed, atLeast, givenSizeFits, isMultiple, givenAlignFits, membersGivenFit, givenFits, judged, typesBelow, namesMember, isNamed, allNamed, typesOf}
 use Rattle.wgsl.specs.Place.{column, tailAt, membersTail, tailOf, extentBy, extentOf, elementsBy, elementsIn, shapeOf, fieldsOf, spanOf, wordsOver, wordsFor, wordPlaces, repeated, storeWords, canHold, checkWords}
 use Rattle.wgsl.specs.Path.{stepOf, enter, walk}
 use Rattle.wgsl.specs.Call.{entryOf, allowed, isShort, offsetOf, partOf, scalarAt, setScalar, setTarget}
@@ -18,5 +18,5 @@ use Rattle.wgsl.specs.StrideCase.{reads}
 use Rattle.wgsl.specs.SiteCase.{settings, repeatedMember, wideStruct, factoryBytes, siteBytes, shows, leaves, setIn, siteCases, siteCasesPass}
 
 pub site-cases-pass : T siteCasesPass
-unfolding load bytesOf store up withinLimit isRuntime endsInRuntime isOpen everywhere everyMember isScalarKind scalarKind both givenOr isPresent present widthOf vec3Align vectorSize vectorAlign startAfter endAfter memberStart memberEnd sizeOf alignOf membersAlign membersEnd strideOf ownStrideOf minSizeOf offsetsOf innerNumbersOf numbersOf withinLimits fitsLimit hasLayout isStored isPlain isStorable _>>=_ _>>_ refuse orRefuse trailerOf lengthBy typeEntryFrom typeEntryAt memberEntryFrom memberEntryAt sizeIsGiven alignIsGiven givenSize givenAlign restIsZero between checkTrailer memberEntryLength when andThen unused scalarOfKind scalarIn lower membersFrom scalarMade vectorMade matrixMade runtimeMade atomicMade structMade overMade typeMade typeOfEntry isMatrixScalar isAtomicScalar isLast countOf memberAllowed membersAllowed isAllowed atLeast givenSizeFits isMultiple givenAlignFits membersGivenFit givenFits judged typesBelow typesOf column tailAt membersTail tailOf extentBy extentOf elementsBy elementsIn shapeOf fieldsOf spanOf wordsOver wordsFor wordPlaces repeated storeWords canHold checkWords stepOf enter walk entryOf allowed isShort offsetOf partOf scalarAt setScalar setTarget bitAt withBit withoutBit isBlock blockEntry blockIn memberOf inheritingCall memberCall shownIn handedFrom copiedIn siteSetCall siteAnswer siteAfter maskSet clearCall says typeEntry memberGiven memberEntry trailer allPass reads settings repeatedMember wideStruct factoryBytes siteBytes shows leaves setIn siteCases siteCasesPass
+unfolding load bytesOf store up withinLimit isRuntime endsInRuntime isOpen everywhere everyMember isScalarKind scalarKind both givenOr isPresent present widthOf vec3Align vectorSize vectorAlign startAfter endAfter memberStart memberEnd sizeOf alignOf membersAlign membersEnd strideOf ownStrideOf minSizeOf offsetsOf innerNumbersOf numbersOf withinLimits fitsLimit hasLayout isStored isPlain isStorable _>>=_ _>>_ refuse orRefuse trailerOf lengthBy typeEntryFrom typeEntryAt memberEntryFrom memberEntryAt sizeIsGiven alignIsGiven givenSize givenAlign restIsZero between checkTrailer memberEntryLength when andThen unused scalarOfKind scalarIn lower membersFrom scalarMade vectorMade matrixMade runtimeMade atomicMade structMade overMade typeMade typeOfEntry isMatrixScalar isAtomicScalar isLast countOf memberAllowed membersAllowed isAllowed atLeast givenSizeFits isMultiple givenAlignFits membersGivenFit givenFits judged typesBelow namesMember isNamed allNamed typesOf column tailAt membersTail tailOf extentBy extentOf elementsBy elementsIn shapeOf fieldsOf spanOf wordsOver wordsFor wordPlaces repeated storeWords canHold checkWords stepOf enter walk entryOf allowed isShort offsetOf partOf scalarAt setScalar setTarget bitAt withBit withoutBit isBlock blockEntry blockIn memberOf inheritingCall memberCall shownIn handedFrom copiedIn siteSetCall siteAnswer siteAfter maskSet clearCall says typeEntry memberGiven memberEntry trailer allPass reads settings repeatedMember wideStruct factoryBytes siteBytes shows leaves setIn siteCases siteCasesPass
 site-cases-pass = tt

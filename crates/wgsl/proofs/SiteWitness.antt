@@ -15,7 +15,7 @@ use Rattle.wgsl.specs.Types.{u32, f16, Ty, scalar, vector, struct, no-mo
 use Rattle.wgsl.specs.Size.{both, givenOr, isPresent, present, widthOf, vec3Align, vectorSize, vectorAlign, startAfter, endAfter, memberStart, memberEnd, sizeOf, alignOf, membersAlign, membersEnd, strideOf, ownStrideOf, minSizeOf, offsetsOf, innerNumbersOf, numbersOf, withinLimits, fitsLimit, hasLayout, isStored, isPlain, isStorable}
 use Rattle.wgsl.specs.Said.{good, _>>=_, _>>_, refuse, orRefuse}
 use Rattle.wgsl.specs.File.{trailerOf, lengthBy, typeEntryFrom, typeEntryAt, memberEntryFrom, memberEntryAt, sizeIsGiven, alignIsGiven, givenSize, givenAlign, restIsZero, between, checkTrailer, memberEntryLength}
-use Rattle.wgsl.specs.Rule.{when, andThen, unused, scalarOfKind, scalarIn, lower, membersFrom, scalarMade, vectorMade, matrixMade, runtimeMade, atomicMade, structMade, overMade, typeMade, typeOfEntry, isMatrixScalar, isAtomicScalar, isLast, countOf, memberAllowed, membersAllowed, isAllowed, atLeast, givenSizeFits, isMultiple, givenAlignFits, membersGivenFit, givenFits, judged, typesBelow, typesOf}
+use Rattle.wgsl.specs.Rule.{when, andThen, unused, scalarOfKind, scalarIn, lower, membersFrom, scalarMade, vectorMade, matrixMade, runtimeMade, atomicMade, structMade, overMade, typeMade, typeOfEntry, isMatrixScalar, isAtomicScalar, isLast, countOf, memberAllowed, membersAllowed, isAllowed, atLeast, givenSizeFits, isMultiple, givenAlignFits, membersGivenFit, givenFits, judged, typesBelow, namesMember, isNamed, allNamed, typesOf}
 use Rattle.wgsl.specs.Place.{column, tailAt, membersTail, tailOf, extentBy, extentOf, elementsBy, elementsIn, shapeOf, fieldsOf, spanOf, wordsOver, wordsFor, wordPlaces, repeated, storeWords, canHold, checkWords}
 use Rattle.wgsl.specs.Path.{Target, stepOf, enter, walk}
 use Rattle.wgsl.specs.Call.{entryOf, allowed, isShort, scalarAt, setScalar, setTarget}
@@ -45,7 +45,7 @@ pub record SiteWitnesses : Type 0 where
   pub site-member-inside : window .offset + spanOf (window .shape) ≤ present (sizeOf block)
 
 pub site-witnesses : SiteWitnesses
-unfolding load bytesOf store up withinLimit isRuntime endsInRuntime isOpen everywhere everyMember isScalarKind scalarKind both givenOr isPresent present widthOf vec3Align vectorSize vectorAlign startAfter endAfter memberStart memberEnd sizeOf alignOf membersAlign membersEnd strideOf ownStrideOf minSizeOf offsetsOf innerNumbersOf numbersOf withinLimits fitsLimit hasLayout isStored isPlain isStorable _>>=_ _>>_ refuse orRefuse trailerOf lengthBy typeEntryFrom typeEntryAt memberEntryFrom memberEntryAt sizeIsGiven alignIsGiven givenSize givenAlign restIsZero between checkTrailer memberEntryLength when andThen unused scalarOfKind scalarIn lower membersFrom scalarMade vectorMade matrixMade runtimeMade atomicMade structMade overMade typeMade typeOfEntry isMatrixScalar isAtomicScalar isLast countOf memberAllowed membersAllowed isAllowed atLeast givenSizeFits isMultiple givenAlignFits membersGivenFit givenFits judged typesBelow typesOf column tailAt membersTail tailOf extentBy extentOf elementsBy elementsIn shapeOf fieldsOf spanOf wordsOver wordsFor wordPlaces repeated storeWords canHold checkWords stepOf enter walk entryOf allowed isShort scalarAt setScalar setTarget bitAt withBit withoutBit isBlock blockEntry blockIn memberOf inheritingCall memberCall shownIn copiedIn siteSetCall clearCall typeEntry memberGiven memberEntry trailer settings factoryBytes siteBytes memberStep block window
+unfolding load bytesOf store up withinLimit isRuntime endsInRuntime isOpen everywhere everyMember isScalarKind scalarKind both givenOr isPresent present widthOf vec3Align vectorSize vectorAlign startAfter endAfter memberStart memberEnd sizeOf alignOf membersAlign membersEnd strideOf ownStrideOf minSizeOf offsetsOf innerNumbersOf numbersOf withinLimits fitsLimit hasLayout isStored isPlain isStorable _>>=_ _>>_ refuse orRefuse trailerOf lengthBy typeEntryFrom typeEntryAt memberEntryFrom memberEntryAt sizeIsGiven alignIsGiven givenSize givenAlign restIsZero between checkTrailer memberEntryLength when andThen unused scalarOfKind scalarIn lower membersFrom scalarMade vectorMade matrixMade runtimeMade atomicMade structMade overMade typeMade typeOfEntry isMatrixScalar isAtomicScalar isLast countOf memberAllowed membersAllowed isAllowed atLeast givenSizeFits isMultiple givenAlignFits membersGivenFit givenFits judged typesBelow namesMember isNamed allNamed typesOf column tailAt membersTail tailOf extentBy extentOf elementsBy elementsIn shapeOf fieldsOf spanOf wordsOver wordsFor wordPlaces repeated storeWords canHold checkWords stepOf enter walk entryOf allowed isShort scalarAt setScalar setTarget bitAt withBit withoutBit isBlock blockEntry blockIn memberOf inheritingCall memberCall shownIn copiedIn siteSetCall clearCall typeEntry memberGiven memberEntry trailer settings factoryBytes siteBytes memberStep block window
 site-witnesses =
     let is : blockIn settings 3 5 factoryBytes siteBytes ≡ good block = refl in
     let held : IsBlock settings 3 5 factoryBytes siteBytes block = requests.block-is is in

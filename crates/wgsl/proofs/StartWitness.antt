@@ -15,7 +15,7 @@ use Rattle.wgsl.specs.Types.{u32, f16, Ty, scalar, vector, struct, no-mo
 use Rattle.wgsl.specs.Size.{both, givenOr, isPresent, present, widthOf, vec3Align, vectorSize, vectorAlign, startAfter, endAfter, memberStart, memberEnd, sizeOf, alignOf, membersAlign, membersEnd, strideOf, ownStrideOf, minSizeOf, offsetsOf, innerNumbersOf, numbersOf, withinLimits, fitsLimit, hasLayout, isStored, isPlain, isStorable}
 use Rattle.wgsl.specs.Said.{good, _>>=_, _>>_, refuse, orRefuse}
 use Rattle.wgsl.specs.File.{trailerOf, lengthBy, typeEntryFrom, typeEntryAt, memberEntryFrom, memberEntryAt, sizeIsGiven, alignIsGiven, givenSize, givenAlign, restIsZero, between, checkTrailer, memberEntryLength}
-use Rattle.wgsl.specs.Rule.{when, andThen, unused, scalarOfKind, scalarIn, lower, membersFrom, scalarMade, vectorMade, matrixMade, runtimeMade, atomicMade, structMade, overMade, typeMade, typeOfEntry, isMatrixScalar, isAtomicScalar, isLast, countOf, memberAllowed, membersAllowed, isAllowed, atLeast, givenSizeFits, isMultiple, givenAlignFits, membersGivenFit, givenFits, judged, typesBelow, typesOf}
+use Rattle.wgsl.specs.Rule.{when, andThen, unused, scalarOfKind, scalarIn, lower, membersFrom, scalarMade, vectorMade, matrixMade, runtimeMade, atomicMade, structMade, overMade, typeMade, typeOfEntry, isMatrixScalar, isAtomicScalar, isLast, countOf, memberAllowed, membersAllowed, isAllowed, atLeast, givenSizeFits, isMultiple, givenAlignFits, membersGivenFit, givenFits, judged, typesBelow, namesMember, isNamed, allNamed, typesOf}
 use Rattle.wgsl.specs.Place.{column, tailAt, membersTail, tailOf, extentBy, extentOf, elementsBy, elementsIn, shapeOf, fieldsOf, spanOf, wordsOver, wordsFor, wordPlaces, repeated, storeWords, canHold, checkWords}
 use Rattle.wgsl.specs.Path.{Target, stepOf, enter, walk}
 use Rattle.wgsl.specs.Call.{entryOf, allowed, isShort, scalarAt, setScalar, setTarget}
@@ -45,7 +45,7 @@ pub record StartWitnesses : Type 0 where
   pub inheriting-follows : shownBytes window (leftAfter settings 3 factoryBytes (clear 1 ∷ []) (madeInheriting siteBytes 0) .mask) 1 newSheet (leftAfter settings 3 factoryBytes (clear 1 ∷ []) (madeInheriting siteBytes 0) .site) ≡ bytesIn window newSheet
 
 pub start-witnesses : StartWitnesses
-unfolding load bytesOf store up withinLimit isRuntime endsInRuntime isOpen everywhere everyMember isScalarKind scalarKind both givenOr isPresent present widthOf vec3Align vectorSize vectorAlign startAfter endAfter memberStart memberEnd sizeOf alignOf membersAlign membersEnd strideOf ownStrideOf minSizeOf offsetsOf innerNumbersOf numbersOf withinLimits fitsLimit hasLayout isStored isPlain isStorable _>>=_ _>>_ refuse orRefuse trailerOf lengthBy typeEntryFrom typeEntryAt memberEntryFrom memberEntryAt sizeIsGiven alignIsGiven givenSize givenAlign restIsZero between checkTrailer memberEntryLength when andThen unused scalarOfKind scalarIn lower membersFrom scalarMade vectorMade matrixMade runtimeMade atomicMade structMade overMade typeMade typeOfEntry isMatrixScalar isAtomicScalar isLast countOf memberAllowed membersAllowed isAllowed atLeast givenSizeFits isMultiple givenAlignFits membersGivenFit givenFits judged typesBelow typesOf column tailAt membersTail tailOf extentBy extentOf elementsBy elementsIn shapeOf fieldsOf spanOf wordsOver wordsFor wordPlaces repeated storeWords canHold checkWords stepOf enter walk entryOf allowed isShort scalarAt setScalar setTarget bitAt isBlock blockEntry blockIn settingsOf everyBit copiedWhole inheritingCall freshCall memberOf isClear isSet neverClears neverSets leftAfter typeEntry memberGiven memberEntry trailer settings factoryBytes siteBytes newSheet block window changes fresh
+unfolding load bytesOf store up withinLimit isRuntime endsInRuntime isOpen everywhere everyMember isScalarKind scalarKind both givenOr isPresent present widthOf vec3Align vectorSize vectorAlign startAfter endAfter memberStart memberEnd sizeOf alignOf membersAlign membersEnd strideOf ownStrideOf minSizeOf offsetsOf innerNumbersOf numbersOf withinLimits fitsLimit hasLayout isStored isPlain isStorable _>>=_ _>>_ refuse orRefuse trailerOf lengthBy typeEntryFrom typeEntryAt memberEntryFrom memberEntryAt sizeIsGiven alignIsGiven givenSize givenAlign restIsZero between checkTrailer memberEntryLength when andThen unused scalarOfKind scalarIn lower membersFrom scalarMade vectorMade matrixMade runtimeMade atomicMade structMade overMade typeMade typeOfEntry isMatrixScalar isAtomicScalar isLast countOf memberAllowed membersAllowed isAllowed atLeast givenSizeFits isMultiple givenAlignFits membersGivenFit givenFits judged typesBelow namesMember isNamed allNamed typesOf column tailAt membersTail tailOf extentBy extentOf elementsBy elementsIn shapeOf fieldsOf spanOf wordsOver wordsFor wordPlaces repeated storeWords canHold checkWords stepOf enter walk entryOf allowed isShort scalarAt setScalar setTarget bitAt isBlock blockEntry blockIn settingsOf everyBit copiedWhole inheritingCall freshCall memberOf isClear isSet neverClears neverSets leftAfter typeEntry memberGiven memberEntry trailer settings factoryBytes siteBytes newSheet block window changes fresh
 start-witnesses =
     let made : freshCall settings 3 factoryBytes siteBytes ≡ good fresh = refl in
     let none : ShowAlike settings 3 factoryBytes block (madeFresh fresh) (madeInheriting siteBytes 0) = requests.starts-agree settings 3 factoryBytes siteBytes fresh made 0 refl siteBytes block refl [] .1 in

@@ -25,7 +25,7 @@ use Rattle.wgsl.specs.Claim.{Broken, no-type, not-allowed, not-given, to
 use Rattle.wgsl.proofs.Absent.{both-hold, hold-both, either-holds, true-not-false, yes-or-no, some-not-none, present-some}
 use Rattle.wgsl.proofs.Said.{good-not-refused, then-good, then-is, then-refused, next-good, then-cases, refuse-good, refuse-not, refuse-cases, orRefuse-good, orRefuse-refused}
 use Rattle.wgsl.proofs.Passed.{everywhere-here}
-use Rattle.wgsl.proofs.Accepted.{below-lowest, accepted, accepted-well-formed}
+use Rattle.wgsl.proofs.Accepted.{trailer-number, broken-number, refused-by, accepted, accepted-well-formed}
 use Rattle.wgsl.proofs.AtEntry.{getElem-low}
 use Rattle.wgsl.proofs.Tail.{sized-closed}
 use Rattle.wgsl.proofs.Reach.{reach-sound, reach-complete, reached-there}
@@ -228,26 +228,13 @@ uniform-good-if f e =
 
 -- ---- what 19 names
 
-trailer-number : (f : List ℕ) {number place : ℕ} → checkTrailer f ≡ refused number place → number ≤ 4
-unfolding checkTrailer
-trailer-number f {number} {place} h =
-    refuse-cases {s = refused number place} 1 0 _ _ h (λ t q. let n : number ≡ 1 = cc in omega arith) (λ t h2.
-    refuse-cases {s = refused number place} 2 0 _ _ h2 (λ t q. let n : number ≡ 2 = cc in omega arith) (λ t h3.
-    refuse-cases {s = refused number place} 3 0 _ _ h3 (λ t q. let n : number ≡ 3 = cc in omega arith) (λ t h4.
-    refuse-cases {s = refused number place} 4 0 _ _ h4 (λ t q. let n : number ≡ 4 = cc in omega arith) (λ t h5. good-not-refused refl h5))))
-
-broken-number : {f : List ℕ} {ts : List Ty} {k number : ℕ} → Broken f ts k number → number ≤ 7
-broken-number (no-type a) = omega arith
-broken-number (not-allowed t a b) = omega arith
-broken-number (not-given t a b c) = omega arith
-broken-number (too-large t a b c d) = omega arith
-
--- A file is refused with a number up to 7.
-types-number : (f : List ℕ) {number place : ℕ} → typesOf f ≡ refused number place → number ≤ 7
+-- A file is refused with a number up to 7, or with 24.
+types-number : (f : List ℕ) {number place : ℕ} → typesOf f ≡ refused number place → number ≡ 19 → ⊥
 unfolding typesOf
-types-number f h =
-    then-cases (checkTrailer f) _ h (λ q. omega (arith, trailer-number f q))
-    (λ x. broken-number (below-lowest f (x .value .types) (x .after) .broken))
+types-number f h is =
+    then-cases (checkTrailer f) _ h (λ q. absurd (omega (arith, is, trailer-number f q))) (λ x.
+    refused-by f (x .value) (x .after) (λ y. absurd (omega (arith, is, broken-number (y .broken))))
+    (λ ts below y. absurd (omega (arith, is, y .number-is))))
 
 -- Neither 9 nor 10 is 19.
 live-on : (a b : Bool) (rest : Said ℕ) {k : ℕ} → _>>_ (_>>_ (refuse 9 0 a) (refuse 10 0 b)) rest ≡ refused 19 k → rest ≡ refused 19 k
@@ -265,7 +252,7 @@ named (some j) h = cc
 pub uniform-names : (f : List ℕ) (e k : ℕ) → uniformCall f e ≡ refused 19 k → (ts : List Ty) × (typesOf f ≡ good ts) × LowestBroken f ts e k
 unfolding uniformCall mayLive
 uniform-names f e k h =
-    then-cases (typesOf f) _ h (λ q. absurd (omega (arith, types-number f q))) (λ x.
+    then-cases (typesOf f) _ h (λ q. absurd (types-number f q refl)) (λ x.
     then-cases (orRefuse 8 0 (getElem? (x .value) e)) _ (x .after)
     (λ q. let n : 19 ≡ 8 = orRefuse-refused 8 0 (getElem? (x .value) e) q .1 in absurd (omega arith)) (λ y.
     let a : Asked f (x .value) e (y .value) = record { good-file = x .first; there = orRefuse-good 8 0 _ (y .first) } in

@@ -12,10 +12,10 @@ use mathlib.Core.Option.{Option, none, some}
 use mathlib.Core.Path.{_≡_}
 use lib.ListN.{length, getD, getElem?, take, drop}
 use Rattle.wgsl.specs.Round.{up, limit}
-use Rattle.wgsl.specs.Types.{Scalar, bool, i32, u32, f32, f16, abstractInt, abstractFloat, i64, u64, f64, Ty, scalar, vector, matrix, array, runtime, atomic, struct, Members, no-more, member, isRuntime, isOpen, everywhere}
+use Rattle.wgsl.specs.Types.{Scalar, bool, i32, u32, f32, f16, abstractInt, abstractFloat, i64, u64, f64, Ty, scalar, vector, matrix, array, runtime, atomic, struct, Members, no-more, member, structKind, isRuntime, isOpen, everywhere}
 use Rattle.wgsl.specs.Size.{present, widthOf, sizeOf, alignOf, strideOf, ownStrideOf, fitsLimit, hasLayout, isStorable}
 use Rattle.wgsl.specs.Said.{Said, good, refused}
-use Rattle.wgsl.specs.File.{trailerOf}
+use Rattle.wgsl.specs.File.{trailerOf, typeEntryAt, checkTrailer}
 use Rattle.wgsl.specs.Rule.{typeOfEntry, isAllowed, givenFits, typesBelow, typesOf}
 use Rattle.wgsl.specs.Place.{extentOf, elementsIn, Shape, one, parts, field, shapeOf, Place, wordsOver, wordsFor, places, wordCount, wordsRead}
 use Rattle.wgsl.specs.Path as path
@@ -57,6 +57,32 @@ pub record Lowest (f : List ℕ) (n number place : ℕ) : Type 0 where
   pub types : List Ty
   pub good-below : typesBelow f place ≡ good types
   pub broken : Broken f types place number
+
+-- ---- members that nobody names (E12)
+
+-- a struct among the entries below n names member m: its entry, whether anything refers to it or not
+pub record NamedBy (f : List ℕ) (n m : ℕ) : Type 0 where
+  pub entry : ℕ
+  pub low : entry < n
+  pub is-struct : typeEntryAt f entry .kind ≡ structKind
+  pub from : typeEntryAt f entry .reference ≤ m
+  pub to : m < typeEntryAt f entry .reference + typeEntryAt f entry .count
+
+-- The member at `place` is the lowest of the file that no struct names, and nothing else is wrong with it.
+pub record Stray (f : List ℕ) (place : ℕ) : Type 0 where
+  pub types : List Ty
+  pub entries-good : typesBelow f (trailerOf f .types) ≡ good types
+  pub trailer-good : checkTrailer f ≡ good (trailerOf f)
+  pub there : place < trailerOf f .members
+  pub unnamed : NamedBy f (trailerOf f .types) place → ⊥
+  pub lowest : (m : ℕ) → m < place → NamedBy f (trailerOf f .types) m
+
+-- 1 to 7 pass, and a struct names every member
+pub record IsAccepted (f : List ℕ) : Type 0 where
+  pub types : List Ty
+  pub trailer-good : checkTrailer f ≡ good (trailerOf f)
+  pub entries-good : typesBelow f (trailerOf f .types) ≡ good types
+  pub named : (m : ℕ) → m < trailerOf f .members → NamedBy f (trailerOf f .types) m
 
 -- ---- strides
 

@@ -23,11 +23,10 @@ trailerAt t m start form = bytesOf 2 t ++ bytesOf 2 m ++ bytesOf 4 start ++ byte
 unfoldable pub namedMember : ℕ → ℕ → List ℕ
 namedMember type name = memberEntry type ++ bytesOf 4 name
 
--- u32, and a struct of two of them, behind five bytes that are not looked at
+-- u32, and a struct of three of them, behind five bytes that are not looked at
 unfoldable pub twoEntries : List ℕ
-twoEntries = 9 ∷ 8 ∷ 7 ∷ 6 ∷ 5 ∷ typeEntry 2 0 0 0 0 ++ typeEntry 12 0 0 0 2
+twoEntries = 9 ∷ 8 ∷ 7 ∷ 6 ∷ 5 ∷ typeEntry 2 0 0 0 0 ++ typeEntry 12 0 0 0 3
 
--- with three members, of which no struct names the last
 unfoldable pub plainFile : List ℕ
 plainFile = twoEntries ++ memberEntry 0 ++ memberEntry 0 ++ memberEntry 0 ++ trailerAt 2 3 5 1
 
@@ -78,8 +77,8 @@ formCases =
     ∷ says (checkOf plainAsNamed) (refused 4 0)
     ∷ says (checkOf namedAsPlain) (refused 4 0)
     -- "form 2 gives form 1's answers with names ignored"
-    ∷ leads plainFile 1 (0 ∷ 4 ∷ []) 8
-    ∷ leads (namedFile 7 8 9) 1 (0 ∷ 4 ∷ []) 8
+    ∷ leads plainFile 1 (0 ∷ 4 ∷ 8 ∷ []) 12
+    ∷ leads (namedFile 7 8 9) 1 (0 ∷ 4 ∷ 8 ∷ []) 12
     -- "A move from form 1 to form 2 sets names to 0 and keeps the bytes before S"; "later output bytes stay"
     ∷ fills (moveOnCall plainFile) 87 (namedFile 0 0 0) (1 ∷ 2 ∷ 3 ∷ [])
     ∷ fills (moveOnCall plainFile) 87 (namedFile 0 0 0) []
@@ -88,7 +87,7 @@ formCases =
     ∷ fills (moveBackCall (namedFile 0 0 0)) 75 plainFile (1 ∷ 2 ∷ 3 ∷ [])
     ∷ fills (moveBackCall (namedFile 0 0 0)) 75 plainFile []
     ∷ says (answerOf (moveBackCall (namedFile 0 0 0) (replicate 74 0))) (refused 15 0)
-    -- "exactly if all names of its M members are 0": the first, one whose low byte is 0, and the one that no struct names
+    -- "exactly if all names of its M members are 0": the first, one whose low byte is 0, and the last
     ∷ says (answerOf (moveBackCall (namedFile 1 0 0) (replicate 75 0))) (refused 20 0)
     ∷ says (answerOf (moveBackCall (namedFile 0 16_777_216 0) (replicate 75 0))) (refused 20 0)
     ∷ says (answerOf (moveBackCall (namedFile 0 0 1) (replicate 75 0))) (refused 20 0)

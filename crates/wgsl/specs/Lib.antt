@@ -33,6 +33,7 @@ pub mod WideCase
 pub mod FormCase
 pub mod SiteCase
 pub mod StartCase
+pub mod StrayCase
 pub mod CleanCase
 pub mod OrderCase
 pub mod Shapes

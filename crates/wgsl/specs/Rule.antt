@@ -1,7 +1,7 @@
--- The rules for entries, and the verdict on a file (01, "The layout file" and "Numbers that say no", refusals 5 to 7).
+-- The rules for entries, and the verdict on a file (01, "The layout file" and "Numbers that say no", refusals 5 to 7; 02, E12, 24).
 --
--- In order: what an entry's fields make, kind by kind; which types are allowed (5); given sizes and aligns (6); the types of a file's
--- entries, or the refusal of the lowest bad one.
+-- In order: what an entry's fields make, kind by kind; which types are allowed (5); given sizes and aligns (6); the types of the entries
+-- below one, or the refusal of the lowest bad one; members that nobody names (24); the types of a file's entries.
 -- Not here: the fields themselves (`File`), the limit (`Size`, refusal 7).
 -- Definitions only. Assumes nothing.
 use Prim.Native.Nat.{ℕ, zero, suc, _+_, _-_, _%_}
@@ -225,8 +225,30 @@ typesBelow f (suc n) = do
   t ← judged f ts n
   good (ts ++ (t ∷ []))
 
--- "Every call gives 1 to 4 in that order, then the lowest bad entry": the types of a file's entries
+-- ---- members that nobody names (02, E12)
+
+-- a struct's entry names as many members as its count, from its reference on
+unfoldable pub namesMember : TypeEntry → ℕ → Bool
+namesMember e m = eqb (e .kind) structKind && leb (e .reference) m && ltb m (e .reference + e .count)
+
+-- "named by at least one struct", of the entries below n, whether it is used or not
+unfoldable pub isNamed : List ℕ → ℕ → ℕ → Bool
+isNamed f zero m = false
+isNamed f (suc n) m = isNamed f n m || namesMember (typeEntryAt f n) m
+
+-- "24, place the lowest such member": of the m lowest, in a table of n entries
+unfoldable pub allNamed : List ℕ → ℕ → ℕ → Said (Unit {0})
+allNamed f n zero = good tt
+allNamed f n (suc m) = do
+  allNamed f n m
+  refuse 24 m (not (isNamed f n m))
+
+-- ---- the types of a file's entries
+
+-- "Every call gives 1 to 4 in that order, then the lowest bad entry"; E12: 24 "after all entries have passed 5 to 7"
 unfoldable pub typesOf : List ℕ → Said (List Ty)
 typesOf f = do
   r ← checkTrailer f
-  typesBelow f (r .types)
+  ts ← typesBelow f (r .types)
+  allNamed f (r .types) (r .members)
+  good ts
