@@ -24,10 +24,11 @@
  *     12 struct             reference to the first member, count of members, 1 to 1,024; a runtime array may be the last
  *     kinds 13 to 15        i64, u64, f64: 8 bytes, aligned to 8
  *
- * Types and members are numbered from 0. A type refers, itself or by its members, to types of lower numbers. Flag 1 of a member says that
- * a size is given, flag 2 an align. What is not used is 0. examples/layout_file.h writes such a file as an initializer in C. A vector of
- * three i64, u64 or f64 has 24 bytes and no alignment: no struct and no runtime array holds one, and it is not written, read or viewed.
- * Both forms get the same answers: a member's name is a number for tools, and no call but lepugaso_to_form_1 looks at it.
+ * Types and members are numbered from 0. A type refers, itself or by its members, to types of lower numbers. Every member belongs to a
+ * struct, or to several, be these used or not. Flag 1 of a member says that a size is given, flag 2 an align. What is not used is 0.
+ * examples/layout_file.h writes such a file as an initializer in C. A vector of three i64, u64 or f64 has 24 bytes and no alignment: no
+ * struct and no runtime array holds one, and it is not written, read or viewed. Both forms get the same answers: a member's name is a
+ * number for tools, and no call but lepugaso_to_form_1 looks at it.
  *
  * What is written to a buffer and read from it are words: a uint32_t for each scalar of a type, in order of offset, and two for an i64, u64
  * or f64, its low 32 bits first. An i32 or i64 is its two's complement, an f32 or f64 its bits, an f16 its bits, 0 to 65,535; an atomic is
@@ -92,6 +93,10 @@ typedef struct lepugaso_layout {
 #define LEPUGASO_REFUSED_GIVEN 6u     /* a member's given size or align does not suit its type */
 #define LEPUGASO_REFUSED_TOO_LARGE 7u /* a size, offset or other number is above 4,294,967,295 */
 
+/* All entries of the file are good, and a member belongs to no struct: place is the lowest such member. Every call that takes a file gives
+ * this, after 1 to 7 and before any number below. Before there was this number such a file was accepted. */
+#define LEPUGASO_REFUSED_STRAY_MEMBER 24u /* a member that no struct names, be it used or not */
+
 /* What was asked cannot be answered. Each call below says which of these it gives, and in which order. The place of 11 to 13 is the first
  * bad step of the path, counted from 0. */
 #define LEPUGASO_REFUSED_ENTRY 8u         /* no entry has this number */
@@ -110,28 +115,28 @@ typedef struct lepugaso_layout {
 #define LEPUGASO_REFUSED_NO_SITE 21u      /* no struct of fixed size and at most 64 members, or mask bits beyond them */
 #define LEPUGASO_REFUSED_ORDER 23u        /* an order of members that is not accepted: not every one once, or no smaller end */
 
-/* How many entries the file has. Refuses 1 to 7. */
+/* How many entries the file has. Refuses 1 to 7, 24. */
 lepugaso_answer lepugaso_check(const uint8_t *file, size_t file_len);
 
-/* The size in bytes of entry `entry`. Refuses 1 to 7, then 8, then 9: a type that has no size. */
+/* The size in bytes of entry `entry`. Refuses 1 to 7, 24, then 8, then 9: a type that has no size. */
 lepugaso_answer lepugaso_size(const uint8_t *file, size_t file_len, uint32_t entry);
 
-/* The alignment in bytes of entry `entry`. Refuses 1 to 7, then 8, then 9: a type that has no alignment. */
+/* The alignment in bytes of entry `entry`. Refuses 1 to 7, 24, then 8, then 9: a type that has no alignment. */
 lepugaso_answer lepugaso_align(const uint8_t *file, size_t file_len, uint32_t entry);
 
-/* The least size of a buffer for entry `entry`: of a runtime array one stride, of any other type its size. Refuses 1 to 7, then 8, then
+/* The least size of a buffer for entry `entry`: of a runtime array one stride, of any other type its size. Refuses 1 to 7, 24, then 8, then
  * 9: a type that has neither, as a struct that ends in a runtime array. */
 lepugaso_answer lepugaso_min_size(const uint8_t *file, size_t file_len, uint32_t entry);
 
 /* All four numbers of entry `entry` into `out`, LEPUGASO_ABSENT for each that it has not: a struct that ends in a runtime array has an
- * alignment alone. The value is 0. Refuses 1 to 7, then 8, and leaves `out` as it was. */
+ * alignment alone. The value is 0. Refuses 1 to 7, 24, then 8, and leaves `out` as it was. */
 lepugaso_answer lepugaso_layout_of(const uint8_t *file, size_t file_len, uint32_t entry, lepugaso_layout *out);
 
 /* How far WGSL's automatic conversion from entry `from` to entry `to` is: 0 for the same type, else 1 to 7; of two ranks the lower is
- * preferred. Refuses 1 to 7, then 8 (either number), then 18: there is no such conversion. */
+ * preferred. Refuses 1 to 7, 24, then 8 (either number), then 18: there is no such conversion. */
 lepugaso_answer lepugaso_rank(const uint8_t *file, size_t file_len, uint32_t from, uint32_t to);
 
-/* The type that all entries of a list convert to, as one of their numbers; of equal types the later. Refuses 1 to 7, then 8 (any of the
+/* The type that all entries of a list convert to, as one of their numbers; of equal types the later. Refuses 1 to 7, 24, then 8 (any of the
  * numbers), then 18: there is no such type, or the list is empty. */
 lepugaso_answer lepugaso_common(const uint8_t *file, size_t file_len, const uint32_t *entries, size_t entries_len);
 
@@ -139,7 +144,7 @@ lepugaso_answer lepugaso_common(const uint8_t *file, size_t file_len, const uint
  * scalar become 0, later bytes of `buf` stay. There are exactly as many words as the type has. An open type, which is a runtime array or a
  * struct that ends in one, takes the words before its array and those of one element or more, and fills up to where the next element
  * would begin.
- * Refuses 1 to 7, then 8, 17 (the buffer is above 4,294,967,295 bytes), 9 (the type has no layout), 10 (it holds a bool), 14 (it has
+ * Refuses 1 to 7, 24, then 8, 17 (the buffer is above 4,294,967,295 bytes), 9 (the type has no layout), 10 (it holds a bool), 14 (it has
  * another number of words), 15 (the buffer is below what is to be filled), 16 (a word above 65,535 for an f16; place is the lowest such
  * word), and leaves `buf` as it was. */
 lepugaso_answer lepugaso_write(const uint8_t *file, size_t file_len, uint32_t entry, const uint32_t *words, size_t words_len, uint8_t *buf,
@@ -147,8 +152,8 @@ lepugaso_answer lepugaso_write(const uint8_t *file, size_t file_len, uint32_t en
 
 /* Reads entry `entry` from the front of `buf` into the front of `words`. The value is how many words that filled: as many as the type has.
  * Later bytes of `buf` are not looked at, later words stay. Of an open type it reads as many elements as `buf` has whole, the room up to
- * where the next would begin included. Refuses 1 to 7, then 8, 17, 9, 10 as writing does, 15 (the buffer is below the size, or has no whole
- * element), 14 (there are fewer words than that), and leaves `words` as they were. */
+ * where the next would begin included. Refuses 1 to 7, 24, then 8, 17, 9, 10 as writing does, 15 (the buffer is below the size, or has no
+ * whole element), 14 (there are fewer words than that), and leaves `words` as they were. */
 lepugaso_answer lepugaso_read(const uint8_t *file, size_t file_len, uint32_t entry, const uint8_t *buf, size_t buf_len, uint32_t *words,
                               size_t words_len);
 
@@ -156,8 +161,8 @@ lepugaso_answer lepugaso_read(const uint8_t *file, size_t file_len, uint32_t ent
  * many bytes it has, gaps included; nothing is copied. The value is its offset, so that `buf + value` is the same place. It has the bytes
  * of its type's size, whatever size a member gives; a matrix's column has those of its scalars; what is open runs to the end of its last
  * element, of which `buf` has as many as are whole. A type that holds a bool is viewed as any other.
- * Refuses 1 to 7, then 8, 17 (the buffer is above 4,294,967,295 bytes), 9 (the type has no layout), 15 (the buffer is below the size, or
- * has no whole element), then 11, 12 or 13 (the first bad step; place is its number). When refused, `*part` is `buf`, null too, and
+ * Refuses 1 to 7, 24, then 8, 17 (the buffer is above 4,294,967,295 bytes), 9 (the type has no layout), 15 (the buffer is below the size,
+ * or has no whole element), then 11, 12 or 13 (the first bad step; place is its number). When refused, `*part` is `buf`, null too, and
  * `*part_len` is 0; at LEPUGASO_BAD_POINTER both stay as they were. */
 lepugaso_answer lepugaso_view(const uint8_t *file, size_t file_len, uint32_t entry, const uint32_t *path, size_t path_len,
                               const uint8_t *buf, size_t buf_len, const uint8_t **part, size_t *part_len);
@@ -166,8 +171,9 @@ lepugaso_answer lepugaso_view(const uint8_t *file, size_t file_len, uint32_t ent
  * or f64 two, the low one first. The value is its offset. Every other byte of `buf` stays, those of gaps too. Before there were kinds 13 to
  * 15 the call took one word by value, where it takes the list now, so that a program which was written for the older header has to be
  * changed.
- * Refuses 1 to 7, then 8, 17, 9 as viewing does, 10 (the type holds a bool), 15, 11 to 13 as viewing does, 14 (the path leads to no single
- * scalar, or that scalar has another number of words), 16 (the word is above 65,535 for an f16; place is 0), and leaves `buf` as it was. */
+ * Refuses 1 to 7, 24, then 8, 17, 9 as viewing does, 10 (the type holds a bool), 15, 11 to 13 as viewing does, 14 (the path leads to no
+ * single scalar, or that scalar has another number of words), 16 (the word is above 65,535 for an f16; place is 0), and leaves `buf` as it
+ * was. */
 lepugaso_answer lepugaso_set(const uint8_t *file, size_t file_len, uint32_t entry, const uint32_t *path, size_t path_len,
                              const uint32_t *words, size_t words_len, uint8_t *buf, size_t buf_len);
 
@@ -186,8 +192,8 @@ uint32_t lepugaso_insert_bits_u32(uint32_t e, uint32_t newbits, uint32_t offset,
 
 /* The field of the one i32 or u32, or atomic of one, that `path` leads to from entry `entry` at the front of `buf`. Whether it is signed is
  * said by that type, not by the caller. The value is the field in 32 bits, of an i32 its two's complement: -1 is 4,294,967,295, and
- * `(int32_t)(uint32_t)value` is the number.
- * Refuses 1 to 7, then 8, 17, 9, 10, 15, 11 to 13 as setting does, 14 (the path leads to no single scalar, or to one of another type). */
+ * `(int32_t)(uint32_t)value` is the number. Refuses 1 to 7, 24, then 8, 17, 9, 10, 15, 11 to 13 as setting does, 14 (the path leads to no
+ * single scalar, or to one of another type). */
 lepugaso_answer lepugaso_extract_bits(const uint8_t *file, size_t file_len, uint32_t entry, const uint32_t *path, size_t path_len,
                                       const uint8_t *buf, size_t buf_len, uint32_t offset, uint32_t count);
 
@@ -201,21 +207,20 @@ lepugaso_answer lepugaso_insert_bits(const uint8_t *file, size_t file_len, uint3
  * a member that is a struct or an array starts at a multiple of 16, and what comes after a struct starts no earlier than that struct's
  * size, rounded up to 16, after its start, whatever size its member gives. A given size or align mends a struct; an array needs elements
  * that take a multiple of 16 bytes, as vec4<f32> does.
- * Refuses 1 to 7, then 8, 9 (the type has no layout, or is open), 10 (it holds a bool), 19: place is the lowest entry at fault, of the one
- * asked for and all that it is made of. That is an atomic, an array whose stride is no multiple of 16, or a struct in which a member stands
- * wrong, and not the type of that member. */
+ * Refuses 1 to 7, 24, then 8, 9 (the type has no layout, or is open), 10 (it holds a bool), 19: place is the lowest entry at fault, of the
+ * one asked for and all that it is made of. That is an atomic, an array whose stride is no multiple of 16, or a struct in which a member
+ * stands wrong, and not the type of that member. */
 lepugaso_answer lepugaso_uniform(const uint8_t *file, size_t file_len, uint32_t entry);
 
 /* Writes a form 1 file as a form 2 file without names to the front of `out`. The value is the length of that: 4 bytes more for each member,
  * and so at most 4,096 more than `file_len`. It may be above 32 bits, and so may `out_len`. Bytes before `start` and the types are as they
  * were; later bytes of `out` stay. No byte of `out` may be one of the file's, not even one that would stay: a file is not moved in place.
- * Refuses 1, 2 (the form is not 1), 3 to 7, then 15 (`out` is below the new length), and leaves `out` as it was. */
+ * Refuses 1, 2 (the form is not 1), 3 to 7, 24, then 15 (`out` is below the new length), and leaves `out` as it was. */
 lepugaso_answer lepugaso_to_form_2(const uint8_t *file, size_t file_len, uint8_t *out, size_t out_len);
 
 /* Writes a form 2 file without names as a form 1 file to the front of `out`, in the same way: lepugaso_to_form_2 undone. The value is its
- * length, 4 bytes less for each member. A name that is not 0 would be lost, so that such a file is refused, whether a struct has that
- * member or none.
- * Refuses 1, 2 (the form is not 2), 3 to 7, then 20 (a member has a name), 15 (`out` is below the new length), and leaves `out` as it
+ * length, 4 bytes less for each member. A name that is not 0 would be lost, so that such a file is refused.
+ * Refuses 1, 2 (the form is not 2), 3 to 7, 24, then 20 (a member has a name), 15 (`out` is below the new length), and leaves `out` as it
  * was. */
 lepugaso_answer lepugaso_to_form_1(const uint8_t *file, size_t file_len, uint8_t *out, size_t out_len);
 
@@ -233,18 +238,18 @@ lepugaso_answer lepugaso_to_form_1(const uint8_t *file, size_t file_len, uint8_t
  * `factory`, nor with anything else.
  * Before there were two starts the call took the file, the entry and the mask alone, and made the mask 0, so that a program which was
  * written for the older header has to be changed: one that wants the empty mask calls lepugaso_site_inheriting, with those arguments.
- * Refuses 1 to 7, then 8, 17 (a buffer is above 4,294,967,295 bytes), 9 (the type has no layout), 10 (it holds a bool), 21 (it is no
+ * Refuses 1 to 7, 24, then 8, 17 (a buffer is above 4,294,967,295 bytes), 9 (the type has no layout), 10 (it holds a bool), 21 (it is no
  * struct, is open, or has more than 64 members), 15 (a buffer is below the size), and leaves `site` and `*mask` as they were. */
 lepugaso_answer lepugaso_site_fresh(const uint8_t *file, size_t file_len, uint32_t entry, const uint8_t *factory, size_t factory_len,
                                     uint8_t *site, size_t site_len, uint64_t *mask);
 
 /* The mask of an inheriting block, 0, into `*mask`: every member is the factory's. The value is 0. What `*mask` held is not looked at, and
- * no buffer is. Refuses 1 to 7, then 8, 9, 10, 21 as for a fresh block, and leaves `*mask` as it was. */
+ * no buffer is. Refuses 1 to 7, 24, then 8, 9, 10, 21 as for a fresh block, and leaves `*mask` as it was. */
 lepugaso_answer lepugaso_site_inheriting(const uint8_t *file, size_t file_len, uint32_t entry, uint64_t *mask);
 
 /* What shows `member`, as that part of `site` or of `factory`: `*part` is where it begins and `*part_len` how many bytes it has; nothing is
  * copied. The value is its offset in that buffer, and in the other too. The buffers may overlap in any way.
- * Refuses 1 to 7, then 8, 17 (a buffer is above 4,294,967,295 bytes), 9, 10, 21 (as for a fresh block, or the mask has bits beyond the
+ * Refuses 1 to 7, 24, then 8, 17 (a buffer is above 4,294,967,295 bytes), 9, 10, 21 (as for a fresh block, or the mask has bits beyond the
  * members), 15 (a buffer is below the size), 11 (there is no such member; place is 0). When refused, `*part` is `factory`, null too, and
  * `*part_len` is 0; at LEPUGASO_BAD_POINTER both stay as they were. */
 lepugaso_answer lepugaso_site_member(const uint8_t *file, size_t file_len, uint32_t entry, uint32_t member, uint64_t mask,
@@ -261,8 +266,8 @@ lepugaso_answer lepugaso_site_set(const uint8_t *file, size_t file_len, uint32_t
                                   size_t path_len, const uint32_t *words, size_t words_len, const uint8_t *factory, size_t factory_len,
                                   uint8_t *site, size_t site_len, uint64_t *mask);
 
-/* Drops the bit of `member`, which shows the factory's bytes again; no byte moves. The value is 0. Refuses 1 to 7, then 8, 9, 10, 21, 11 as
- * asking for a member does, and leaves `*mask` as it was. */
+/* Drops the bit of `member`, which shows the factory's bytes again; no byte moves. The value is 0. Refuses 1 to 7, 24, then 8, 9, 10, 21,
+ * 11 as asking for a member does, and leaves `*mask` as it was. */
 lepugaso_answer lepugaso_site_clear(const uint8_t *file, size_t file_len, uint32_t entry, uint32_t member, uint64_t *mask);
 
 /* Makes 0 every byte of entry `entry` at the front of `buf` that holds no scalar: after a vec3<f32> in an array, after a matrix's column of
@@ -270,8 +275,8 @@ lepugaso_answer lepugaso_site_clear(const uint8_t *file, size_t file_len, uint32
  * not count. `*first` is the offset of the first that did. If none did, it is how many bytes the entry has in `buf`: its size, or of an
  * open type up to where the next element would begin after the last that `buf` has whole. Later bytes of `buf` stay, and all words read as
  * before: cleaned, two entries of the same words have the same bytes, and cleaning again changes 0.
- * Refuses 1 to 7, then 8, 17 (the buffer is above 4,294,967,295 bytes), 9 (the type has no layout), 10 (it holds a bool), 15 (the buffer is
- * below the size, or has no whole element), and leaves `buf` and `*first` as they were.
+ * Refuses 1 to 7, 24, then 8, 17 (the buffer is above 4,294,967,295 bytes), 9 (the type has no layout), 10 (it holds a bool), 15 (the
+ * buffer is below the size, or has no whole element), and leaves `buf` and `*first` as they were.
  * A struct {u32, vec3<f32>, f32} has 12 such bytes, from 4 on: if none is 0, the value is 12 and `*first` 4; again, they are 0 and 32. */
 lepugaso_answer lepugaso_clean(const uint8_t *file, size_t file_len, uint32_t entry, uint8_t *buf, size_t buf_len, uint64_t *first);
 
@@ -280,14 +285,14 @@ lepugaso_answer lepugaso_clean(const uint8_t *file, size_t file_len, uint32_t en
  * is how many there are; later places of `order` stay. It promises that order and not a gain: lepugaso_check_order tells whether there is
  * one. A struct {u32, vec4<f32>, u32} has 48 bytes; it is offered 1, 0, 2, and would have 32. A struct {vec3<f32>, f32, vec3<f32>, f32} has
  * 32, each f32 in the room behind a vec3<f32>; it is offered 0, 2, 1, 3, and would have 48: of that lepugaso_check_order gives 23.
- * Refuses 1 to 7, then 8, 9 (the type is no struct), 14 (the list is shorter than the members), and leaves `order` as it was. */
+ * Refuses 1 to 7, 24, then 8, 9 (the type is no struct), 14 (the list is shorter than the members), and leaves `order` as it was. */
 lepugaso_answer lepugaso_plan_order(const uint8_t *file, size_t file_len, uint32_t entry, uint32_t *order, size_t order_len);
 
 /* Whether the members of entry `entry`, a struct, may stand in `order`, from whomever it comes: their positions, one after the other. It is
  * accepted if every one of them is there once, a runtime array is still last, no number is above 4,294,967,295, and the end is smaller than
  * it is now. The value is the new end: the size of the struct, or of an open one where its runtime array starts. A given size or align goes
  * with its member, and a struct may hold a bool. The file stays: one with its members in that order is the caller's to write.
- * Refuses 1 to 7, then 8, 9 (the type is no struct), 23: any other order, of whatever length. */
+ * Refuses 1 to 7, 24, then 8, 9 (the type is no struct), 23: any other order, of whatever length. */
 lepugaso_answer lepugaso_check_order(const uint8_t *file, size_t file_len, uint32_t entry, const uint32_t *order, size_t order_len);
 
 #ifdef __cplusplus

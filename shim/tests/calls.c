@@ -1,7 +1,8 @@
 /* Every call on a good file, and every refusal of documents 01 and 02 that it can give; bit fields are in fields.c, the two forms of a
- * file and the moves between them in forms.c, site blocks in site.c, cleaning in clean.c, orders in orders.c. What is lent stands at the
- * end of a page after which nothing can be touched, and what is lent to be read cannot be written. */
+ * file and the moves between them in forms.c, site blocks in site.c, cleaning in clean.c, orders in orders.c, members of no struct in
+ * strays.c. What is lent stands at the end of a page after which nothing can be touched, and what is lent to be read cannot be written. */
 #include "pages.h"
+#include "refused.h"
 #include "test.h"
 
 static const uint8_t good[] = {
@@ -21,8 +22,9 @@ static const uint8_t good[] = {
     TRAILER(12, 4),
 };
 
-#define BAD(refusal, place, ...) {refusal, place, sizeof((const uint8_t[]){__VA_ARGS__}), (const uint8_t[]){__VA_ARGS__}}
+#define BAD(refusal, place, ...) {__LINE__, refusal, place, sizeof((const uint8_t[]){__VA_ARGS__}), (const uint8_t[]){__VA_ARGS__}}
 static const struct {
+    int line;
     uint32_t refusal, place;
     size_t length;
     const uint8_t *bytes;
@@ -50,57 +52,19 @@ static const struct {
     BAD(LEPUGASO_REFUSED_GIVEN, 1, I64, STRUCT(0, 1), MEMBER_SIZE(0, 7), TRAILER(2, 1)),
     BAD(LEPUGASO_REFUSED_GIVEN, 1, I64, STRUCT(0, 1), MEMBER_ALIGN(0, 4), TRAILER(2, 1)),
     BAD(LEPUGASO_REFUSED_TOO_LARGE, 1, I64, ARRAY(0, 536870912u), TRAILER(2, 0)),
+    /* E12: a member of no struct, in either form, and beside a bad entry; more of them are in strays.c. */
+    BAD(LEPUGASO_REFUSED_STRAY_MEMBER, 0, U32, MEMBER(0), TRAILER(1, 1)),
+    BAD(LEPUGASO_REFUSED_STRAY_MEMBER, 1, U32, STRUCT(0, 1), MEMBER(0), MEMBER(0), TRAILER(2, 2)),
+    BAD(LEPUGASO_REFUSED_STRAY_MEMBER, 1, U32, STRUCT(0, 1), NAMED(0, MEMBER(0)), NAMED(7, MEMBER(0)), TRAILER_2(2, 2)),
+    BAD(LEPUGASO_REFUSED_RULE, 2, U32, STRUCT(1, 1), VECTOR(5, 0), MEMBER(0), MEMBER(0), TRAILER(3, 2)),
 };
 
-/* A refused file is refused by every call alike, but for the move from form 2, which none of these has. */
+/* A refused file is refused by every call alike, for an entry that it may have and for one that it has not. */
 static void refused_files(void) {
-    static const uint32_t list[] = {0};
-    static const uint8_t bytes[] = {1, 2, 3, 4};
     for (size_t k = 0; k < sizeof bad_files / sizeof bad_files[0]; k++) {
-        uint32_t refusal = bad_files[k].refusal, place = bad_files[k].place;
-        size_t length = bad_files[k].length;
-        const uint8_t *file = lent(bad_files[k].bytes, length);
-        lepugaso_layout out = {1, 2, 3, 4};
-        uint32_t word = 5;
-        uint8_t buf[] = {6, 7, 8, 9};
-        EXPECT(lepugaso_check(file, length), refusal, place, 0);
-        EXPECT(lepugaso_size(file, length, 0), refusal, place, 0);
-        EXPECT(lepugaso_align(file, length, 0), refusal, place, 0);
-        EXPECT(lepugaso_min_size(file, length, 0), refusal, place, 0);
-        EXPECT(lepugaso_layout_of(file, length, 0, &out), refusal, place, 0);
-        HOLDS(out.size == 1 && out.align == 2 && out.min_size == 3 && out.stride == 4);
-        EXPECT(lepugaso_rank(file, length, 0, 0), refusal, place, 0);
-        EXPECT(lepugaso_common(file, length, list, 1), refusal, place, 0);
-        EXPECT(lepugaso_write(file, length, 0, list, 1, buf, sizeof buf), refusal, place, 0);
-        HOLDS(buf[0] == 6 && buf[1] == 7 && buf[2] == 8 && buf[3] == 9);
-        EXPECT(lepugaso_read(file, length, 0, bytes, sizeof bytes, &word, 1), refusal, place, 0);
-        HOLDS(word == 5);
-        const uint8_t *part = NULL;
-        size_t part_len = 5;
-        EXPECT(lepugaso_view(file, length, 0, NULL, 0, bytes, sizeof bytes, &part, &part_len), refusal, place, 0);
-        HOLDS(part == bytes && part_len == 0);
-        part_len = 5;
-        EXPECT(lepugaso_site_member(file, length, 0, 0, 5, bytes, sizeof bytes, buf, sizeof buf, &part, &part_len), refusal, place, 0);
-        HOLDS(part == bytes && part_len == 0);
-        uint64_t mask = 5;
-        EXPECT(lepugaso_site_fresh(file, length, 0, bytes, sizeof bytes, buf, sizeof buf, &mask), refusal, place, 0);
-        EXPECT(lepugaso_site_inheriting(file, length, 0, &mask), refusal, place, 0);
-        EXPECT(lepugaso_site_set(file, length, 0, 0, NULL, 0, list, 1, bytes, sizeof bytes, buf, sizeof buf, &mask), refusal, place, 0);
-        EXPECT(lepugaso_site_clear(file, length, 0, 0, &mask), refusal, place, 0);
-        HOLDS(mask == 5);
-        uint64_t first = 5;
-        EXPECT(lepugaso_clean(file, length, 0, buf, sizeof buf, &first), refusal, place, 0);
-        HOLDS(first == 5);
-        EXPECT(lepugaso_plan_order(file, length, 0, &word, 1), refusal, place, 0);
-        HOLDS(word == 5);
-        EXPECT(lepugaso_check_order(file, length, 0, list, 1), refusal, place, 0);
-        EXPECT(lepugaso_set(file, length, 0, NULL, 0, list, 1, buf, sizeof buf), refusal, place, 0);
-        EXPECT(lepugaso_extract_bits(file, length, 0, NULL, 0, bytes, sizeof bytes, 0, 12), refusal, place, 0);
-        EXPECT(lepugaso_insert_bits(file, length, 0, NULL, 0, 1, 0, 12, buf, sizeof buf), refusal, place, 0);
-        EXPECT(lepugaso_uniform(file, length, 0), refusal, place, 0);
-        EXPECT(lepugaso_to_form_2(file, length, buf, sizeof buf), refusal, place, 0);
-        EXPECT(lepugaso_to_form_1(file, length, buf, sizeof buf), length < 10 ? LEPUGASO_REFUSED_SHORT_FILE : LEPUGASO_REFUSED_FORM, 0, 0);
-        HOLDS(buf[0] == 6 && buf[1] == 7 && buf[2] == 8 && buf[3] == 9);
+        const uint8_t *file = lent(bad_files[k].bytes, bad_files[k].length);
+        refused_by_all(__FILE__, bad_files[k].line, file, bad_files[k].length, 0, bad_files[k].refusal, bad_files[k].place);
+        refused_by_all(__FILE__, bad_files[k].line, file, bad_files[k].length, UINT32_MAX, bad_files[k].refusal, bad_files[k].place);
     }
 }
 

@@ -461,7 +461,7 @@ static void any_layout(void) {
     }
 }
 
-/* ---- refusals; 1 to 7 are in calls.c, 17 in large.c, 15 above */
+/* ---- refusals; 1 to 7 are in calls.c, 24 in strays.c, 17 in large.c, 15 above */
 
 static void refusals(void) {
     static const uint32_t absent[] = {5, 47, 48}, bools[] = {4, 44, 45, 46};

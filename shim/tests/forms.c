@@ -8,17 +8,15 @@
 /* A bool, i32, u32, f32, f16, abstract int and i64; a vec3<f32>; 8 is a struct of members 0 to 4, which stand at 0, 32, 48, 68 and 72 of 96
  * bytes; 9 a runtime array of it; 10 an open struct of members 5 and 6; 11 an array of f32; 12 a struct of two f32; 13 one of f32 and that,
  * which may not stand at 4 in a uniform buffer; 14 a struct of f16 and bool; 15 an atomic. */
-enum { ENTRIES = 16, MEMBERS = 14 };
+enum { ENTRIES = 16, MEMBERS = 13 };
 #define TYPES                                                                                                                           \
     BOOL, I32, U32, F32, F16, ABSTRACT_INT, I64, VECTOR(3, 3), STRUCT(0, 5), RUNTIME_ARRAY(8), STRUCT(5, 2), ARRAY(3, 4), STRUCT(7, 2), \
         STRUCT(9, 2), STRUCT(11, 2), ATOMIC(2)
 
-/* No struct has the last member, so that its fields are not looked at. */
 #define MEMBER_ENTRIES(NAME)                                                                                               \
     NAME(1, MEMBER(2)), NAME(2, MEMBER_ALIGN(7, 32)), NAME(2, LE16(3), LE16(3), LE32(20), LE32(16)), NAME(0, MEMBER(4)),   \
         NAME(UINT32_MAX, MEMBER(1)), NAME(7, MEMBER(6)), NAME(8, MEMBER(9)), NAME(1 << 24, MEMBER(3)), NAME(9, MEMBER(3)), \
-        NAME(256, MEMBER(3)), NAME(0x30201, MEMBER_SIZE(12, 8)), NAME(0, MEMBER(4)), NAME(65536, MEMBER(0)),               \
-        NAME(5, LE32(UINT32_MAX), LE32(0xFEDCBA98), LE32(0x76543210))
+        NAME(256, MEMBER(3)), NAME(0x30201, MEMBER_SIZE(12, 8)), NAME(0, MEMBER(4)), NAME(65536, MEMBER(0))
 
 /* One table as a form 1 file, as a form 2 file with names, and as one without. */
 #define NO_NAME(name, ...) __VA_ARGS__
@@ -299,16 +297,16 @@ static void there_and_back(struct file one, struct file two) {
 static const uint8_t no_members_1[] = {U32, VECTOR(2, 0), TRAILER(2, 0)};
 static const uint8_t no_members_2[] = {U32, VECTOR(2, 0), TRAILER_2(2, 0)};
 
-/* Bytes before the types, which are moved as they are, be they a file; and a member of no type, which no struct has. */
+/* Bytes before the types, which are moved as they are, be they a file; and two structs, of which the later has the first member. */
 static const uint8_t later_1[] = {
     U32, TRAILER(1, 0), 255, 1, 2,
-    U32, STRUCT(1, 1), MEMBER(7), MEMBER_ALIGN(0, 16),
-    LE16(2), LE16(2), LE32(25), LE16(1),
+    U32, STRUCT(1, 1), STRUCT(0, 1), MEMBER_SIZE(1, 20), MEMBER_ALIGN(0, 16),
+    LE16(3), LE16(2), LE32(25), LE16(1),
 };
 static const uint8_t later_2[] = {
     U32, TRAILER(1, 0), 255, 1, 2,
-    U32, STRUCT(1, 1), NAMED(0, MEMBER(7)), NAMED(0, MEMBER_ALIGN(0, 16)),
-    LE16(2), LE16(2), LE32(25), LE16(2),
+    U32, STRUCT(1, 1), STRUCT(0, 1), NAMED(0, MEMBER_SIZE(1, 20)), NAMED(0, MEMBER_ALIGN(0, 16)),
+    LE16(3), LE16(2), LE32(25), LE16(2),
 };
 
 static void moved_files(void) {
@@ -340,7 +338,7 @@ static void most_members(void) {
     MOVE_REFUSED(lepugaso_to_form_1, last_named, 0, LEPUGASO_REFUSED_NAMED, 0);
 }
 
-/* One name, of each member in turn, that of the last too, which no struct has: refused, before the room is looked at. */
+/* One name, of each member in turn: refused, before the room is looked at. */
 static void one_name(void) {
     static const uint32_t names[] = {1, 1 << 8, 1 << 16, 1 << 24, UINT32_C(1) << 31, UINT32_MAX};
     for (size_t member = 0; member < MEMBERS; member++) {
@@ -382,7 +380,7 @@ static const struct {
     /* Four members of form 1 are as long as three of form 2. */
     BAD(2, LEPUGASO_REFUSED_LENGTH, 0, U32, STRUCT(0, 1), MEMBER(0), MEMBER(0), MEMBER(0), MEMBER(0), TRAILER_2(2, 4)),
     BAD(1, LEPUGASO_REFUSED_LENGTH, 0, U32, STRUCT(0, 1), MEMBER(0), MEMBER(0), MEMBER(0), MEMBER(0), TRAILER(2, 3)),
-    /* A bad entry, named too. */
+    /* A bad entry, named too; of two of these files a member is no struct's. */
     BAD(2, LEPUGASO_REFUSED_RULE, 1, U32, VECTOR(5, 0), TRAILER_2(2, 0)),
     BAD(2, LEPUGASO_REFUSED_RULE, 2, U32, STRUCT(0, 1), VECTOR(5, 0), NAMED(1, MEMBER(0)), TRAILER_2(3, 1)),
     BAD(2, LEPUGASO_REFUSED_RULE, 1, U32, STRUCT(0, 2), NAMED(1, MEMBER(0)), NAMED(0, MEMBER(1)), TRAILER_2(2, 2)),
@@ -391,6 +389,11 @@ static const struct {
     BAD(2, LEPUGASO_REFUSED_GIVEN, 1, U32, STRUCT(0, 2), NAMED(1, MEMBER(0)), NAMED(2, MEMBER_SIZE(0, 3)), TRAILER_2(2, 2)),
     BAD(2, LEPUGASO_REFUSED_TOO_LARGE, 2, U32, F32, ARRAY(0, 1073741824u), NAMED(1, MEMBER(0)), TRAILER_2(3, 1)),
     BAD(2, LEPUGASO_REFUSED_TOO_LARGE, 1, U32, STRUCT(0, 2), NAMED(1, MEMBER_SIZE(0, 4294967292u)), NAMED(0, MEMBER(0)), TRAILER_2(2, 2)),
+    /* A member of no struct, before a name, which is its own or another's (E12). */
+    BAD(1, LEPUGASO_REFUSED_STRAY_MEMBER, 0, U32, STRUCT(1, 1), MEMBER(0), MEMBER(0), TRAILER(2, 2)),
+    BAD(2, LEPUGASO_REFUSED_STRAY_MEMBER, 0, U32, STRUCT(1, 1), NAMED(0, MEMBER(0)), NAMED(0, MEMBER(0)), TRAILER_2(2, 2)),
+    BAD(2, LEPUGASO_REFUSED_STRAY_MEMBER, 0, U32, STRUCT(1, 1), NAMED(1, MEMBER(0)), NAMED(0, MEMBER(0)), TRAILER_2(2, 2)),
+    BAD(2, LEPUGASO_REFUSED_STRAY_MEMBER, 1, U32, STRUCT(0, 1), NAMED(1, MEMBER(0)), NAMED(0, MEMBER(0)), TRAILER_2(2, 2)),
 };
 
 static void bad_forms(void) {

@@ -686,6 +686,21 @@ static void far_moves(void) {
     HOLDS(memcmp(out, out + length_2 - 1 - 7 * PAGE, 7 * PAGE) == 0);
 }
 
+/* The last type without its last member, which no other has, and without its first, which another has; in both forms. */
+static void stray_member(uint32_t start) {
+    for (uint32_t form = 1; form <= 2; form++) {
+        size_t length = start + (size_t)(form == 1 ? LENGTH : LENGTH_2);
+        uint8_t *types = far(length) + start, *file = types - start, *last = types + 12 * LAST;
+        put_large(types, start, form);
+        memcpy(last, (const uint8_t[]){STRUCT(0, MEMBERS - 1)}, 12);
+        EXPECT(lepugaso_check(file, length), LEPUGASO_REFUSED_STRAY_MEMBER, MEMBERS - 1, 0);
+        EXPECT(lepugaso_size(file, length, TYPES), LEPUGASO_REFUSED_STRAY_MEMBER, MEMBERS - 1, 0);
+        EXPECT((form == 1 ? lepugaso_to_form_2 : lepugaso_to_form_1)(file, length, NULL, 0), LEPUGASO_REFUSED_STRAY_MEMBER, MEMBERS - 1, 0);
+        memcpy(last, (const uint8_t[]){STRUCT(1, MEMBERS - 1)}, 12);
+        EXPECT(lepugaso_check(file, length), 0, 0, TYPES);
+    }
+}
+
 int main(void) {
     /* What lies before the types only a move looks at, so a file's length may have more than 16 bits, and more than 32. */
     static const uint32_t starts[] = {0, 65536, UINT32_MAX};
@@ -703,6 +718,7 @@ int main(void) {
         many_steps(at, length);
         deep_member(at, length);
         no_entries(at, length);
+        stray_member(starts[k]);
     }
     moves(0);
     moves(65536);

@@ -287,28 +287,29 @@ static struct member any_member(int last, uint32_t large) {
     return m;
 }
 
-/* A struct of so many members as the last entry of a file, in either form, with bytes before all and members that no struct has. */
+/* A struct of so many members in a file of either form, with bytes before all, and with members behind its own, which are u32 and those of
+ * another struct. */
 static const uint8_t *any_file(uint32_t count, size_t *length) {
-    static uint8_t bytes[16 + 12 * (TYPES + 1) + 16 * (INNER + MOST + 2) + 10];
+    static uint8_t bytes[16 + 12 * (TYPES + 2) + 16 * (INNER + MOST + 2) + 10];
     uint32_t word = next_word(), form = 1 + word % 2, start = word / 2 % 16, behind = word / 32 % 3, large = word / 128 % 8;
     int open = count > 1 && word / 1024 % 3 == 0;
-    static const struct member inner[INNER] = {{1, 0, 0, 0}, {0, 0, 0, 0}, {1, 1, 9, 0}, {1, 2, 0, 32}};
+    static const struct member inner[INNER] = {{1, 0, 0, 0}, {0, 0, 0, 0}, {1, 1, 9, 0}, {1, 2, 0, 32}}, scalar = {0, 0, 0, 0};
     uint8_t *to = bytes;
     parts_made = count;
     if (INNER + count + behind > MOST) behind = 0;
     for (uint32_t k = 0; k < count; k++) parts[k] = any_member(open && k + 1 == count, word / 4096 % count == k ? large : 0);
     for (uint32_t k = 0; k < start; k++) *to++ = (uint8_t)next_word();
     for (uint32_t k = 0; k < TYPES; k++, to += 12) memcpy(to, types[k].entry, 12);
-    memcpy(to, (const uint8_t[]){STRUCT(INNER, count)}, 12);
-    to += 12;
+    memcpy(to, (const uint8_t[]){STRUCT(INNER, count), STRUCT(INNER + count, behind)}, behind ? 24 : 12);
+    to += behind ? 24 : 12;
     for (uint32_t k = 0; k < INNER + count + behind; k++) {
-        const struct member *m = k < INNER ? inner + k : parts + (k < INNER + count ? k - INNER : 0);
+        const struct member *m = k < INNER ? inner + k : k < INNER + count ? parts + k - INNER : &scalar;
         const uint8_t entry[] = {LE16(m->type), LE16(m->flags), LE32(m->size), LE32(m->align)};
         memcpy(to, entry, sizeof entry);
         to += sizeof entry;
         for (uint32_t byte = 0; form == 2 && byte < 4; byte++) *to++ = (uint8_t)next_word();
     }
-    memcpy(to, (const uint8_t[]){LE16(TYPES + 1), LE16(INNER + count + behind), LE32(start), LE16(form)}, 10);
+    memcpy(to, (const uint8_t[]){LE16(TYPES + (behind ? 2 : 1)), LE16(INNER + count + behind), LE32(start), LE16(form)}, 10);
     *length = (size_t)(to - bytes) + 10;
     return lent(bytes, *length);
 }
@@ -438,7 +439,7 @@ static void many_members(uint32_t size, int aligned) {
     checks(__LINE__, file, sizeof bytes, 2, order, MOST, end);
 }
 
-/* ---- refusals, of two or more the first by their order; 1 to 7 are in calls.c */
+/* ---- refusals, of two or more the first by their order; 1 to 7 are in calls.c, 24 in strays.c */
 
 static void both_refused(int line, const uint8_t *file, size_t length, uint32_t entry, size_t places, uint32_t refusal) {
     uint32_t *list = clear_room(places);

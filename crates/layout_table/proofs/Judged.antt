@@ -15,7 +15,7 @@ use Rattle.wgsl.specs.Types.{Ty, structKind, isScalarKind}
 use Rattle.wgsl.specs.Size.{fitsLimit}
 use Rattle.wgsl.specs.Said.{Said, good, refused, _>>=_, _>>_, refuse, orRefuse}
 use Rattle.wgsl.specs.File.{Trailer, trailerOf, TypeEntry, typeEntryAt, typeEntryFrom, checkTrailer, typeEntryLength}
-use Rattle.wgsl.specs.Rule.{when, unused, lower, scalarMade, overMade, vectorMade, matrixMade, arrayMade, runtimeMade, atomicMade, andThen, structMade, typeMade, typeOfEntry, isAllowed, givenFits, judged, typesBelow, typesOf}
+use Rattle.wgsl.specs.Rule.{when, unused, lower, scalarMade, overMade, vectorMade, matrixMade, arrayMade, runtimeMade, atomicMade, andThen, structMade, typeMade, typeOfEntry, isAllowed, givenFits, judged, typesBelow, allNamed, typesOf}
 use Rattle.wgsl.proofs.ScalarKind.{no-scalar}
 use Rattle.wgsl.proofs.Said.{good-not-refused, then-is, then-refused}
 use Rattle.wgsl.proofs.Trailed.{Trailed}
@@ -27,8 +27,8 @@ use Rattle.layout_values.specs.declared.value.Made.the-variants.{Laid, Rule, Gi
 
 -- ---- a good trailer
 
--- The types of a file whose trailer is good.
-pub types-of : (f : List ℕ) (r : Trailer) → checkTrailer f ≡ good r → typesOf f ≡ typesBelow f (r .types)
+-- The types of a file whose trailer is good, and which members are named.
+pub types-of : (f : List ℕ) (r : Trailer) → checkTrailer f ≡ good r → typesOf f ≡ _>>=_ (typesBelow f (r .types)) (λ ts. _>>_ (allNamed f (r .types) (r .members)) (good ts))
 unfolding typesOf
 types-of f r e = then-is _ e
 

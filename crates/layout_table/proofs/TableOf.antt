@@ -8,13 +8,15 @@ use mathlib.Core.List.{List, [], _∷_, _++_}
 use mathlib.Core.Path.{_≡_, refl, sym, ap, _∙_, ap₂}
 use native.Mathlib.Omega.{arith}
 use native.Mathlib.Numerals.{add-one}
+use borrow.Author.Tests.{lt-ltb, le-ltb}
+use lib.Dec.{ltb}
 use lib.ListN.{length, take, drop, set, replicate, length-set, length-replicate, take-append-drop}
 use lib.Seq.{take-suc-set, drop-set-lt, drop-drop}
 use Rattle.wgsl.specs.Types.{Ty}
-use Rattle.wgsl.specs.Said.{good, refused}
+use Rattle.wgsl.specs.Said.{Said, good, refused, refuse, _>>_}
 use Rattle.wgsl.specs.File.{Trailer, lengthBy, TypeEntry, typeEntryAt, typeEntryFrom, checkTrailer, typeEntryLength, memberEntryLength}
-use Rattle.wgsl.specs.Rule.{typeOfEntry, typesBelow, typesOf}
-use Rattle.wgsl.proofs.Said.{then-is, then-refused}
+use Rattle.wgsl.specs.Rule.{typeOfEntry, typesBelow, allNamed, typesOf}
+use Rattle.wgsl.proofs.Said.{then-is, then-refused, refuse-yes, refuse-no}
 use Rattle.wgsl.proofs.Trailed.{Trailed, trailed}
 use Rattle.wgsl.proofs.Accepted.{below-length, below-well-formed}
 use Rattle.layout_values.specs.Value.{valueOf, madeOf, rowOf, blankTable, valuesFrom, valuesOf}
@@ -22,6 +24,7 @@ use Rattle.layout_values.specs.declared.value.Value.{Value}
 use Rattle.layout_values.specs.declared.value.Made.{Made}
 use Rattle.layout_values.specs.declared.value.Made.the-variants.{Laid}
 use Rattle.layout_values.proofs.ValuesOf.{values-more}
+use Rattle.layout_strays.specs.Strays.{Entries}
 use Rattle.layout_table.specs.Table.{tableOf, Upward}
 use Rattle.layout_table.proofs.Judged.{types-of, entry-is, base-is, members-are, says, entry-laid, entry-refused}
 
@@ -124,7 +127,7 @@ module _ {f : List ℕ} {r : Trailer} {k : ℕ} {table : List (List ℕ)} {e : T
   pub filled-refused : {m : Made} {number place : ℕ} → m ≡ madeOf (memberLength f) (e .reference) (typeOfEntry f (t .types) k) → says k m ≡ refused number place → refused number place ≡ tableOf f
   unfolding tableOf
   filled-refused m s =
-      sym (then-refused _ (types-of f r (t .checked) ∙ entry-refused f k (memberLength f) (e .reference) (t .below) m (r .types) s h))
+      sym (then-refused _ (types-of f r (t .checked) ∙ then-refused _ (entry-refused f k (memberLength f) (e .reference) (t .below) m (r .types) s h)))
 
 -- ---- the whole table
 
@@ -132,9 +135,30 @@ whole-table : (f : List ℕ) (table : List (List ℕ)) (k : ℕ) (ts : List Ty) 
 unfolding valuesOf
 whole-table f table k ts n e d = rw (n, ← e, ← d) (sym (take-append-drop k table))
 
-pub filled-table : {f : List ℕ} {r : Trailer} {k : ℕ} {table : List (List ℕ)} → Filled f r k table → k ≡ r .types → good (record { trailer = r; values = table }) ≡ tableOf f
+-- where its entries lie, for the members that they name
+pub filled-entries : {f : List ℕ} {r : Trailer} {k start types : ℕ} {table : List (List ℕ)} → Filled f r k table → start ≡ r .start → types ≡ r .types → Entries f start types
+filled-entries t at n = record {
+  start-is = at ∙ ap (λ (x : Trailer). x .start) (t .trailer .is);
+  inside = let long = t .long in omega arith;
+}
+
+module _ {f : List ℕ} {r : Trailer} {k : ℕ} (types members stray : ℕ) {table : List (List ℕ)} (t : Filled f r k table) (all : k ≡ r .types) (n : types ≡ r .types) (m : members ≡ r .members) (said : refuse 24 stray (ltb stray members) ≡ allNamed f types members) where
+  named-as : allNamed f (r .types) (r .members) ≡ refuse 24 stray (ltb stray members)
+  named-as = rw (← n, ← m) (sym said)
+
+  left : typesOf f ≡ _>>_ (refuse 24 stray (ltb stray members)) (good (t .types))
+  left = types-of f r (t .checked) ∙ then-is _ (rw (← all) (t .below)) ∙ ap (λ (s : Said (Unit {0})). _>>_ s (good (t .types))) named-as
+
+  -- a member that nobody names
+  pub filled-stray : stray < members → refused 24 stray ≡ tableOf f
+  unfolding tableOf
+  filled-stray low = sym (then-refused _ (left ∙ refuse-yes _ (lt-ltb stray members low)))
+
+  pub filled-named : members ≤ stray → typesOf f ≡ good (t .types)
+  filled-named high = left ∙ refuse-no 24 stray (le-ltb stray members high)
+
+pub filled-table : {f : List ℕ} {r : Trailer} {k : ℕ} {table : List (List ℕ)} (t : Filled f r k table) → typesOf f ≡ good (t .types) → good (record { trailer = r; values = table }) ≡ tableOf f
 unfolding tableOf
-filled-table {f} {r} {k} {table} t all =
-    let is : typesOf f ≡ good (t .types) = types-of f r (t .checked) ∙ rw (← all) (t .below) in
+filled-table {f} {r} {k} {table} t is =
     let values = whole-table f table k (t .types) (count t) (t .first) (t .rest) in
     sym (then-is _ is ∙ rw (← t .trailer .is, ← values))

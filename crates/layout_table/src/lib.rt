@@ -11,6 +11,7 @@ use file::trailer::Trailer;
 use file::trailer::Trailered;
 use file::trailer::check_trailer;
 use layout_referring::over_entry;
+use layout_strays::lowest_stray;
 use layout_structs::SoFar;
 use layout_structs::Stepped;
 use layout_structs::finish;
@@ -114,7 +115,7 @@ fn entry_made(
 }
 
 // The values of the entries of a file whose trailer is good, worked out before anything else is read or written, or the refusal.
-// Refuses 5 to 7.
+// Refuses 5 to 7, 24.
 pub fn fill(f: &[u8], t: Trailer, table: &mut [Row]) -> Checked
     requires { ⌜ (checkTrailer (now f) ≡ good (trailerIs t)) × (now table ≡ blankTable) ⌝ }
     ensures { λ r. ⌜ saidTable r (now (table .exit)) ≡ tableOf (now (f .entry)) ⌝ }
@@ -143,11 +144,15 @@ pub fn fill(f: &[u8], t: Trailer, table: &mut [Row]) -> Checked
         }
         k += 1;
     }
+    let stray = lowest_stray(f, start, types, members);
+    if stray < members {
+        return Checked::Refused(Refusal::Stray(stray));
+    }
     Checked::Types(t)
 }
 
 // The trailer of an accepted file, or the refusal.
-// Refuses 1 to 7.
+// Refuses 1 to 7, 24.
 pub fn accept(f: &[u8]) -> Checked
     ensures { λ r. ⌜ saidChecked r ≡ acceptedTrailer (now (f .entry)) ⌝ }
 {
@@ -172,7 +177,7 @@ pub enum Grounded {
     Refused(Refusal),
 }
 
-// Fills the table, and finds entry `entry` in it. Refuses 5 to 8.
+// Fills the table, and finds entry `entry` in it. Refuses 5 to 7, 24, 8.
 pub fn find(f: &[u8], t: Trailer, entry: u32, table: &mut [Row]) -> Grounded
     requires { ⌜ (checkTrailer (now f) ≡ good (trailerIs t)) × (now table ≡ blankTable) ⌝ }
     ensures { λ r. ⌜ saidGround r (now (table .exit)) ≡ groundIn (now (f .entry)) entry ⌝ }

@@ -13,9 +13,8 @@ use lib.ListN.{length, length-append}
 use Rattle.wgsl.specs.Types.{Ty}
 use Rattle.wgsl.specs.Size.{sizeOf, alignOf, ownStrideOf}
 use Rattle.wgsl.specs.Said.{Said, good, refused}
-use Rattle.wgsl.specs.File.{between}
 use Rattle.wgsl.specs.Rule.{typesOf}
-use Rattle.wgsl.specs.Listing.{entriesText, refusedText, atText, space, newline, dash, decimal, orDash, column, entryLine, entryLines, refusedLine, listed, inputLimit, listingOf}
+use Rattle.wgsl.specs.Listing.{entriesText, refusedText, atText, space, newline, dash, decimal, orDash, column, entryLine, entryLines, hasPlace, refusedLine, listed, inputLimit, listingOf}
 use Rattle.wgsl.proofs.Accepted.{accepted}
 use Rattle.puts.specs.Put.{Put}
 use Rattle.listing_text.specs.Line.{line, heading}
@@ -61,7 +60,7 @@ entryLines-length k (t ∷ ts) =
 refusedLine-length : (number place : ℕ) → length (refusedLine number place) ≤ 33
 unfolding refusedLine refusedText atText newline
 refusedLine-length number place =
-    simp length-append (omega (arith, decimal-length number, told (between 5 7 number)))
+    simp length-append (omega (arith, decimal-length number, told (hasPlace number)))
   where
     told : (b : Bool) → length (cond b (atText ++ decimal place) []) ≤ 14
     told true = simp length-append (omega (arith, decimal-length place))

@@ -1,15 +1,17 @@
 -- Laws of the texts of a listing's lines, by the tests in them: `marked` (specs/Put), `refusedLine` (crates/wgsl).
 -- Assumes nothing.
 use Prim.Native.Nat.{ℕ, _<_, _≤_}
-use mathlib.Core.Path.{_≡_}
+use mathlib.Core.Bool.{true, false, or-true, or-false}
+use mathlib.Core.Path.{_≡_, refl, sym}
 use mathlib.Core.List.{_++_, append-nil}
 use mathlib.Core.Logic.{⊎-elim}
 use native.Mathlib.Nat.{eq-zero-or-pos}
 use native.Mathlib.Omega.{arith}
 use borrow.Author.Tests.{le-leb, lt-leb, eq-eqb, ne-eqb}
+use lib.Dec.{leb}
 use lib.ListN.{length}
 use Rattle.wgsl.specs.File.{between}
-use Rattle.wgsl.specs.Listing.{refusedText, atText, space, newline, dash, decimal, orDash, refusedLine}
+use Rattle.wgsl.specs.Listing.{refusedText, atText, space, newline, dash, decimal, orDash, hasPlace, refusedLine}
 use Rattle.listing_text.specs.Line.{marked, markedColumn}
 use Rattle.listing_text.proofs.Decimal.{decimal-length}
 
@@ -33,15 +35,25 @@ pub column-length : (n : ℕ) → length (markedColumn n) ≤ 11
 unfolding markedColumn space
 column-length n = omega (arith, marked-length n)
 
-module _ (number place : ℕ) where
-  pub refusedLine-low : number < 5 → refusedLine number place ≡ refusedText ++ decimal number ++ newline
-  unfolding refusedLine between
-  refusedLine-low h = rw (lt-leb 5 number h, append-nil (refusedText ++ decimal number))
+-- ---- the line of a refusal
 
-  pub refusedLine-high : 7 < number → refusedLine number place ≡ refusedText ++ decimal number ++ newline
-  unfolding refusedLine between
-  refusedLine-high h = rw (le-leb 5 number (omega arith), lt-leb number 7 h, append-nil (refusedText ++ decimal number))
+module _ (number : ℕ) where
+  pub place-stray : number ≡ 24 → true ≡ hasPlace number
+  unfolding hasPlace
+  place-stray is = rw (eq-eqb number 24 is) (sym (or-true (between 5 7 number)))
 
-  pub refusedLine-place : 5 ≤ number → number ≤ 7 → refusedLine number place ≡ refusedText ++ decimal number ++ (atText ++ decimal place) ++ newline
-  unfolding refusedLine between
-  refusedLine-place l h = rw (le-leb 5 number l, le-leb number 7 h)
+  pub place-low : number < 5 → false ≡ hasPlace number
+  unfolding hasPlace between
+  place-low h = rw (lt-leb 5 number h, ne-eqb number 24 (λ e. omega arith)) refl
+
+  pub place-else : 5 ≤ number → (number ≡ 24 → ⊥) → leb number 7 ≡ hasPlace number
+  unfolding hasPlace between
+  place-else h other = rw (le-leb 5 number h, ne-eqb number 24 other) (sym (or-false (leb number 7)))
+
+  pub refusedLine-plain : (place : ℕ) → hasPlace number ≡ false → refusedLine number place ≡ refusedText ++ decimal number ++ newline
+  unfolding refusedLine
+  refusedLine-plain place h = rw (h, append-nil (refusedText ++ decimal number))
+
+  pub refusedLine-place : (place : ℕ) → hasPlace number ≡ true → refusedLine number place ≡ refusedText ++ decimal number ++ (atText ++ decimal place) ++ newline
+  unfolding refusedLine
+  refusedLine-place place h = rw h refl

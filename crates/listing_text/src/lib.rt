@@ -1,8 +1,9 @@
 // Lines of text into a lent buffer: what the listing program writes.
 use puts::put;
+ghost use mathlib.Core.Path.{_≡_};
 ghost use Prim.Native.Nat.{_+_, _≤_};
 ghost use lib.ListN.{length};
-ghost use Rattle.wgsl.specs.Listing.{decimal, refusedLine};
+ghost use Rattle.wgsl.specs.Listing.{decimal, hasPlace, refusedLine};
 ghost use Rattle.puts.specs.Put.{Put};
 ghost use Rattle.listing_text.specs.Line.{marked, markedColumn, line, heading};
 
@@ -62,6 +63,19 @@ pub fn put_heading(out: &mut [u8], at: usize, types: u32) -> usize
     put(out, b, b"\n")
 }
 
+// Whether a refusal of this number is written with its place: 5 to 7 and 24.
+fn has_place(number: u32) -> bool
+    ensures { λ r. ⌜ r ≡ hasPlace number ⌝ }
+{
+    if number == 24 {
+        return true;
+    }
+    if number < 5 {
+        return false;
+    }
+    number <= 7
+}
+
 // Puts the line of a refusal.
 pub fn put_refused(out: &mut [u8], at: usize, number: u32, place: u32) -> usize
     requires { ⌜ at + 33 ≤ length (now out) ⌝ }
@@ -69,13 +83,10 @@ pub fn put_refused(out: &mut [u8], at: usize, number: u32, place: u32) -> usize
 {
     let a = put(out, at, b"refused ");
     let b = put_decimal(out, a, number);
-    if number < 5 {
-        return put(out, b, b"\n");
+    if has_place(number) {
+        let c = put(out, b, b" at ");
+        let d = put_decimal(out, c, place);
+        return put(out, d, b"\n");
     }
-    if 7 < number {
-        return put(out, b, b"\n");
-    }
-    let c = put(out, b, b" at ");
-    let d = put_decimal(out, c, place);
-    put(out, d, b"\n")
+    put(out, b, b"\n")
 }

@@ -16,7 +16,7 @@ use Rattle.wgsl.specs.Clean.{CleanDone, cleanAfter}
 use Rattle.wgsl.specs.Site.{SiteDone, siteAnswer, siteAfter, maskSet, zeroOf, maskAfter}
 use Rattle.said.specs.Refusal.{numberOf, placeOf}
 use Rattle.said.specs.declared.refusal.Refusal.{Refusal}
-use Rattle.said.specs.declared.refusal.Refusal.the-variants.{Short, Form, Counts, Length, Rule, Given, Large, Missing, Absent, Unstorable, NoMember, PastEnd, NoIndex, Count, Buffer, Word, Long, NoRank, NotUniform, Named, NoSite, NoOrder}
+use Rattle.said.specs.declared.refusal.Refusal.the-variants.{Short, Form, Counts, Length, Rule, Given, Large, Missing, Absent, Unstorable, NoMember, PastEnd, NoIndex, Count, Buffer, Word, Long, NoRank, NotUniform, Named, NoSite, NoOrder, Stray}
 use Rattle.said.specs.Answer.{saidNumber, saidMoved, gapsOf, saidCleaned, maybeOf, saidAnswer}
 use Rattle.said.specs.declared.answer.Number.{Number}
 use Rattle.said.specs.declared.answer.Moved.{Moved}
@@ -39,9 +39,9 @@ unfoldable pub refusalFrom : ℕ → ℕ → Refusal
 refusalFrom place number =
     getD
     (Short ∷ Short ∷ Form ∷ Counts ∷ Length ∷ Rule place ∷ Given place ∷ Large place ∷ Missing ∷ Absent ∷ Unstorable
-    ∷ NoMember place ∷ PastEnd place ∷ NoIndex place ∷ Count ∷ Buffer ∷ Word place ∷ Long ∷ NoRank ∷ NotUniform place ∷ Named ∷ NoSite ∷ NoSite ∷ [])
+    ∷ NoMember place ∷ PastEnd place ∷ NoIndex place ∷ Count ∷ Buffer ∷ Word place ∷ Long ∷ NoRank ∷ NotUniform place ∷ Named ∷ NoSite ∷ NoSite ∷ NoOrder ∷ [])
     number
-    NoOrder
+    (Stray place)
 
 pub refusal-told : (r : Refusal) → refusalFrom (placeOf r) (numberOf r) ≡ r
 unfolding refusalFrom
@@ -67,6 +67,7 @@ refusal-told (NotUniform entry) = refl
 refusal-told Named = refl
 refusal-told NoSite = refl
 refusal-told NoOrder = refl
+refusal-told (Stray member) = refl
 
 -- ---- a number or a refusal
 

@@ -2,7 +2,7 @@
 -- Definitions only. Assumes nothing.
 use Prim.Native.Nat.{ℕ}
 use Rattle.said.specs.declared.refusal.Refusal.{Refusal}
-use Rattle.said.specs.declared.refusal.Refusal.the-variants.{Short, Form, Counts, Length, Rule, Given, Large, Missing, Absent, Unstorable, NoMember, PastEnd, NoIndex, Count, Buffer, Word, Long, NoRank, NotUniform, Named, NoSite, NoOrder}
+use Rattle.said.specs.declared.refusal.Refusal.the-variants.{Short, Form, Counts, Length, Rule, Given, Large, Missing, Absent, Unstorable, NoMember, PastEnd, NoIndex, Count, Buffer, Word, Long, NoRank, NotUniform, Named, NoSite, NoOrder, Stray}
 
 abbrev pub numberOf : Refusal → ℕ
 numberOf Short = 1
@@ -27,6 +27,7 @@ numberOf (NotUniform entry) = 19
 numberOf Named = 20
 numberOf NoSite = 21
 numberOf NoOrder = 23
+numberOf (Stray member) = 24
 
 abbrev pub placeOf : Refusal → ℕ
 placeOf Short = 0
@@ -51,3 +52,4 @@ placeOf (NotUniform entry) = entry
 placeOf Named = 0
 placeOf NoSite = 0
 placeOf NoOrder = 0
+placeOf (Stray member) = member

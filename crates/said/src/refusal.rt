@@ -41,6 +41,8 @@ pub enum Refusal {
     NoSite,
     // 23: an order of members that is not accepted
     NoOrder,
+    // 24, with the member: one that no struct names
+    Stray(usize),
 }
 
 pub fn number(r: Refusal) -> u32
@@ -69,10 +71,11 @@ pub fn number(r: Refusal) -> u32
         Refusal::Named => 20,
         Refusal::NoSite => 21,
         Refusal::NoOrder => 23,
+        Refusal::Stray(_) => 24,
     }
 }
 
-// The lowest 32 bits of a place. Places are entries, below 256, positions of steps, and positions of words, below 2^31. A path leads at
+// The lowest 32 bits of a place. Places are entries, below 256, members, below 1,024, positions of steps, and positions of words, below 2^31. A path leads at
 // most once through each entry, and then to a column and to its scalar, so that no bad step's position is above 256.
 pub fn place(r: Refusal) -> u32
     ensures { λ n. ⌜ n ≡ placeOf r % 2 ^ 32 ⌝ }
@@ -86,6 +89,7 @@ pub fn place(r: Refusal) -> u32
         Refusal::NoIndex(k) => (k % 0x1_0000_0000) as u32,
         Refusal::Word(k) => (k % 0x1_0000_0000) as u32,
         Refusal::NotUniform(k) => (k % 0x1_0000_0000) as u32,
+        Refusal::Stray(k) => (k % 0x1_0000_0000) as u32,
         _ => 0,
     }
 }

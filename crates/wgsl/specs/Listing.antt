@@ -4,10 +4,10 @@
 -- Definitions only. Assumes nothing.
 use Prim.Native.Nat.{ℕ, zero, suc, _+_, _/_, _%_}
 use mathlib.Core.List.{List, [], _∷_, _++_}
-use mathlib.Core.Bool.{cond}
+use mathlib.Core.Bool.{Bool, cond, _||_}
 use mathlib.Core.Option.{Option, none, some}
 use lib.ListN.{length}
-use lib.Dec.{ltb}
+use lib.Dec.{eqb, ltb}
 use Rattle.wgsl.specs.Types.{Ty}
 use Rattle.wgsl.specs.Size.{sizeOf, alignOf, ownStrideOf}
 use Rattle.wgsl.specs.Said.{Said, good, refused}
@@ -63,10 +63,14 @@ unfoldable pub entryLines : ℕ → List Ty → List ℕ
 entryLines k [] = []
 entryLines k (t ∷ ts) = entryLine k t ++ entryLines (suc k) ts
 
+-- "for 5 to 7"; E12, of 24: "the program writes it as for 5 to 7"
+unfoldable pub hasPlace : ℕ → Bool
+hasPlace number = between 5 7 number || eqb number 24
+
 -- "a bad file gives `refused 2`, or `refused 5 at 1` for 5 to 7"
 unfoldable pub refusedLine : ℕ → ℕ → List ℕ
 refusedLine number place =
-    refusedText ++ decimal number ++ cond (between 5 7 number) (atText ++ decimal place) [] ++ newline
+    refusedText ++ decimal number ++ cond (hasPlace number) (atText ++ decimal place) [] ++ newline
 
 unfoldable pub listed : Said (List Ty) → List ℕ
 listed (good ts) = entriesText ++ decimal (length ts) ++ newline ++ entryLines 0 ts

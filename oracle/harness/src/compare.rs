@@ -48,6 +48,10 @@ const PLAN: Plan = Plan {
     order_small: 3,
     orders: 16_000,
     order_asked: 12,
+    stray_edges: 1,
+    stray_small: 3,
+    strays: 8000,
+    stray_asked: 8,
 };
 
 const RECORDED: Plan = Plan {
@@ -86,6 +90,10 @@ const RECORDED: Plan = Plan {
     order_small: 0,
     orders: 8,
     order_asked: 4,
+    stray_edges: 30,
+    stray_small: 1,
+    strays: 6,
+    stray_asked: 2,
 };
 
 fn read(path: &str) -> String {
@@ -136,6 +144,7 @@ pub fn ask(seed: u64, document: &str, folder: &str) -> bool {
     generate::site_blocks(seed, &PLAN, &mut put);
     generate::clean_blocks(seed, &PLAN, &mut put);
     generate::order_blocks(seed, &PLAN, &mut put);
+    generate::stray_blocks(seed, &PLAN, &mut put);
     flush(&mut text);
     println!("{files:9} files in all, seed {seed}");
     true
@@ -146,20 +155,30 @@ pub fn answer(questions: &str) -> String {
     let mut text = format!("{ANSWERS_HEAD}\n");
     for block in question::parse(questions) {
         let types = Table::read(&block.file).map_or(vec![], |t| types::build(&t));
-        let checked = model::check(&block.file);
+        let laid = model::lay_all(&block.file);
         for q in &block.questions {
-            text += &types::answer(&types, &checked, q);
+            text += &types::answer(&types, &laid, q);
             text.push('\n');
         }
     }
     text
 }
 
-/// What 01 says of each question of a block, and under which row it falls.
+/// What 01 says of each question of a block, and under which row it falls. Of a table that is refused for a member that no struct names the
+/// Rust says what it says of the table's types.
 fn due(block: &Block) -> Vec<Due> {
-    let checked = model::check(&block.file);
+    let (checked, laid) = (model::check(&block.file), model::lay_all(&block.file));
     let nodes = Table::read(&block.file).map_or(vec![], |t| types::nodes(&t));
-    block.questions.iter().map(|q| model::answer(&block.file, &checked, &nodes, q)).collect()
+    let one = |q: &Question| {
+        let due = model::answer(&block.file, &checked, &nodes, q);
+        if due.row != Some(Row::Stray) {
+            return due;
+        }
+        let of_types = model::answer(&block.file, &laid, &nodes, q);
+        let agreed = of_types.row.is_none().then_some(of_types.says);
+        Due { rust: of_types.rust.or(agreed), ..due }
+    };
+    block.questions.iter().map(one).collect()
 }
 
 /// Holds the document to the rows and to what both sides said of its examples.
@@ -281,6 +300,7 @@ pub fn record(document: &str, folder: &str) -> bool {
     generate::site_blocks(1, &RECORDED, |b| blocks.push(b));
     generate::clean_blocks(1, &RECORDED, |b| blocks.push(b));
     generate::order_blocks(1, &RECORDED, |b| blocks.push(b));
+    generate::stray_blocks(1, &RECORDED, |b| blocks.push(b));
     let blocks = joined(blocks);
     let questions = blocks.iter().fold(format!("{HEAD}\n"), |s, b| s + &b.lines());
     let rust = answer(&questions);

@@ -365,10 +365,15 @@ fn faulty_path(r: &mut Random, good: Option<&Good>, entry: u32) -> Question {
     Question::Set(entry, set, path, buffer)
 }
 
+/// A table whose entries all pass: questions are made of these, also where it is refused for a member that no struct names.
+fn laid_out(t: &Table) -> Option<Good> {
+    model::lay_all(&t.write(&[])).ok()
+}
+
 /// `n` questions of any sort; now and then an entry that is not there.
 pub fn some(r: &mut Random, t: &Table, n: usize) -> Vec<Question> {
     let types = t.entries.len().max(1) as u64;
-    let good = model::check(&t.write(&[])).ok();
+    let good = laid_out(t);
     let mut qs = Vec::new();
     for _ in 0..n {
         let e = |r: &mut Random| {
@@ -495,7 +500,7 @@ fn faulty_field(r: &mut Random, good: Option<&Good>, entry: u32) -> Question {
 /// `n` questions about fields; now and then an entry that is not there, and now and then a field of a word.
 fn some_fields(r: &mut Random, t: &Table, n: usize) -> Vec<Question> {
     let types = t.entries.len().max(1) as u64;
-    let good = model::check(&t.write(&[])).ok();
+    let good = laid_out(t);
     let mut one = || {
         let past = r.of(&[types, 255, 4_294_967_295]) as u32;
         let any = r.below(types) as u32;
@@ -1118,18 +1123,24 @@ fn long_ones() -> Vec<Table> {
     ]
 }
 
-/// Trailers on each side of an edge: types, members, form, length.
-fn trailers() -> Vec<Vec<u8>> {
+/// Trailers on each side of an edge: types, members, form, length. Those of the most types and members, and of one more, have their entries
+/// before them, or stand alone.
+fn trailers(whole: bool) -> Vec<Vec<u8>> {
     let f32s = |n| table(&vec![scalar(3); n]);
-    let with_members = |n| Table { members: vec![Member::default(); n], ..f32s(1) };
+    let with_members = |n| table(&[scalar(3), (entry(12, 0, 0, 0, 0), vec![Member::default(); n])]);
+    let many = |t: Table| {
+        let file = t.write(&[]);
+        file[if whole { 0 } else { file.len() - 10 }..].to_vec()
+    };
     let good = f32s(1).write(&[]);
     let changed = |at: usize, n: u8| {
         let mut b = good.clone();
         b[at] = n;
         b
     };
-    let mut list: Vec<Vec<u8>> = [0, 1, 256, 257].into_iter().map(|n| f32s(n).write(&[])).collect();
-    list.extend([1024, 1025].into_iter().map(|n| with_members(n).write(&[])));
+    let mut list: Vec<Vec<u8>> = [0, 1].map(|n| f32s(n).write(&[])).to_vec();
+    list.extend([256, 257].map(|n| many(f32s(n))));
+    list.extend([1024, 1025].map(|n| many(with_members(n))));
     list.extend([
         changed(20, 0),
         changed(20, 2),
@@ -1320,6 +1331,14 @@ pub struct Plan {
     pub orders: usize,
     /// questions on each of them
     pub order_asked: usize,
+    /// of what is asked about tables made by hand, most of which have a member that no struct names: one of so many
+    pub stray_edges: u64,
+    /// all tables of at most so many structs over at most one member more
+    pub stray_small: usize,
+    /// random tables in most of which a member was left over, beside as many of 256 entries as above; for each four two damaged ones
+    pub strays: usize,
+    /// questions of any sort on each of them; and a fourth of that many on fields, cleaning, orders and site blocks each
+    pub stray_asked: usize,
 }
 
 pub fn blocks(seed: u64, plan: &Plan, mut each: impl FnMut(Block)) {
@@ -1344,7 +1363,7 @@ pub fn blocks(seed: u64, plan: &Plan, mut each: impl FnMut(Block)) {
         let questions = path_edges(&mut r, &good, e, n);
         each(Block { file: t.write(&[]), questions });
     }
-    for file in trailers() {
+    for file in trailers(plan.large > 0) {
         let mut questions = vec![Question::Check, Question::Size(0), Question::Uniform(0)];
         questions.extend([Question::Write(0, vec![1], vec![2; 5]), Question::Read(0, vec![1, 2], vec![3; 5])]);
         questions.extend([Question::View(0, vec![], vec![4; 5]), Question::Set(0, vec![1], vec![], vec![5; 5])]);
@@ -1608,7 +1627,7 @@ fn form_edges() -> Vec<(Vec<u8>, Table)> {
         list.push((pair.write_as(form, &[])[1..].to_vec(), pair.clone()));
         list.push((pair.write_as(form, &[9; 5]), pair.clone()));
         list.push((stray.write_as(form, &[]), stray.clone()));
-        // a bad entry, and a member that is bad if a struct names it
+        // a bad entry beside a member that no struct names
         let bad = table(&[scalar(2), (entry(16, 0, 0, 0, 0), vec![])]);
         list.push((name_of(&with_stray(&bad), 0, 1).write_as(form, &[]), with_stray(&bad)));
     }
@@ -2014,7 +2033,7 @@ fn some_entry(r: &mut Random, types: u64, fit: &[u32]) -> u32 {
 /// there.
 fn some_sites(r: &mut Random, t: &Table, n: usize, most: u64) -> Vec<Question> {
     let types = t.entries.len().max(1) as u64;
-    let good = model::check(&t.write(&[])).ok();
+    let good = laid_out(t);
     let fit = fit_for_site(good.as_ref());
     let room = Sheets { factory: bytes(r, most), site: bytes(r, most) };
     let mut one = || {
@@ -2027,7 +2046,7 @@ fn some_sites(r: &mut Random, t: &Table, n: usize, most: u64) -> Vec<Question> {
 /// `n` fresh blocks in the same way; and of an entry that is fit for one so many sets and clears after either start.
 fn some_starts(r: &mut Random, t: &Table, n: usize, steps: usize, most: u64) -> Vec<Question> {
     let types = t.entries.len().max(1) as u64;
-    let good = model::check(&t.write(&[])).ok();
+    let good = laid_out(t);
     let mut fit = fit_for_site(good.as_ref());
     let room = Sheets { factory: bytes(r, most), site: bytes(r, most) };
     let mut one = || {
@@ -2267,7 +2286,7 @@ fn faulty_clean(r: &mut Random, good: Option<&Good>, entry: u32) -> Question {
 /// `n` cleanings, mostly of entries that are fit for it and not scalars; now and then an entry that is not there.
 fn some_cleans(r: &mut Random, t: &Table, n: usize) -> Vec<Question> {
     let types = t.entries.len().max(1) as u64;
-    let good = model::check(&t.write(&[])).ok();
+    let good = laid_out(t);
     let is_fit = |e: &u32| {
         let (kind, good) = (t.entries[*e as usize].kind, good.as_ref()?);
         let l = good.laid[*e as usize];
@@ -2580,7 +2599,7 @@ fn faulty_order(r: &mut Random, good: Option<&Good>, entry: u32) -> Question {
 /// `n` plans and orders, mostly of structs; now and then an entry that is not there.
 fn some_orders(r: &mut Random, t: &Table, n: usize) -> Vec<Question> {
     let types = t.entries.len().max(1) as u64;
-    let good = model::check(&t.write(&[])).ok();
+    let good = laid_out(t);
     let fit: Vec<u32> = (0..t.entries.len() as u32).filter(|e| t.entries[*e as usize].kind == 12).collect();
     let mut one = || {
         let (past, any) = (r.of(&[types, 255, 4_294_967_295]) as u32, r.below(types) as u32);
@@ -2644,5 +2663,234 @@ pub fn order_blocks(seed: u64, plan: &Plan, mut each: impl FnMut(Block)) {
             let w = wide(&mut r, many, &kinds);
             each(Block { file: w.write(&[]), questions: some_orders(&mut r, &w, n) });
         }
+    }
+}
+
+/// A u32, so many members of it, and structs of some of them: the first, and how many.
+fn naming(members: usize, structs: &[(u16, u32)]) -> Table {
+    let structs = structs.iter().map(|(first, count)| entry(12, 0, 0, *first, *count));
+    Table { entries: [scalar(2).0].into_iter().chain(structs).collect(), members: vec![Member::default(); members] }
+}
+
+/// Every such table of at most so many structs and of at most one member more.
+fn all_naming(most: usize) -> Vec<Table> {
+    let mut list = Vec::new();
+    for members in 0..=most + 1 {
+        let counts = |first: usize| (1..=members - first).map(move |count| (first as u16, count as u32));
+        let spans: Vec<(u16, u32)> = (0..members).flat_map(counts).collect();
+        let mut structs: Vec<Vec<(u16, u32)>> = vec![vec![]];
+        for _ in 0..=most {
+            list.extend(structs.iter().map(|structs| naming(members, structs)));
+            let longer = structs.iter().flat_map(|s| spans.iter().map(move |span| [s.as_slice(), &[*span]].concat()));
+            structs = longer.collect();
+        }
+    }
+    list
+}
+
+/// Tables whose members are all named, and tables with some that are not: the last, the first, one between others, several; beside members
+/// named twice, by structs that overlap, that lie within each other, that come in falling order, of which the last alone names some; beside
+/// structs within others and structs that nothing uses; beside what refers and counts, and is no struct; members that would be bad if a
+/// struct named them; and beside a bad entry.
+fn stray_edges() -> Vec<Table> {
+    let over = |kind, rows, reference, count| (entry(kind, 0, rows, reference, count), vec![]);
+    let all = |types: &[u16]| (entry(12, 0, 0, 0, 0), types.iter().map(|ty| member(*ty, None, None)).collect());
+    let more = |t: Table, entries: &[Entry]| Table { entries: [t.entries.as_slice(), entries].concat(), ..t };
+    let spans: [(usize, &[(u16, u32)]); 20] = [
+        // one left over, and none
+        (3, &[(0, 2)]),
+        (2, &[(0, 2)]),
+        // the lowest of several
+        (4, &[]),
+        (3, &[(1, 2)]),
+        (3, &[(0, 1), (2, 1)]),
+        (5, &[(1, 1), (3, 1)]),
+        (5, &[(0, 1), (2, 1)]),
+        // named twice, and as many names as members
+        (2, &[(0, 2), (0, 2)]),
+        (4, &[(0, 2), (0, 2)]),
+        (4, &[(2, 2), (2, 2)]),
+        // overlapping, and within each other
+        (3, &[(0, 2), (1, 2)]),
+        (4, &[(0, 2), (1, 2)]),
+        (4, &[(1, 2), (2, 2)]),
+        (4, &[(0, 4), (1, 2)]),
+        (5, &[(1, 1), (0, 4)]),
+        // in falling order; the last struct alone names some
+        (3, &[(2, 1), (1, 1), (0, 1)]),
+        (4, &[(3, 1), (2, 1), (0, 1)]),
+        (4, &[(2, 2), (0, 1)]),
+        (4, &[(0, 1), (0, 1), (0, 4)]),
+        (5, &[(0, 1), (0, 1), (0, 4)]),
+    ];
+    let mut list: Vec<Table> = spans.into_iter().map(|(members, structs)| naming(members, structs)).collect();
+    // 2 holds 1, 3 is an array of 2, and nothing uses 4
+    let used = table(&[scalar(2), all(&[0]), all(&[1, 0]), over(9, 0, 2, 2), all(&[0])]);
+    list.extend([used.clone(), with_member(&used, 1, Member::default()), with_stray(&used)]);
+    // a vector, an array, a runtime array and an atomic
+    let referring = [entry(7, 0, 2, 0, 0), entry(9, 0, 0, 0, 3), entry(10, 0, 0, 0, 0), entry(11, 0, 0, 0, 0)];
+    list.push(more(naming(2, &[]), &referring));
+    list.push(more(naming(4, &[(0, 1)]), &[entry(9, 0, 0, 1, 2)]));
+    // no such type, flags that are none, a size and an align that no flag gives
+    let bad = Member { ty: 9, flags: 65_532, size: 1, align: 3, name: 0 };
+    list.extend([0, 2].map(|at| with_member(&naming(2, &[(0, 2)]), at, bad)));
+    // 5 by its kind, by none and by one too many members; 6; 7
+    let left = naming(3, &[(1, 1)]);
+    list.push(more(left.clone(), &[entry(16, 0, 0, 0, 0)]));
+    list.push(more(left.clone(), &[entry(12, 0, 0, 0, 0)]));
+    list.push(more(left.clone(), &[entry(12, 0, 0, 2, 2)]));
+    list.push(Table { members: vec![member(0, Some(1), None); 3], ..left.clone() });
+    list.push(more(left, &[entry(9, 0, 0, 0, 1 << 30)]));
+    list
+}
+
+/// 256 types and 1,024 members: most structs have four of them, in falling order, and the last struct has the rest; one is left over, or
+/// none. Structs of all members but one, or of all.
+fn stray_limits() -> Vec<Table> {
+    let structs: Vec<(u16, u32)> = (0..254).rev().map(|k| (4 * k, 4)).chain([(1016, 8)]).collect();
+    // the first or the last member of a struct
+    let without = |m: u32| {
+        let cut = |(first, count): &(u16, u32)| match m.wrapping_sub(*first as u32) {
+            0 => (first + 1, count - 1),
+            after if after + 1 == *count => (*first, count - 1),
+            _ => (*first, *count),
+        };
+        naming(1024, &structs.iter().map(cut).collect::<Vec<_>>())
+    };
+    let mut list = vec![without(1023), naming(1024, &structs)];
+    list.extend([0, 1, 511, 512, 1015, 1016, 1022].map(without));
+    list.extend([(0, 1023), (1, 1023), (0, 1024)].map(|span| naming(1024, &[span; 255])));
+    list.push(naming(1024, &[]));
+    list
+}
+
+/// A question of every sort about a file, in this buffer.
+fn every_sort(buffer: &[u8]) -> Vec<Question> {
+    let moved = [1, 2].map(|to| Question::Move(to, buffer.to_vec()));
+    [vec![Question::Common(vec![]), Question::ExtractU32(77, Field { offset: 1, count: 3 })], moved.to_vec()].concat()
+}
+
+/// A question of every sort about an entry, in this buffer, with its member 0 and with two of them.
+fn every_sort_of(e: u32, buffer: &[u8]) -> Vec<Question> {
+    let (path, field, room) = (vec![MEMBER], Field { offset: 4, count: 12 }, || buffer.to_vec());
+    let (mask, sheets) = (1 << 40 | 1, || Sheets { factory: vec![9; buffer.len()], site: room() });
+    vec![
+        Question::Size(e),
+        Question::Align(e),
+        Question::MinSize(e),
+        Question::Layout(e),
+        Question::Uniform(e),
+        Question::Rank(e, 0),
+        Question::Common(vec![0, e]),
+        Question::Write(e, vec![1, 2], room()),
+        Question::Read(e, vec![7; 3], room()),
+        Question::View(e, path.clone(), room()),
+        Question::Set(e, vec![8], path.clone(), room()),
+        Question::Clean(e, room()),
+        Question::PlanOrder(e, vec![7; 3]),
+        Question::CheckOrder(e, vec![1, 0]),
+        Question::Extract(e, field, path.clone(), room()),
+        Question::Insert(e, 5, field, path, room()),
+        Question::SiteInheriting(e, mask),
+        Question::SiteFresh(e, mask, sheets()),
+        Question::SiteClear(e, 0, 1),
+        Question::SiteMember(e, 0, 1, sheets()),
+        Question::SiteSet(e, 0, 1, vec![8], vec![], sheets()),
+    ]
+}
+
+/// A table with one member more at a place. Structs that have members on both sides of it have it too.
+fn with_member(t: &Table, at: usize, m: Member) -> Table {
+    let mut t = t.clone();
+    for e in t.entries.iter_mut().filter(|e| e.kind == 12) {
+        let (first, end) = (e.reference as usize, e.reference as usize + e.count as usize);
+        e.reference += (first >= at) as u16;
+        e.count += (first < at && at < end) as u32;
+    }
+    t.members.insert(at, m);
+    t
+}
+
+/// A copy of a table of which mostly a member is left over, and whose entries pass: a struct's members begin or end one earlier or later, a
+/// struct became a u32, or there is a member more.
+fn with_strays(r: &mut Random, t: &Table) -> Table {
+    let structs: Vec<usize> = (0..t.entries.len()).filter(|k| t.entries[*k].kind == 12).collect();
+    for _ in 0..12 {
+        let mut new = t.clone();
+        if structs.is_empty() || r.one_in(8) {
+            let (ty, flags, size) = (r.below(12) as u16, r.below(5) as u16, r.below(9) as u32);
+            let (at, any) = (r.below(t.members.len() as u64 + 1), Member { ty, flags, size, ..Member::default() });
+            new = with_member(t, at as usize, r.of(&[Member::default(), any]));
+        } else {
+            let e = &mut new.entries[r.of(&structs)];
+            let firsts = [e.reference.wrapping_sub(1), e.reference, e.reference + 1];
+            (e.reference, e.count) = (r.of(&firsts), r.of(&[e.count - 1, e.count, e.count + 1]));
+            if r.one_in(24) {
+                *e = scalar(2).0;
+            }
+        }
+        if laid_out(&new).is_some() && (model::stray(&new).is_some() || r.one_in(4)) {
+            return new;
+        }
+    }
+    with_stray(t)
+}
+
+/// The questions about members that no struct names. They have random numbers of their own too.
+pub fn stray_blocks(seed: u64, plan: &Plan, mut each: impl FnMut(Block)) {
+    let mut r = Random(seed.rotate_left(8));
+    let room = bytes(&mut r, 9);
+    // of the first entry, of the last, and of one more than there are
+    let asked = |r: &mut Random, t: &Table, one_of: u64| {
+        let types = t.entries.len() as u32;
+        let of_file = some_of(r, one_of, every_sort(&room));
+        let of_entries = [0, types - 1, types].map(|e| some_of(r, one_of, every_sort_of(e, &room)));
+        [vec![Question::Check], of_file, of_entries.concat()].concat()
+    };
+    for (i, t) in stray_edges().into_iter().enumerate() {
+        // of the first two everything
+        let one_of = if i < 2 { 1 } else { plan.stray_edges };
+        each(Block { file: t.write(&[]), questions: asked(&mut r, &t, one_of) });
+        if r.one_in(plan.stray_edges.min(4)) {
+            let t = named(&mut r, &t);
+            let file = t.write_as(2, &[]);
+            let moved = [1, 2].map(|to| moves(&mut r, &file, &t, to, plan.outputs)).concat();
+            let moved = some_of(&mut r, plan.stray_edges, moved);
+            each(Block { file, questions: [asked(&mut r, &t, plan.stray_edges), moved].concat() });
+        }
+    }
+    for t in stray_limits().into_iter().take(plan.large.max(1)) {
+        each(Block { file: t.write(&[]), questions: asked(&mut r, &t, 1) });
+    }
+    for t in all_naming(plan.stray_small) {
+        let past = t.entries.len() as u32;
+        let questions = vec![Question::Check, Question::Layout(0), Question::Size(past - 1), Question::Align(past)];
+        each(Block { file: t.write(&[]), questions });
+    }
+    let (n, kinds) = (plan.stray_asked, [0, 1, 2, 3, 3, 4, 4, 5, 13, 14, 15]);
+    let few = n.div_ceil(4);
+    let any = |r: &mut Random, t: &Table| {
+        let asked = [some(r, t, n), some_fields(r, t, few), some_cleans(r, t, few), some_orders(r, t, few)].concat();
+        [asked, some_sites(r, t, few, plan.site_bytes.min(FEW_BYTES))].concat()
+    };
+    for i in 0..plan.strays {
+        let (base, types) = (table(&[scalar(r.of(&kinds))]), 3 + r.below(7) as usize);
+        let t = random_over(&mut r, base, types, if i % 8 == 7 { 60 } else { 12 }, &kinds);
+        let (t, form) = (with_strays(&mut r, &t), r.of(&[1, 1, 2]));
+        let new = named(&mut r, &t).write_as(form, &[]);
+        let moved = moves(&mut r, &new, &t, 3 - form, plan.outputs);
+        let moved = some_of(&mut r, 4, moved);
+        each(Block { file: new, questions: [any(&mut r, &t), moved].concat() });
+        if i % 4 == 3 {
+            let d = damaged_table(&mut r, &t);
+            each(Block { file: file(&mut r, &d), questions: some(&mut r, &d, n.min(4)) });
+            let b = file(&mut r, &t);
+            each(Block { file: damaged_file(&mut r, &b), questions: some(&mut r, &t, n.min(3)) });
+        }
+    }
+    for _ in 0..plan.large {
+        let t = random(&mut r, 256, 1024);
+        let t = with_strays(&mut r, &t);
+        each(Block { file: file(&mut r, &t), questions: any(&mut r, &t) });
     }
 }

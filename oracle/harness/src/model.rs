@@ -1,7 +1,7 @@
 //! Document 01's rules, written from its text: which file is refused, with what number and place, and what the calls answer; and document
 //! 02's on strides, bit fields, vectors of three bools, the uniform profile, scalars of 64 bits, the two forms of a file, site blocks,
-//! cleaning and member orders. It decides where Lepugaso and the Rust may differ (the rows of docs/DIFFERENCES.md), and what Lepugaso has
-//! to say there.
+//! cleaning, member orders and members that no struct names. It decides where Lepugaso and the Rust may differ (the rows of
+//! docs/DIFFERENCES.md), and what Lepugaso has to say there.
 use std::collections::BTreeSet;
 
 use crate::file::{Entry, Member, Table};
@@ -279,8 +279,8 @@ pub struct Good {
     pub rust: Vec<Laid>,
 }
 
-/// A file as 01 sees it: its table, or its refusal.
-pub fn check(bytes: &[u8]) -> Result<Good, Refusal> {
+/// Every entry of a file laid out, or the file's refusal by 1 to 7.
+pub fn lay_all(bytes: &[u8]) -> Result<Good, Refusal> {
     let table = Table::read(bytes).map_err(|number| Refusal { number, place: 0, row: Row::NoTable })?;
     let mut laid = Vec::new();
     for k in 0..table.entries.len() {
@@ -288,6 +288,27 @@ pub fn check(bytes: &[u8]) -> Result<Good, Refusal> {
     }
     let rust = rows::numbered(&table, &laid);
     Ok(Good { table, laid, rust })
+}
+
+/// The lowest member that is not "named by at least one struct" (E12), of those that the table has, used or not.
+pub fn stray(table: &Table) -> Option<usize> {
+    let named: BTreeSet<usize> = table.entries.iter().filter(|e| e.kind == 12).flat_map(named_by).collect();
+    (0..table.members.len()).find(|m| !named.contains(m))
+}
+
+/// The numbers of a struct's members: "reference = first member, count = members"
+fn named_by(e: &Entry) -> impl Iterator<Item = usize> {
+    (e.reference as usize..).take(e.count as usize)
+}
+
+/// A file as 01 sees it: its table, or its refusal; E12's "24, place the lowest such member", comes "after all entries have passed 5 to 7
+/// and before E7's 20 and 8".
+pub fn check(bytes: &[u8]) -> Result<Good, Refusal> {
+    let good = lay_all(bytes)?;
+    match stray(&good.table) {
+        Some(place) => Err(Refusal { number: 24, place, row: Row::Stray }),
+        None => Ok(good),
+    }
 }
 
 /// E5's "16".
@@ -966,7 +987,8 @@ fn of_word(q: &Question) -> Option<u32> {
 }
 
 /// What 02 answers of a move to form `to`, and what the output holds then (E7). "2 now means neither 1 nor 2 (and a form 1 file given to
-/// the move back, or a form 2 file to the move on); 20, a name not 0, after 1 to 7; 15, output too small, after that."
+/// the move back, or a form 2 file to the move on); 20, a name not 0, after 1 to 7; 15, output too small, after that." E12: "E7's moves
+/// read it too"
 fn moved(file: &[u8], checked: &Result<Good, Refusal>, to: u16, output: &mut [u8]) -> Answer {
     let Some(form) = file.len().checked_sub(10).map(|trailer| [file[trailer + 8], file[trailer + 9]]) else {
         return Err((1, 0));

@@ -39,6 +39,7 @@ rows! {
     SizeOnRuntime = "size-on-runtime",
     GivenAlign = "given-align",
     TooLarge = "too-large",
+    Stray = "stray",
     NoEntry = "no-entry",
     Doubling = "doubling",
     Vec3Bool = "vec3-bool",

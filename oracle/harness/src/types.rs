@@ -451,8 +451,8 @@ fn check_order(ty: &Type, order: &[u32]) -> Answer {
 }
 
 /// What the Rust says of a question; `NOTHING` where it has no type, or no value, to be asked about. Buffers are asked about on tables
-/// that 01 accepts.
-pub fn answer(types: &[Option<Type>], checked: &Result<Good, Refusal>, q: &Question) -> String {
+/// whose entries 01 accepts.
+pub fn answer(types: &[Option<Type>], laid: &Result<Good, Refusal>, q: &Question) -> String {
     let of = |e: &u32| types.get(*e as usize)?.as_ref();
     let ask = || match q {
         Question::Check => {
@@ -468,32 +468,32 @@ pub fn answer(types: &[Option<Type>], checked: &Result<Good, Refusal>, q: &Quest
         Question::Rank(a, b) => of(a).zip(of(b)).map(|(a, b)| told(conversion_rank(a, b), 18)),
         Question::Common(list) => common(types, list).map(|n| told(n, 18)),
         Question::Write(e, words, buffer) => {
-            let (good, ty) = checked.as_ref().ok().zip(of(e))?;
+            let (good, ty) = laid.as_ref().ok().zip(of(e))?;
             let n = elements(ty, words.len() as u64)?;
             if good.extent(*e as usize, n) > VAST { None } else { write(ty, n, words, buffer) }
         }
         Question::Read(e, words, buffer) => {
-            let (_, ty) = checked.as_ref().ok().zip(of(e))?;
+            let (_, ty) = laid.as_ref().ok().zip(of(e))?;
             Some(read(ty, words, buffer))
         }
         Question::View(e, path, buffer) => {
-            let (_, ty) = checked.as_ref().ok().zip(of(e))?;
+            let (_, ty) = laid.as_ref().ok().zip(of(e))?;
             Some(view(ty, path, buffer))
         }
         Question::Set(e, words, path, buffer) => {
-            let (_, ty) = checked.as_ref().ok().zip(of(e))?;
+            let (_, ty) = laid.as_ref().ok().zip(of(e))?;
             set(ty, path, words, buffer)
         }
         Question::Clean(e, buffer) => {
-            let (_, ty) = checked.as_ref().ok().zip(of(e))?;
+            let (_, ty) = laid.as_ref().ok().zip(of(e))?;
             Some(clean(ty, buffer))
         }
         Question::PlanOrder(e, list) => {
-            let (_, ty) = checked.as_ref().ok().zip(of(e))?;
+            let (_, ty) = laid.as_ref().ok().zip(of(e))?;
             Some(plan(ty, list))
         }
         Question::CheckOrder(e, order) => {
-            let (_, ty) = checked.as_ref().ok().zip(of(e))?;
+            let (_, ty) = laid.as_ref().ok().zip(of(e))?;
             Some(question::told(check_order(ty, order)))
         }
         // The six files have no such function.

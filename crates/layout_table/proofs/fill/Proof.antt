@@ -2,6 +2,7 @@
 use Prim.Native.Nat.{ℕ, _+_, _-_, _*_, _<_}
 use mathlib.Core.List.{List}
 use mathlib.Core.Path.{_≡_, refl, sym, ap, _∙_}
+use native.Mathlib.Omega.{arith}
 use borrow.Author.Needs.{needs}
 use lib.ListN.{length}
 use denote.Ref.{now}
@@ -11,7 +12,8 @@ use Rattle.file.specs.Members.{memberLength}
 use Rattle.layout_values.specs.Value.{madeOf}
 use Rattle.layout_table.specs.Table.{Upward}
 use Rattle.layout_table.proofs.Judged.{says}
-use Rattle.layout_table.proofs.TableOf.{Filled, blank-length, filled-none, filled-upward, filled-more, filled-refused, filled-table}
+use Rattle.layout_strays.specs.Strays.{Entries}
+use Rattle.layout_table.proofs.TableOf.{Filled, blank-length, filled-none, filled-upward, filled-more, filled-refused, filled-entries, filled-stray, filled-named, filled-table}
 use Rattle.layout_table.proofs.fill.Statement.{statement}
 use Rattle.layout_table.proofs.fill.Tie as tie
 
@@ -98,11 +100,39 @@ loop-again c =
     filled-more (x .before .before .loop .inv) (low (x .before)) (upward x .entry-is) (sym (c .before .before .l .given .1) ∙ made m)
     (c .row-of .ensures)
 
+-- all entries were passed
+all : (c : tie.After-loop Inv-loop μ-loop) → c .before .loop .k ≡ c .before .before .before .before .before .before .before .args .t .types
+all c = search needs
+
+-- the entries that name members
+entries : (l : tie.At-loop Inv-loop μ-loop) → Entries (bytes l) (l .before .before .wide3 .result) (l .before .before .before .before .wide .result)
+entries l = filled-entries (l .loop .inv) (l .before .before .wide3 .ensures .0) (l .before .before .before .before .wide .ensures .0)
+
+lowest-stray-requires : tie.Need-lowest-stray-requires Inv-loop μ-loop
+lowest-stray-requires c κs =
+    let l = c .before in
+    (entries l, omega (arith, l .before .before .before .wide2 .ensures .0, l .loop .inv .trailer .few))
+
 same-length-4 : tie.Need-same-length-4 Inv-loop μ-loop
-same-length-4 c = long (c .before)
+same-length-4 c = long (c .before .before .before)
 
 returns-4 : tie.Need-returns-4 Inv-loop μ-loop
-returns-4 c = filled-table (c .before .loop .inv) (search needs)
+returns-4 c =
+    let s = c .before in
+    let l = s .before .before in
+    filled-stray _ _ _ (l .loop .inv) (all (s .before)) (l .before .before .before .before .wide .ensures .0)
+    (l .before .before .before .wide2 .ensures .0) (s .lowest-stray .ensures) (omega arith)
+
+same-length-5 : tie.Need-same-length-5 Inv-loop μ-loop
+same-length-5 c = long (c .before .before .before)
+
+returns-5 : tie.Need-returns-5 Inv-loop μ-loop
+returns-5 c =
+    let s = c .before in
+    let l = s .before .before in
+    filled-table (l .loop .inv)
+    (filled-named _ _ _ (l .loop .inv) (all (s .before)) (l .before .before .before .before .wide .ensures .0)
+    (l .before .before .before .wide2 .ensures .0) (s .lowest-stray .ensures) (omega arith))
 
 pub fill-spec : {M : Type 1} → statement M
 fill-spec =
@@ -111,4 +141,4 @@ fill-spec =
     (λ c. search needs) (λ c κs. search needs) loop-holds (λ c. search needs) (λ c. search needs) (λ c κs. search needs) entry-made-requires
     (λ c. search needs) (λ c κs. search needs) (λ c. search needs) (λ c. search needs) (λ c. search needs) same-length
     returns (λ c. search needs) same-length-2 returns-2 (λ c. search needs) same-length-3 returns-3 (λ c. search needs)
-    (λ c. search needs) loop-again same-length-4 returns-4)
+    (λ c. search needs) loop-again lowest-stray-requires same-length-4 returns-4 same-length-5 returns-5)

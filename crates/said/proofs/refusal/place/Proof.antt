@@ -1,4 +1,4 @@
--- The eight variants with a place give it; the numbers of the others are in the key of the last arm.
+-- The nine variants with a place give it; the numbers of the others are in the key of the last arm.
 use borrow.Author.Needs.{needs}
 use Prim.Native.Nat.{ℕ, _%_, _^_}
 use mathlib.Core.List.{List, [], _∷_}
@@ -8,7 +8,7 @@ use denote.Enum.Declared.{tagOf}
 use Rattle.said.proofs.refusal.Refusal as refusal
 use Rattle.said.specs.Refusal.{placeOf}
 use Rattle.said.specs.declared.refusal.Refusal.{Refusal}
-use Rattle.said.specs.declared.refusal.Refusal.the-variants.{Short, Form, Counts, Length, Rule, Given, Large, Missing, Absent, Unstorable, NoMember, PastEnd, NoIndex, Count, Buffer, Word, Long, NoRank, NotUniform, Named, NoSite, NoOrder}
+use Rattle.said.specs.declared.refusal.Refusal.the-variants.{Short, Form, Counts, Length, Rule, Given, Large, Missing, Absent, Unstorable, NoMember, PastEnd, NoIndex, Count, Buffer, Word, Long, NoRank, NotUniform, Named, NoSite, NoOrder, Stray}
 use Rattle.said.proofs.refusal.place.Statement.{statement}
 use Rattle.said.proofs.refusal.place.Tie as tie
 
@@ -35,6 +35,9 @@ returns-7 c = rw (c .before .r7 .given .1)
 
 returns-8 : tie.Need-returns-8
 returns-8 c = rw (c .before .r8 .given .1)
+
+returns-9 : tie.Need-returns-9
+returns-9 c = rw (c .before .r9 .given .1)
 
 -- the numbers of the variants without a place
 abbrev keys : List ℕ
@@ -63,9 +66,10 @@ placeless (NotUniform k) h = absurd (miss keys 18 tt h)
 placeless Named h = refl
 placeless NoSite h = refl
 placeless NoOrder h = refl
+placeless (Stray k) h = absurd (miss keys 22 tt h)
 
-returns-9 : tie.Need-returns-9
-returns-9 c = placeless (c .before .args .r) (c .match .keys9)
+returns-10 : tie.Need-returns-10
+returns-10 c = placeless (c .before .args .r) (c .match .keys10)
 
 pub place-spec : {M : Type 1} → statement M
 place-spec =
@@ -73,5 +77,5 @@ place-spec =
     (λ c. search needs) (λ c. search needs) (λ c. search needs) (λ c. search needs) (λ c. search needs)
     (λ c. search needs) (λ c. search needs) (λ c. search needs) (λ c. search needs) (λ c. search needs)
     (λ c. search needs) (λ c. search needs) (λ c. search needs) (λ c. search needs) (λ c. search needs)
-    (λ c. search needs) returns returns-2 returns-3 returns-4 returns-5
-    returns-6 returns-7 returns-8 returns-9)
+    (λ c. search needs) (λ c. search needs) (λ c. search needs) returns returns-2 returns-3 returns-4 returns-5
+    returns-6 returns-7 returns-8 returns-9 returns-10)

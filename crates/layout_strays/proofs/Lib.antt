@@ -1,0 +1,2 @@
+-- Laws of members that are named, or marked.
+pub mod Named

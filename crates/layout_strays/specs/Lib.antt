@@ -1,0 +1,2 @@
+-- Definitions between the functions of this crate.
+pub mod Strays
