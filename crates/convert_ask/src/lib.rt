@@ -14,7 +14,7 @@ ghost use Rattle.wgsl.specs.Call.{rankCall, commonCall};
 ghost use Rattle.said.specs.Answer.{saidNumber};
 
 // The rank of entry `a`'s type to entry `b`'s.
-// Refuses 1 to 7 (file), 8 (either number), 18 (no rank).
+// Refuses 1 to 7, 24 (file), 8 (either number), 18 (no rank).
 pub fn rank(file: &[u8], a: u32, b: u32) -> Number
     ensures { λ r. ⌜ saidNumber r ≡ rankCall (now (file .entry)) a b ⌝ }
 {
@@ -38,7 +38,7 @@ pub fn rank(file: &[u8], a: u32, b: u32) -> Number
 }
 
 // The common type of the listed entries, as one of their numbers.
-// Refuses 1 to 7 (file), 8 (any number), 18 (no common type, or an empty list).
+// Refuses 1 to 7, 24 (file), 8 (any number), 18 (no common type, or an empty list).
 pub fn common(file: &[u8], list: &[u32]) -> Number
     ensures { λ r. ⌜ saidNumber r ≡ commonCall (now (file .entry)) (now (list .entry)) ⌝ }
 {

@@ -29,7 +29,7 @@ ghost use Rattle.layout_table.specs.Table.{saidChecked};
 ghost use Rattle.forms.specs.OfForm.{trailerOfForm};
 
 // The trailer of an accepted file of this form, or the refusal.
-// Refuses 1 to 7, 2 for any other form.
+// Refuses 1 to 7, 24, 2 for any other form.
 fn form_is(f: &[u8], form: u32) -> Checked
     ensures { λ r. ⌜ saidChecked r ≡ trailerOfForm form (now (f .entry)) ⌝ }
 {
@@ -58,7 +58,7 @@ fn put_out(f: &[u8], t: Trailer, form: u32, name: &[u8], bytes: &[u8], out: &mut
 }
 
 // A form 1 file as a form 2 file without names, into `out`: its length. Later bytes of `out` stay.
-// Refuses 1 to 7, 15.
+// Refuses 1 to 7, 24, 15.
 pub fn to_form_2(file: &[u8], out: &mut [u8]) -> Moved
     ensures answer { λ r. ⌜ saidMoved r ≡ answerOf (moveOnCall (now (file .entry)) (now (out .entry))) ⌝ }
     ensures out { λ _. ⌜ now (out .exit) ≡ contentsOf (now (out .entry)) (moveOnCall (now (file .entry)) (now (out .entry))) ⌝ }
@@ -70,7 +70,7 @@ pub fn to_form_2(file: &[u8], out: &mut [u8]) -> Moved
 }
 
 // A form 2 file without names as a form 1 file, into `out`: its length. Later bytes of `out` stay.
-// Refuses 1 to 7, 20, 15.
+// Refuses 1 to 7, 24, 20, 15.
 pub fn to_form_1(file: &[u8], out: &mut [u8]) -> Moved
     ensures answer { λ r. ⌜ saidMoved r ≡ answerOf (moveBackCall (now (file .entry)) (now (out .entry))) ⌝ }
     ensures out { λ _. ⌜ now (out .exit) ≡ contentsOf (now (out .entry)) (moveBackCall (now (file .entry)) (now (out .entry))) ⌝ }

@@ -1,4 +1,4 @@
-// `clean`: the gaps of an entry become zero, and what changed is counted. 02's order is 1 to 8, 17, 9, 10, 15.
+// `clean`: the gaps of an entry become zero, and what changed is counted. 02's order is 1 to 7, 24, 8, 17, 9, 10, 15.
 use file::trailer::Trailered;
 use file::trailer::check_trailer;
 use gaps_sweep::gap::Sweep;
@@ -112,7 +112,7 @@ fn clean_entry_at(file: &[u8], e: usize, g: Ground, table: &[Row], buf: &mut [u8
 
 // Every byte of entry `entry` in the buffer that no scalar covers becomes zero; answers how many bytes changed, and the offset of the first
 // (the extent if none did). Bytes after the extent stay.
-// Refuses 1 to 7 (file), 8, 17, 9 (no layout), 10, 15.
+// Refuses 1 to 7, 24 (file), 8, 17, 9 (no layout), 10, 15.
 pub fn clean(file: &[u8], entry: u32, buf: &mut [u8]) -> Cleaned
     ensures answer { λ r. ⌜ saidCleaned r ≡ gapsOf (cleanCall (now (file .entry)) entry (now (buf .entry))) ⌝ }
     ensures buffer { λ _. ⌜ now (buf .exit) ≡ cleanAfter (now (buf .entry)) (cleanCall (now (file .entry)) entry (now (buf .entry))) ⌝ }

@@ -24,14 +24,14 @@ ghost use Rattle.layout_values.specs.Value.{valueOf};
 ghost use Rattle.said.specs.Answer.{saidNumber, maybeOf, saidAnswer};
 ghost use Rattle.layout_ask.specs.ValueFound.{valueFound, saidValue, marked};
 
-// What the table holds of an entry, or a refusal 1 to 8.
+// What the table holds of an entry, or a refusal 1 to 7, 24, 8.
 pub enum ValueFound {
     Is(Value),
     Refused(Refusal),
 }
 
 // How many entries an accepted file has.
-// Refuses 1 to 7.
+// Refuses 1 to 7, 24.
 pub fn check(file: &[u8]) -> Number
     ensures { λ r. ⌜ saidNumber r ≡ checkOf (now (file .entry)) ⌝ }
 {
@@ -89,7 +89,7 @@ fn least(l: Value) -> u32
 }
 
 // The size of an entry's type.
-// Refuses 1 to 7 (file), 8, 9 (it has none).
+// Refuses 1 to 7, 24 (file), 8, 9 (it has none).
 pub fn size(file: &[u8], entry: u32) -> Number
     ensures { λ r. ⌜ saidNumber r ≡ sizeCall (now (file .entry)) entry ⌝ }
 {
@@ -100,7 +100,7 @@ pub fn size(file: &[u8], entry: u32) -> Number
 }
 
 // The alignment of an entry's type.
-// Refuses 1 to 7 (file), 8, 9 (it has none).
+// Refuses 1 to 7, 24 (file), 8, 9 (it has none).
 pub fn align(file: &[u8], entry: u32) -> Number
     ensures { λ r. ⌜ saidNumber r ≡ alignCall (now (file .entry)) entry ⌝ }
 {
@@ -111,7 +111,7 @@ pub fn align(file: &[u8], entry: u32) -> Number
 }
 
 // The minimum size of an entry's type: of a runtime array one stride, of any other its size.
-// Refuses 1 to 7 (file), 8, 9 (it has none).
+// Refuses 1 to 7, 24 (file), 8, 9 (it has none).
 pub fn min_size(file: &[u8], entry: u32) -> Number
     ensures { λ r. ⌜ saidNumber r ≡ minSizeCall (now (file .entry)) entry ⌝ }
 {
@@ -122,7 +122,7 @@ pub fn min_size(file: &[u8], entry: u32) -> Number
 }
 
 // All four numbers of an entry's type, absent ones marked: size, alignment, minimum size, stride.
-// Refuses 1 to 7 (file), 8.
+// Refuses 1 to 7, 24 (file), 8.
 pub fn layout(file: &[u8], entry: u32) -> Answer
     ensures { λ r. ⌜ saidAnswer r ≡ layoutCall (now (file .entry)) entry ⌝ }
 {

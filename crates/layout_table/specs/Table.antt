@@ -66,7 +66,7 @@ pub record InTable : Type 0 where
   pub ground : Ground
   pub table : List (List ℕ)
 
--- 1 to 8
+-- 1 to 7, 24, 8
 unfoldable pub groundIn : List ℕ → ℕ → Said InTable
 groundIn f e = do
   ts ← typesOf f

@@ -2,7 +2,7 @@
 // refusal (`said::answer::Number`), but for `layout`, which answers all four numbers of an entry (`said::answer::Answer`), `view_at`, which
 // answers a target (`said::target::Walked`), the two views, which hand back a part of the buffer that they were lent, the four calls on
 // numbers alone, which answer a number, the two moves, which answer a length (`said::answer::Moved`), and `clean`, which answers what it
-// changed (`said::answer::Cleaned`).
+// changed (`said::answer::Cleaned`). The refusals of each stand over it; whatever takes a file gives 24 besides, after 1 to 7.
 
 // How many entries an accepted file has; else 1 to 7.
 pub use layout_ask::check;
@@ -44,8 +44,8 @@ pub use uniform::uniform;
 // A file in the other form, into a buffer (its length there); else 1 to 7, 15, and 20 on the way back.
 pub use forms::to_form_1;
 pub use forms::to_form_2;
-// A factory sheet and a site block of one struct: an inheriting block's mask, a fresh block, where a member lies, whether the site buffer shows it, its bytes in
-// the buffer that does, a scalar set on site, a member cleared; else 1 to 17, 21.
+// A factory sheet and a site block of one struct: an inheriting block's mask, a fresh block, where a member lies, whether the site buffer
+// shows it, its bytes in the buffer that does, a scalar set on site, a member cleared; else 1 to 17, 21.
 pub use site::clear::clear as site_clear;
 pub use site::mask::is_set as site_shows;
 pub use site::member::member as site_member;

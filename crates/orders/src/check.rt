@@ -1,4 +1,4 @@
-// `check_order`: 02's order is 1 to 8, 9, 23.
+// `check_order`: 02's order is 1 to 7, 24, 8, 9, 23.
 use file::kinds::STRUCT;
 use file::trailer::Trailered;
 use file::trailer::check_trailer;
@@ -72,7 +72,7 @@ fn check_entry_at(file: &[u8], e: usize, g: Ground, table: &[Row], order: &[u32]
 
 // Whether the members of entry `entry`, a struct, may stand in this order, given as their positions: every one once, a runtime array still
 // last, no number above the limit, and a smaller end, which is the answer: the size, or where the runtime array starts.
-// Refuses 1 to 7 (file), 8, 9 (no struct), 23 (any other order, of whatever length).
+// Refuses 1 to 7, 24 (file), 8, 9 (no struct), 23 (any other order, of whatever length).
 pub fn check_order(file: &[u8], entry: u32, order: &[u32]) -> Number
     ensures { λ r. ⌜ saidNumber r ≡ orderCall (now (file .entry)) entry (now (order .entry)) ⌝ }
 {

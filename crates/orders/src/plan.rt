@@ -1,4 +1,4 @@
-// `plan_order`: 02's order is 1 to 8, 9, 14.
+// `plan_order`: 02's order is 1 to 7, 24, 8, 9, 14.
 use file::kinds::STRUCT;
 use file::trailer::Trailered;
 use file::trailer::check_trailer;
@@ -49,7 +49,7 @@ fn plan_entry_at(file: &[u8], e: usize, g: Ground, table: &[Row], order: &mut [u
 
 // The positions of the members of entry `entry`, a struct, by falling alignment, ties as they stand, a runtime array last, into the front of
 // the list; answers how many. Later places stay. It is an order, and no gain is promised: `check_order` says whether it is one.
-// Refuses 1 to 7 (file), 8, 9 (no struct), 14 (the list is shorter than the members).
+// Refuses 1 to 7, 24 (file), 8, 9 (no struct), 14 (the list is shorter than the members).
 pub fn plan_order(file: &[u8], entry: u32, order: &mut [u32]) -> Number
     ensures answer { λ r. ⌜ saidNumber r ≡ answerOf (planCall (now (file .entry)) entry (now (order .entry))) ⌝ }
     ensures list { λ _. ⌜ now (order .exit) ≡ contentsOf (now (order .entry)) (planCall (now (file .entry)) entry (now (order .entry))) ⌝ }

@@ -72,7 +72,7 @@ fn put_field(t: Target, newbits: u32, offset: u32, count: u32, buf: &mut [u8]) -
 }
 
 // The bits of the one i32 or u32 that `path` leads to from entry `entry`: WGSL's extractBits, as a word (of an i32, its pattern).
-// Refuses 1 to 7 (file), 8, 17, 9 (no layout), 10, 15, 11 to 13 (the first bad step), 14 (no i32 or u32).
+// Refuses 1 to 7, 24 (file), 8, 17, 9 (no layout), 10, 15, 11 to 13 (the first bad step), 14 (no i32 or u32).
 pub fn extract_bits(
     file: &[u8],
     entry: u32,

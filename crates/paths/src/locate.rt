@@ -1,4 +1,4 @@
-// What a path leads to. Document 01's order is 1 to 8, 17, 9, for a set 10, then 15 and the first bad step.
+// What a path leads to. Document 01's order is 1 to 7, 24, 8, 17, 9, for a set 10, then 15 and the first bad step.
 use file::trailer::Trailered;
 use file::trailer::check_trailer;
 use layout_table::Ground;
@@ -105,7 +105,7 @@ fn target_at(
 }
 
 // What `path` leads to from entry `entry` in a buffer of so many bytes; `stored` says that the entry must be storable.
-// Refuses 1 to 7 (file), 8, 17, 9 (no layout), 10, 15, then 11 to 13 (the first bad step).
+// Refuses 1 to 7, 24 (file), 8, 17, 9 (no layout), 10, 15, then 11 to 13 (the first bad step).
 pub fn locate(file: &[u8], entry: u32, path: &[u32], bytes: usize, stored: bool) -> Walked
     ensures { λ r. ⌜ ((b : List ℕ) → length b ≡ bytes → saidWalked r ≡ reached (targetCall stored (now (file .entry)) entry (now (path .entry)) b)) ⌝ }
 {

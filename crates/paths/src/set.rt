@@ -108,7 +108,7 @@ pub fn set_scalar(t: Target, words: &[u32], buf: &mut [u8]) -> Number
 }
 
 // Stores `words` in the one scalar that `path` leads to from entry `entry`, the lowest first; answers its offset. Every other byte stays.
-// Refuses 1 to 7 (file), 8, 17, 9 (no layout), 10, 15, 11 to 13 (the first bad step), 14 (no scalar, or not as many words as it takes), 16.
+// Refuses 1 to 7, 24 (file), 8, 17, 9 (no layout), 10, 15, 11 to 13 (the first bad step), 14 (no scalar, or not as many words as it takes), 16.
 pub fn set(file: &[u8], entry: u32, path: &[u32], words: &[u32], buf: &mut [u8]) -> Number
     ensures answer { λ r. ⌜ saidNumber r ≡ answerOf (setCall (now (file .entry)) entry (now (path .entry)) (now (words .entry)) (now (buf .entry))) ⌝ }
     ensures buffer { λ _. ⌜ now (buf .exit) ≡ contentsOf (now (buf .entry)) (setCall (now (file .entry)) entry (now (path .entry)) (now (words .entry)) (now (buf .entry))) ⌝ }

@@ -11,7 +11,7 @@ ghost use Rattle.said.specs.Target.{saidWalked, reached, after};
 ghost use Rattle.paths.specs.View.{PartIs};
 
 // What `path` leads to from entry `entry`: its offset, its bytes and its scalar.
-// Refuses 1 to 7 (file), 8, 17, 9 (no layout), 15, then 11 to 13 (the first bad step).
+// Refuses 1 to 7, 24 (file), 8, 17, 9 (no layout), 15, then 11 to 13 (the first bad step).
 pub fn view_at(file: &[u8], entry: u32, path: &[u32], buf: &[u8]) -> Walked
     ensures { λ r. ⌜ saidWalked r ≡ reached (viewCall (now (file .entry)) entry (now (path .entry)) (now (buf .entry))) ⌝ }
 {

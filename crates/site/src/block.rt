@@ -1,4 +1,4 @@
-// What a block is, and its entry found: 1 to 8, 17, 9, 10, 21.
+// What a block is, and its entry found: 1 to 7, 24, 8, 17, 9, 10, 21.
 use file::kinds::STRUCT;
 use file::trailer::Trailered;
 use file::trailer::check_trailer;
@@ -67,7 +67,7 @@ fn allow_block(l: Value, mask: u64, bytes: usize) -> Allowed
     }
 }
 
-// Fills the table, and finds in it the block that entry `entry` is with this mask. Refuses 1 to 8, 17, 9, 10, 21.
+// Fills the table, and finds in it the block that entry `entry` is with this mask. Refuses 1 to 7, 24, 8, 17, 9, 10, 21.
 pub fn find_block(file: &[u8], entry: u32, mask: u64, bytes: usize, table: &mut [Row]) -> Grounded
     requires { ⌜ now table ≡ blankTable ⌝ }
     ensures { λ r. ⌜ saidGround r (now (table .exit)) ≡ blockGround (now (file .entry)) entry mask bytes ⌝ }

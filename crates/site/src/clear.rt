@@ -54,7 +54,7 @@ fn there_in(file: &[u8], e: usize, g: Ground, table: &[Row], k: u32) -> Allowed
 }
 
 // Whether member `k` of a block can be cleared.
-// Refuses 1 to 8, 9, 10, 21, 11 (no such member, place 0).
+// Refuses 1 to 7, 24, 8, 9, 10, 21, 11 (no such member, place 0).
 fn can_clear(file: &[u8], entry: u32, k: u32, mask: u64) -> Allowed
     ensures { λ r. ⌜ saidAllowed r ≡ canClear (now (file .entry)) entry k mask ⌝ }
 {
@@ -66,7 +66,7 @@ fn can_clear(file: &[u8], entry: u32, k: u32, mask: u64) -> Allowed
 }
 
 // Drops the bit of member `k`, which shows the factory's bytes again; the answer is 0.
-// Refuses 1 to 8, 9, 10, 21, 11 (no such member, place 0).
+// Refuses 1 to 7, 24, 8, 9, 10, 21, 11 (no such member, place 0).
 pub fn clear(file: &[u8], entry: u32, k: u32, mask: &mut u64) -> Number
     ensures answer { λ r. ⌜ saidNumber r ≡ zeroOf (clearCall (now (file .entry)) entry k (now (mask .entry))) ⌝ }
     ensures mask { λ _. ⌜ now (mask .exit) ≡ maskAfter (now (mask .entry)) (clearCall (now (file .entry)) entry k (now (mask .entry))) ⌝ }

@@ -28,7 +28,7 @@ fn member_in(file: &[u8], entry: u32, k: u32, mask: u64, factory: usize, site: u
 }
 
 // Where member `k` lies in its block: its offset, its bytes and its scalar.
-// Refuses 1 to 8, 17, 9, 10, 21, 15 (either buffer), 11 (no such member, place 0).
+// Refuses 1 to 7, 24, 8, 17, 9, 10, 21, 15 (either buffer), 11 (no such member, place 0).
 pub fn member_at(file: &[u8], entry: u32, k: u32, mask: u64, factory: &[u8], site: &[u8]) -> Walked
     ensures { λ r. ⌜ saidWalked r ≡ reached (memberCall (now (file .entry)) entry k mask (now (factory .entry)) (now (site .entry))) ⌝ }
 {

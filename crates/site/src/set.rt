@@ -49,7 +49,7 @@ fn store_in(s: Spot, on: bool, words: &[u32], factory: &[u8], site: &mut [u8]) -
 
 // Stores `words` in the one scalar that `path` leads to from member `k`, in the site buffer, and sets the member's bit; where it was clear,
 // the member's bytes are first copied from the factory buffer. The answer is the scalar's offset.
-// Refuses 1 to 8, 17, 9, 10, 21, 15 (either buffer), 11 (no such member, place 0), 11 to 13 (the first bad step), 14, 16.
+// Refuses 1 to 7, 24, 8, 17, 9, 10, 21, 15 (either buffer), 11 (no such member, place 0), 11 to 13 (the first bad step), 14, 16.
 pub fn set(
     file: &[u8],
     entry: u32,

@@ -95,7 +95,7 @@ fn spot_in(
 }
 
 // Member `k` of a block of entry `entry`, and what `path` leads to in it; the buffers have so many bytes.
-// Refuses 1 to 8, 17, 9, 10, 21, 15, 11 (the member, place 0), 11 to 13 (the first bad step).
+// Refuses 1 to 7, 24, 8, 17, 9, 10, 21, 15, 11 (the member, place 0), 11 to 13 (the first bad step).
 pub fn locate_in(
     file: &[u8],
     entry: u32,

@@ -17,7 +17,7 @@ ghost use Rattle.wgsl.specs.Site.{inheritingCall, freshCall, zeroOf, maskAfter,
 ghost use Rattle.said.specs.Answer.{saidNumber};
 
 // The mask of an inheriting block, 0; the answer is 0.
-// Refuses 1 to 8, 9, 10, 21.
+// Refuses 1 to 7, 24, 8, 9, 10, 21.
 pub fn inheriting(file: &[u8], entry: u32, mask: &mut u64) -> Number
     ensures answer { λ r. ⌜ saidNumber r ≡ zeroOf (inheritingCall (now (file .entry)) entry) ⌝ }
     ensures mask { λ _. ⌜ now (mask .exit) ≡ maskAfter (now (mask .entry)) (inheritingCall (now (file .entry)) entry) ⌝ }
@@ -42,7 +42,7 @@ fn copy_first(size: usize, factory: &[u8], site: &mut [u8])
 
 // A fresh block: the factory buffer's bytes, as many as the entry's size, copied into the site buffer, and every member's bit into the mask,
 // whatever it held; the answer is 0.
-// Refuses 1 to 8, 17, 9, 10, 21, 15 (either buffer), before anything is copied.
+// Refuses 1 to 7, 24, 8, 17, 9, 10, 21, 15 (either buffer), before anything is copied.
 pub fn fresh(file: &[u8], entry: u32, factory: &[u8], site: &mut [u8], mask: &mut u64) -> Number
     ensures answer { λ r. ⌜ saidNumber r ≡ siteAnswer (freshCall (now (file .entry)) entry (now (factory .entry)) (now (site .entry))) ⌝ }
     ensures site { λ _. ⌜ now (site .exit) ≡ siteAfter (now (site .entry)) (freshCall (now (file .entry)) entry (now (factory .entry)) (now (site .entry))) ⌝ }

@@ -137,7 +137,7 @@ fn uniform_at(file: &[u8], e: usize, g: Ground, table: &[Row]) -> Number
 }
 
 // Whether entry `entry` may live in a uniform buffer: 0, or what is in the way.
-// Refuses 1 to 7 (file), 8, 9 (no layout, or open), 10, 19 (the lowest entry, of it and those that it reaches, that breaks a rule).
+// Refuses 1 to 7, 24 (file), 8, 9 (no layout, or open), 10, 19 (the lowest entry, of it and those that it reaches, that breaks a rule).
 pub fn uniform(file: &[u8], entry: u32) -> Number
     ensures { λ r. ⌜ saidNumber r ≡ uniformCall (now (file .entry)) entry ⌝ }
 {

@@ -1,4 +1,4 @@
-// `read`: document 01's order is 1 to 8, 17, 9, 10, 15, 14.
+// `read`: document 01's order is 1 to 7, 24, 8, 17, 9, 10, 15, 14.
 use file::trailer::Trailered;
 use file::trailer::check_trailer;
 use layout_table::Ground;
@@ -134,7 +134,7 @@ fn read_entry_at(
 }
 
 // Reads the words of entry `entry` from the buffer's first bytes; answers their number. Later words stay.
-// Refuses 1 to 7 (file), 8, 17, 9 (no layout), 10, 15, 14.
+// Refuses 1 to 7, 24 (file), 8, 17, 9 (no layout), 10, 15, 14.
 pub fn read(file: &[u8], entry: u32, buf: &[u8], words: &mut [u32]) -> Number
     ensures answer { λ r. ⌜ saidNumber r ≡ answerOf (readCall (now (file .entry)) entry (now (buf .entry)) (now (words .entry))) ⌝ }
     ensures words { λ _. ⌜ now (words .exit) ≡ contentsOf (now (words .entry)) (readCall (now (file .entry)) entry (now (buf .entry)) (now (words .entry))) ⌝ }

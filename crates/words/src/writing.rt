@@ -1,4 +1,4 @@
-// `write`: document 01's order is 1 to 8, 17, 9, 10, 14, 15, 16.
+// `write`: document 01's order is 1 to 7, 24, 8, 17, 9, 10, 14, 15, 16.
 use file::trailer::Trailered;
 use file::trailer::check_trailer;
 use layout_table::Ground;
@@ -216,7 +216,7 @@ fn write_entry_at(
 }
 
 // Writes the words of entry `entry`, each at its place, and zero where none lies; answers the byte count.
-// Refuses 1 to 7 (file), 8, 17, 9 (no layout), 10, 14, 15, 16.
+// Refuses 1 to 7, 24 (file), 8, 17, 9 (no layout), 10, 14, 15, 16.
 pub fn write(file: &[u8], entry: u32, words: &[u32], buf: &mut [u8]) -> Number
     ensures answer { λ r. ⌜ saidNumber r ≡ answerOf (writeCall (now (file .entry)) entry (now (words .entry)) (now (buf .entry))) ⌝ }
     ensures buffer { λ _. ⌜ now (buf .exit) ≡ contentsOf (now (buf .entry)) (writeCall (now (file .entry)) entry (now (words .entry)) (now (buf .entry))) ⌝ }

@@ -29,10 +29,12 @@ returns c f n marks =
 
 loop-again : tie.Need-loop-again Inv-loop μ-loop
 loop-again c =
-    let l = c .before .before .before in
-    (omega arith, λ i h.
-    ⊎-elim (λ (low : i < l .loop .m). l .loop .inv .1 i low)
-    (λ (high : l .loop .m ≤ i). let last : i ≡ l .loop .m = omega arith in rw last (not-false _ (c .if1 .left))) (lt-or-le i (l .loop .m)))
+    let l = c .before .before .before in (
+      omega arith,
+      λ i h.
+          ⊎-elim (λ (low : i < l .loop .m). l .loop .inv .1 i low)
+          (λ (high : l .loop .m ≤ i). let last : i ≡ l .loop .m = omega arith in rw last (not-false _ (c .if1 .left))) (lt-or-le i (l .loop .m)),
+    )
 
 returns-2 : tie.Need-returns-2 Inv-loop μ-loop
 returns-2 c f n marks =

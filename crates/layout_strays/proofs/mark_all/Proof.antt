@@ -27,10 +27,13 @@ loop-again c =
     let call = c .before .before in
     let entry = call .before in
     let l = entry .before .before .before in
-    let s = l .before .before .before in
-    (omega arith, search needs, λ m low.
-    call .mark-entry .ensures m low
-    ∙ marks-next (now (s .args .f)) (l .loop .k) m (l .loop .inv .2 m low) (entry-there (s .pre .0) (l .loop .k) (entry .entry-at .ensures)))
+    let s = l .before .before .before in (
+      omega arith,
+      search needs,
+      λ m low.
+          call .mark-entry .ensures m low
+          ∙ marks-next (now (s .args .f)) (l .loop .k) m (l .loop .inv .2 m low) (entry-there (s .pre .0) (l .loop .k) (entry .entry-at .ensures)),
+    )
 
 returns : tie.Need-returns Inv-loop μ-loop
 returns c m low =

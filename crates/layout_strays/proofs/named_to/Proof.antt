@@ -23,9 +23,11 @@ loop-again : tie.Need-loop-again Inv-loop μ-loop
 loop-again c =
     let entry = c .before in
     let l = entry .before .before in
-    let s = l .before .before in
-    (omega arith, λ m low.
-    named-next (now (s .args .f)) (l .loop .k) m (entry-there (s .pre) (l .loop .k) (entry .entry-at .ensures)) (l .loop .inv .1) (c .further .ensures m low))
+    let s = l .before .before in (
+      omega arith,
+      λ m low.
+          named-next (now (s .args .f)) (l .loop .k) m (entry-there (s .pre) (l .loop .k) (entry .entry-at .ensures)) (l .loop .inv .1) (c .further .ensures m low),
+    )
 
 returns : tie.Need-returns Inv-loop μ-loop
 returns c m low =
