@@ -7,6 +7,7 @@ use mathlib.Core.Bool.{Bool, true, false, _&&_, _||_, or-true}
 use mathlib.Core.List.{List}
 use mathlib.Core.Logic.{_⊎_, inl, inr, ⊎-elim}
 use mathlib.Core.Path.{_≡_, refl, ap, sym, _∙_}
+use native.Mathlib.Nat.{eq-or-lt-of-le}
 use native.Mathlib.Numerals.{add-one}
 use native.Mathlib.Omega.{arith}
 use borrow.Author.Tests.{eqb-true, eqb-false, leb-true, eq-eqb, ne-eqb, le-leb, lt-ltb, le-ltb}
@@ -55,12 +56,17 @@ entry-there x k h = rw (← x .start-is) h
 or-second : (a b : Bool) → b ≡ true → (a || b) ≡ true
 or-second a b e = rw e (or-true a)
 
--- one entry more
-pub named-next : (f : List ℕ) (k m : ℕ) {far : ℕ} {e : TypeEntry} → e ≡ typeEntryAt f k → ((i : ℕ) → i < far → isNamed f k i ≡ true) → (m < far) ⊎ (namesMember e m ≡ true) → isNamed f (k + 1) m ≡ true
+is-named-by : (f : List ℕ) (j k m : ℕ) → k < j → namesMember (typeEntryAt f k) m ≡ true → isNamed f j m ≡ true
 unfolding isNamed
-named-next f k m is below either =
-    rw (add-one k) (⊎-elim (λ (l : m < _). rw (below m l) refl)
-    (λ (h : namesMember _ m ≡ true). or-second (isNamed f k m) (namesMember (typeEntryAt f k) m) (rw (← is) h)) either)
+is-named-by f zero k m l h = absurd (omega (arith, l))
+is-named-by f (suc j) k m l h =
+    ⊎-elim (λ (same : k ≡ j). or-second (isNamed f j m) (namesMember (typeEntryAt f j) m) (rw same at h))
+    (λ (low : k < j). rw (is-named-by f j k m low h) refl) (eq-or-lt-of-le {n = k} {m = j} (omega arith))
+
+-- what one entry names is named
+pub named-too : (f : List ℕ) (n k m : ℕ) {far : ℕ} {e : TypeEntry} → k < n → e ≡ typeEntryAt f k → ((i : ℕ) → i < far → isNamed f n i ≡ true) → (m < far) ⊎ (namesMember e m ≡ true) → isNamed f n m ≡ true
+named-too f n k m {far} {e} low is below either =
+    ⊎-elim (below m) (λ (h : namesMember e m ≡ true). is-named-by f n k m low (rw is at h)) either
 
 pub marks-next : (f : List ℕ) (k m : ℕ) {e : TypeEntry} {held : Bool} → held ≡ isNamed f k m → e ≡ typeEntryAt f k → (held || namesMember e m) ≡ isNamed f (k + 1) m
 unfolding isNamed

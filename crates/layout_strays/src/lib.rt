@@ -1,5 +1,5 @@
-// The lowest member that no struct names (02, E12). Structs mostly name their members one after the other, so that one pass over the entries
-// tells that all are named; where it does not, each is marked.
+// The lowest member that no struct names (02, E12). Structs mostly name their members one after the other, rising or falling, so that a pass
+// over the entries tells that all are named; where it does not, each is marked.
 use file::fields::TYPE_ENTRY_LENGTH;
 use file::fields::TypeEntry;
 use file::fields::entry_at;
@@ -36,8 +36,8 @@ fn further(e: TypeEntry, far: usize) -> usize
     to
 }
 
-// How far the structs, in the order of their entries, name members one after the other.
-fn named_to(f: &[u8], start: usize, types: usize) -> usize
+// How far the structs, from the lowest entry on, name members one after the other.
+fn named_up(f: &[u8], start: usize, types: usize) -> usize
     requires { ⌜ Entries (now f) start types ⌝ }
     ensures { λ r. ⌜ ((m : ℕ) → m < r → isNamed (now (f .entry)) types m ≡ true) ⌝ }
 {
@@ -46,6 +46,20 @@ fn named_to(f: &[u8], start: usize, types: usize) -> usize
     while k < types {
         far = further(entry_at(f, start + TYPE_ENTRY_LENGTH * k), far);
         k += 1;
+    }
+    far
+}
+
+// The same from the highest entry on.
+fn named_down(f: &[u8], start: usize, types: usize) -> usize
+    requires { ⌜ Entries (now f) start types ⌝ }
+    ensures { λ r. ⌜ ((m : ℕ) → m < r → isNamed (now (f .entry)) types m ≡ true) ⌝ }
+{
+    let mut far: usize = 0;
+    let mut k = types;
+    while 0 < k {
+        k -= 1;
+        far = further(entry_at(f, start + TYPE_ENTRY_LENGTH * k), far);
     }
     far
 }
@@ -110,7 +124,10 @@ pub fn lowest_stray(f: &[u8], start: usize, types: usize, members: usize) -> usi
     requires { ⌜ Entries (now f) start types × (members ≤ 1024) ⌝ }
     ensures { λ r. ⌜ refuse 24 r (ltb r members) ≡ allNamed (now (f .entry)) types members ⌝ }
 {
-    if members <= named_to(f, start, types) {
+    if members <= named_up(f, start, types) {
+        return members;
+    }
+    if members <= named_down(f, start, types) {
         return members;
     }
     let mut named = [false; 1024];

@@ -6,12 +6,12 @@ use native.Mathlib.Omega.{arith}
 use borrow.Author.Needs.{needs}
 use denote.Ref.{now}
 use Rattle.wgsl.specs.Rule.{isNamed}
-use Rattle.layout_strays.proofs.Named.{entry-there, named-next}
-use Rattle.layout_strays.proofs.named_to.Statement.{statement}
-use Rattle.layout_strays.proofs.named_to.Tie as tie
+use Rattle.layout_strays.proofs.Named.{entry-there, named-too}
+use Rattle.layout_strays.proofs.named_up.Statement.{statement}
+use Rattle.layout_strays.proofs.named_up.Tie as tie
 
 abbrev Inv-loop : tie.InvT-loop
-Inv-loop f start types far₀ k₀ far k = (k ≤ types) × ((m : ℕ) → m < far → isNamed f k m ≡ true)
+Inv-loop f start types far₀ k₀ far k = (k ≤ types) × ((m : ℕ) → m < far → isNamed f types m ≡ true)
 
 abbrev μ-loop : tie.MeasureT-loop
 μ-loop f start types far₀ k₀ far k = types - k
@@ -23,20 +23,19 @@ loop-again : tie.Need-loop-again Inv-loop μ-loop
 loop-again c =
     let entry = c .before in
     let l = entry .before .before in
-    let s = l .before .before in (
+    let s = l .before .before in
+    let k = l .loop .k in (
       omega arith,
       λ m low.
-          named-next (now (s .args .f)) (l .loop .k) m (entry-there (s .pre) (l .loop .k) (entry .entry-at .ensures)) (l .loop .inv .1) (c .further .ensures m low),
+          named-too (now (s .args .f)) (s .args .types) k m (omega arith) (entry-there (s .pre) k (entry .entry-at .ensures)) (l .loop .inv .1)
+          (c .further .ensures m low),
     )
 
 returns : tie.Need-returns Inv-loop μ-loop
-returns c m low =
-    let l = c .before in
-    let all : l .loop .k ≡ l .before .before .args .types = omega (arith, l .loop .inv .0) in
-    rw all at (l .loop .inv .1 m low)
+returns c = c .before .loop .inv .1
 
-pub named-to-spec : {M : Type 1} → statement M
-named-to-spec =
+pub named-up-spec : {M : Type 1} → statement M
+named-up-spec =
     tie.close (tie.spec
     Inv-loop μ-loop loop-holds (λ c. search needs) (λ c. search needs) (λ c κs. search needs) (λ c κs. search needs) (λ c. search needs)
     (λ c. search needs) loop-again returns)
