@@ -95,7 +95,7 @@ module _ {from form : ℕ} {name f : List ℕ} (o : OfForm from f) (x : Form for
     accepted = moved-types t form name (x .low) (x .high) (x .wide) ∙ o .accepted;
   }
 
--- It answers as the given one, which may be refused by 5 to 7.
+-- It answers as the given one, which may be refused by 5 to 7 or 24.
 moved-answers : {form : ℕ} {name f : List ℕ} → Trailed f (trailerOf f) → Form form name → SameAnswers f (movedTo form name f)
 moved-answers {form} {name} t x =
     same-answers (moved-same t form name (x .low) (x .high) (x .wide))

@@ -266,7 +266,7 @@ wide-cases = wide-cases-pass
 pub names-ignored : (f : List ℕ) (r : Trailer) → checkTrailer f ≡ good r → SameAnswers f (toForm1 f)
 names-ignored = moves.names-ignored
 
--- The move on is good exactly if it is given a form 1 file that passes 1 to 7, and room;
+-- The move on is good exactly if it is given a form 1 file that passes 1 to 7 and, since E12, 24, and room;
 pub move-on-good-if : (f out : List ℕ) → GoodIf (moveOnCall f out) (CanMoveOn f out)
 move-on-good-if = moves.move-on-good-if
 

@@ -24,7 +24,7 @@ use Rattle.wgsl.specs.Rank.{Candidate, rankOf, commonOfAll}
 
 -- ---- check
 
--- 1 to 7: how many entries the file has
+-- 1 to 7, 24: how many entries the file has
 unfoldable pub checkOf : List ℕ → Said ℕ
 checkOf f = do
   ts ← typesOf f

@@ -370,18 +370,18 @@ pub record SameAnswers (f g : List ℕ) : Type 0 where
 
 -- ---- the two forms
 
--- f has this form, and none of 1 to 7 is due
+-- f has this form, and none of 1 to 7 and 24 is due
 pub record OfForm (form : ℕ) (f : List ℕ) : Type 0 where
   pub form-is : trailerOf f .form ≡ form
   pub types : List Ty
   pub accepted : typesOf f ≡ good types
 
--- none of 1 to 7 and 15 is due to the move on: a form 1 file, and room
+-- none of 1 to 7, 24 and 15 is due to the move on: a form 1 file, and room
 pub record CanMoveOn (f out : List ℕ) : Type 0 where
   pub file : OfForm 1 f
   pub room : length (toForm2 f) ≤ length out
 
--- "the move back accepts a form 2 file that passes 1 to 7 and has room exactly if all names of its M members are 0"
+-- "the move back accepts a form 2 file that passes 1 to 7" (since E12 24 too) "and has room exactly if all names of its M members are 0"
 pub record CanMoveBack (f out : List ℕ) : Type 0 where
   pub file : OfForm 2 f
   pub no-names : (m : ℕ) → m < trailerOf f .members → nameAt f m ≡ 0

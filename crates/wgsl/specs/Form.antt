@@ -59,7 +59,7 @@ toForm1 f = movedTo 1 [] f
 
 -- ---- the two calls
 
--- 1, then 2: "a form 1 file given to the move back, or a form 2 file to the move on"; then 3 to 7
+-- 1, then 2: "a form 1 file given to the move back, or a form 2 file to the move on"; then 3 to 7, 24
 unfoldable pub formIs : ℕ → List ℕ → Said (Unit {0})
 formIs form f = do
   refuse 1 0 (ltb (length f) trailerLength)
@@ -82,7 +82,7 @@ moveOnCall f out = do
   formIs 1 f
   putOut (toForm2 f) out
 
--- 20: "a name not 0, after 1 to 7"
+-- 20: "a name not 0, after 1 to 7"; E12: 24 "before E7's 20"
 unfoldable pub moveBackCall : List ℕ → List ℕ → Said Done
 moveBackCall f out = do
   formIs 2 f
