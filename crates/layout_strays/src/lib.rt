@@ -36,30 +36,28 @@ fn further(e: TypeEntry, far: usize) -> usize
     to
 }
 
-// How far the structs, from the lowest entry on, name members one after the other.
-fn named_up(f: &[u8], start: usize, types: usize) -> usize
+// The k-th entry on a way through them all, from the lowest on or from the highest.
+fn turn(falling: bool, types: usize, k: usize) -> usize
+    requires { ⌜ k < types ⌝ }
+    ensures { λ r. ⌜ r < types ⌝ }
+{
+    if falling {
+        return types - 1 - k;
+    }
+    k
+}
+
+// How far the structs, on one of these ways, name members one after the other.
+fn named_to(f: &[u8], start: usize, types: usize, falling: bool) -> usize
     requires { ⌜ Entries (now f) start types ⌝ }
     ensures { λ r. ⌜ ((m : ℕ) → m < r → isNamed (now (f .entry)) types m ≡ true) ⌝ }
 {
     let mut far: usize = 0;
     let mut k: usize = 0;
     while k < types {
-        far = further(entry_at(f, start + TYPE_ENTRY_LENGTH * k), far);
+        let j = turn(falling, types, k);
+        far = further(entry_at(f, start + TYPE_ENTRY_LENGTH * j), far);
         k += 1;
-    }
-    far
-}
-
-// The same from the highest entry on.
-fn named_down(f: &[u8], start: usize, types: usize) -> usize
-    requires { ⌜ Entries (now f) start types ⌝ }
-    ensures { λ r. ⌜ ((m : ℕ) → m < r → isNamed (now (f .entry)) types m ≡ true) ⌝ }
-{
-    let mut far: usize = 0;
-    let mut k = types;
-    while 0 < k {
-        k -= 1;
-        far = further(entry_at(f, start + TYPE_ENTRY_LENGTH * k), far);
     }
     far
 }
@@ -124,10 +122,10 @@ pub fn lowest_stray(f: &[u8], start: usize, types: usize, members: usize) -> usi
     requires { ⌜ Entries (now f) start types × (members ≤ 1024) ⌝ }
     ensures { λ r. ⌜ refuse 24 r (ltb r members) ≡ allNamed (now (f .entry)) types members ⌝ }
 {
-    if members <= named_up(f, start, types) {
+    if members <= named_to(f, start, types, false) {
         return members;
     }
-    if members <= named_down(f, start, types) {
+    if members <= named_to(f, start, types, true) {
         return members;
     }
     let mut named = [false; 1024];

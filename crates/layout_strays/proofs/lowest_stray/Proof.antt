@@ -9,12 +9,12 @@ use Rattle.layout_strays.proofs.lowest_stray.Tie as tie
 returns : tie.Need-returns
 returns c =
     let a = c .before .before .before .args in
-    verdict-none (now (a .f)) (a .types) (a .members) (λ i low. c .before .named-up .ensures i (omega arith))
+    verdict-none (now (a .f)) (a .types) (a .members) (λ i low. c .before .named-to .ensures i (omega arith))
 
 returns-2 : tie.Need-returns-2
 returns-2 c =
     let a = c .before .before .before .before .before .args in
-    verdict-none (now (a .f)) (a .types) (a .members) (λ i low. c .before .named-down .ensures i (omega arith))
+    verdict-none (now (a .f)) (a .types) (a .members) (λ i low. c .before .named-to2 .ensures i (omega arith))
 
 mark-all-requires : tie.Need-mark-all-requires
 mark-all-requires c κs =
