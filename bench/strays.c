@@ -1,6 +1,6 @@
 /* How long a check of a file takes, which looks for members that no struct names: in a table of as many types and members as there can be,
- * 255 structs of four members each, the last of eight, that stand in the order of their members, and the other way round; and in two small
- * ones. The best of 200 times 50 calls. */
+ * 255 structs of four members each, the last of eight, that stand in the order of their members, the other way round, and scattered; and in
+ * two small ones. The best of 200 times 50 calls. */
 #include <stdio.h>
 #include <stdlib.h>
 #include <string.h>
@@ -13,12 +13,14 @@ static uint8_t file[12 * (1 + STRUCTS + MEMBERS) + 10];
 static const struct table {
     const char *name;
     uint32_t structs, members;
-    int falling;
+    /* from a struct's place to the next one's, around the table; 0: falling */
+    uint32_t step;
 } tables[] = {
-    {"a u32", 0, 0, 0},
-    {"a struct of 5 members", 1, 5, 0},
-    {"255 structs of 1024 members, rising", STRUCTS, MEMBERS, 0},
-    {"255 structs of 1024 members, falling", STRUCTS, MEMBERS, 1},
+    {"a u32", 0, 0, 1},
+    {"a struct of 5 members", 1, 5, 1},
+    {"255 structs of 1024 members, rising", STRUCTS, MEMBERS, 1},
+    {"255 structs of 1024 members, falling", STRUCTS, MEMBERS, 0},
+    {"255 structs of 1024 members, scattered", STRUCTS, MEMBERS, 97},
 };
 
 static void put_16(uint8_t *at, uint32_t number) {
@@ -33,7 +35,7 @@ static size_t fill(const struct table *t) {
     memset(file, 0, sizeof file);
     file[0] = 2;
     for (uint32_t k = 0; k < t->structs; k++) {
-        uint8_t *type = file + 12 * (t->falling ? t->structs - k : 1 + k);
+        uint8_t *type = file + 12 * (t->step ? 1 + k * t->step % t->structs : t->structs - k);
         type[0] = 12;
         put_16(type + 4, each * k);
         put_16(type + 8, k + 1 < t->structs ? each : t->members - each * k);
@@ -51,7 +53,7 @@ static double nanoseconds(void) {
 }
 
 int main(void) {
-    printf("%-36s %12s   nanoseconds\n", "", "check");
+    printf("%-38s %12s   nanoseconds\n", "", "check");
     for (const struct table *t = tables; t < tables + sizeof tables / sizeof *tables; t++) {
         size_t length = fill(t);
         double best = 1e18;
@@ -64,7 +66,7 @@ int main(void) {
             double took = (nanoseconds() - began) / CALLS;
             if (took < best) best = took;
         }
-        printf("%-36s %12.0f\n", t->name, best);
+        printf("%-38s %12.0f\n", t->name, best);
     }
     return 0;
 }
