@@ -1,6 +1,6 @@
 /* How long a check of a file takes, which looks for members that no struct names: in a table of as many types and members as there can be,
- * 255 structs of four members each, the last of eight, that stand in the order of their members, the other way round, and scattered; and in
- * two small ones. The best of 200 times 50 calls. */
+ * 255 structs of four members each, the last of eight, that stand in the order of their members, the other way round, and scattered, each
+ * alone with its members or naming one more, the next one's first; and in two small ones. The best of 200 times 50 calls. */
 #include <stdio.h>
 #include <stdlib.h>
 #include <string.h>
@@ -15,12 +15,15 @@ static const struct table {
     uint32_t structs, members;
     /* from a struct's place to the next one's, around the table; 0: falling */
     uint32_t step;
+    /* members of the next struct that each names too */
+    uint32_t shared;
 } tables[] = {
-    {"a u32", 0, 0, 1},
-    {"a struct of 5 members", 1, 5, 1},
-    {"255 structs of 1024 members, rising", STRUCTS, MEMBERS, 1},
-    {"255 structs of 1024 members, falling", STRUCTS, MEMBERS, 0},
-    {"255 structs of 1024 members, scattered", STRUCTS, MEMBERS, 97},
+    {"a u32", 0, 0, 1, 0},
+    {"a struct of 5 members", 1, 5, 1, 0},
+    {"255 structs of 1024 members, rising", STRUCTS, MEMBERS, 1, 0},
+    {"255 structs of 1024 members, falling", STRUCTS, MEMBERS, 0, 0},
+    {"255 structs of 1024 members, scattered", STRUCTS, MEMBERS, 97, 0},
+    {"the same, each naming one more", STRUCTS, MEMBERS, 97, 1},
 };
 
 static void put_16(uint8_t *at, uint32_t number) {
@@ -38,7 +41,7 @@ static size_t fill(const struct table *t) {
         uint8_t *type = file + 12 * (t->step ? 1 + k * t->step % t->structs : t->structs - k);
         type[0] = 12;
         put_16(type + 4, each * k);
-        put_16(type + 8, k + 1 < t->structs ? each : t->members - each * k);
+        put_16(type + 8, k + 1 < t->structs ? each + t->shared : t->members - each * k);
     }
     put_16(trailer, 1 + t->structs);
     put_16(trailer + 2, t->members);

@@ -1,2 +1,3 @@
--- Laws of members that are named, or marked.
+-- Laws of members that are named, and of their marks.
 pub mod Named
+pub mod InWords

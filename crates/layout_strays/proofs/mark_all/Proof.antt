@@ -17,10 +17,10 @@ abbrev μ-loop : tie.MeasureT-loop
 μ-loop f start types members named₀ k₀ named k = types - k
 
 loop-holds : tie.Need-loop-holds Inv-loop μ-loop
-loop-holds c = (omega arith, refl, c .before .before .pre .2)
+loop-holds c = (omega arith, refl, c .before .before .pre .3)
 
 mark-entry-requires : tie.Need-mark-entry-requires Inv-loop μ-loop
-mark-entry-requires c κs = let l = c .before .before .before in omega (arith, l .loop .inv .1, l .before .before .before .pre .1)
+mark-entry-requires c κs = let l = c .before .before .before in let s = l .before .before .before in (s .pre .1, l .loop .inv .1 ∙ s .pre .2)
 
 loop-again : tie.Need-loop-again Inv-loop μ-loop
 loop-again c =
