@@ -54,6 +54,9 @@ pub mod Demand
 pub mod OnePath
 pub mod ScalarRank
 pub mod Rank
+pub mod Common
+pub mod SameType
+pub mod CommonCall
 pub mod Case
 pub mod StrideCase
 pub mod BoolCase
@@ -65,6 +68,7 @@ pub mod SiteMask
 pub mod SiteWitness
 pub mod StartWitness
 pub mod StrayWitness
+pub mod CommonWitness
 pub mod CleanWitness
 pub mod OrderWitness
 pub mod Site
@@ -74,6 +78,7 @@ pub mod Starts
 pub mod SiteCase
 pub mod StartCase
 pub mod StrayCase
+pub mod CommonCase
 pub mod CleanCase
 pub mod OrderCase
 pub mod OrderList

@@ -1,8 +1,7 @@
 -- Laws of conversion ranks and common types (specs/Rank).
 --
--- In order: lists of numbers; the same type (`Same`), and when that is equality; ranks of types; the common type of two entries; of a
--- list.
--- Not here: ranks of scalars (`ScalarRank`).
+-- In order: lists of numbers; the same type, and when that is equality; ranks of types; the common type of two entries; of a list.
+-- Not here: ranks of scalars (`ScalarRank`); lists in any order and grouping (`Common`).
 -- Assumes nothing.
 use Prim.Native.Nat.{ℕ, _+_}
 use mathlib.Core.List.{List, [], _∷_, List·Memᴰ, List·Memᴰ·head, List·Memᴰ·tail, List·Memᴰ·cases-cons, List·Memᴰ·eq-of-singleton}
@@ -16,7 +15,8 @@ use lib.Dec.{eqb}
 use lib.ListN.{getD}
 use Rattle.wgsl.specs.Types.{Scalar, bool, Ty, scalar, vector, matrix, array, runtime, atomic, struct, Members}
 use Rattle.wgsl.specs.Rank.{outlineOf, leafOf, sameNumbers, leafRank, rankOf, Candidate, firstOf, commonOf, commonWith}
-use Rattle.wgsl.proofs.ScalarRank.{scalars, scalar-found, leaf-refl, leaf-zero, leaf-add}
+use Rattle.wgsl.specs.CommonClaim.{Same, Converts}
+use Rattle.wgsl.proofs.ScalarRank.{scalars, scalar-found, leaf-refl, leaf-zero, leaf-add, leaf-chain}
 
 -- Lists of numbers that the test calls the same are equal.
 pub same-numbers : (ms ns : List ℕ) → sameNumbers ms ns ≡ true → ms ≡ ns
@@ -36,11 +36,6 @@ numbers-refl (m ∷ ms) = rw (eq-eqb m m refl) (numbers-refl ms)
 -- Equal lists of numbers pass the test.
 pub numbers-same : {ms ns : List ℕ} → ms ≡ ns → sameNumbers ms ns ≡ true
 numbers-same {ms} e = rw (← e) (numbers-refl ms)
-
--- The two are the same type, compared by structure, structs by entry number.
-pub record Same (a b : Ty) : Type 0 where
-  pub outline : outlineOf a ≡ outlineOf b
-  pub leaf : leafOf a ≡ leafOf b
 
 -- A type is the same as itself.
 pub same-refl : {a : Ty} → Same a a
@@ -131,11 +126,6 @@ rank-both a b {r} {s} p q =
     let r-zero : r ≡ 0 = omega arith in
     rank-same a b (rw (← r-zero) p)
 
--- The first type converts to the second.
-pub record Converts (a b : Ty) : Type 0 where
-  pub rank : ℕ
-  pub has : rankOf a b ≡ some rank
-
 -- A type converts to itself.
 pub converts-refl : {a : Ty} → Converts a a
 converts-refl = record { rank = 0; has = same-rank same-refl }
@@ -143,6 +133,16 @@ converts-refl = record { rank = 0; has = same-rank same-refl }
 -- Conversion passes through a type in between.
 pub converts-trans : {a b c : Ty} → Converts a b → Converts b c → Converts a c
 converts-trans {a} {b} {c} h k = record { rank = h .rank + k .rank; has = rank-add a b c (h .has) (k .has) }
+
+-- Of two types that convert to a third, one converts to the other.
+pub converts-chain : {a b c : Ty} → Converts a c → Converts b c → Converts a b ⊎ Converts b a
+converts-chain {a} {b} {c} h k =
+    let x = rank-parts a c (h .has) in
+    let y = rank-parts b c (k .has) in
+    ⊎-elim
+    (λ (t : (n : ℕ) × (leafRank (leafOf a) (leafOf b) ≡ some n)). inl (record { rank = t .0; has = rank-made a b (x .0 ∙ sym (y .0)) ∙ t .1 }))
+    (λ (t : (n : ℕ) × (leafRank (leafOf b) (leafOf a) ≡ some n)). inr (record { rank = t .0; has = rank-made b a (y .0 ∙ sym (x .0)) ∙ t .1 }))
+    (leaf-chain (leafOf a) (leafOf b) (leafOf c) (x .1) (y .1))
 
 first-some : {A B : Type 0} (x : Option ℕ) (a : A) (other : Option A) {c : A} → firstOf x a other ≡ some c → (c ≡ a → (r : ℕ) → x ≡ some r → B) → (other ≡ some c → B) → B
 unfolding firstOf

@@ -2,13 +2,13 @@
 --
 -- Here: E1, strides; E2, bit fields; E4, vectors of three bools; E5, the uniform profile; E6, scalars of 64 bits; E7, the two forms of a
 -- file; E8, factory sheet and site block; E9, the gaps cleaned; E10, a better member order; E11, the two starts of a site block; E12, members
--- that nobody names.
+-- that nobody names; E13, common types in any order and grouping.
 -- That the places of refusals fit and what the calls have in common with those of 01 stands in Claims.
 -- Assumes nothing.
 use Prim.Native.Nat.{ℕ, _+_, _-_, _*_, _%_, _^_, _<_, _≤_, max, min}
 use mathlib.Core.Bool.{true, false, cond}
-use mathlib.Core.List.{List, _∷_, [], _++_, map}
-use mathlib.Core.Option.{Option, some}
+use mathlib.Core.List.{List, _∷_, [], _++_, map, List·Memᴰ}
+use mathlib.Core.Option.{Option, none, some}
 use mathlib.Core.Path.{_≡_}
 use lib.Dec.{T}
 use lib.IntN.{pos, _-ℤ_}
@@ -20,9 +20,9 @@ use Rattle.wgsl.specs.Size.{present, widthOf, sizeOf, alignOf, ownStride
 use Rattle.wgsl.specs.Said.{good, refused}
 use Rattle.wgsl.specs.Rule.{isWellFormed, countOf, typesBelow, typesOf}
 use Rattle.wgsl.specs.Place.{shapeOf, spanOf, one, elementsIn, Place, wordsFor, wordPlaces, places, wordCount, wordsRead}
-use Rattle.wgsl.specs.Call.{Done, entryOf, entryFor, readCall, writeCall, setCall}
+use Rattle.wgsl.specs.Call.{Done, entryOf, entryFor, readCall, writeCall, setCall, rankCall, commonCall}
 use Rattle.wgsl.specs.Path.{Target, walk, stepOf}
-use Rattle.wgsl.specs.Rank.{scalarRank}
+use Rattle.wgsl.specs.Rank.{scalarRank, rankOf, Candidate, commonOfAll}
 use Rattle.wgsl.specs.BitField.{startOf, bitsOf, bitAt, extractedU32, extractedI32, repeatedTop, inserted, signedOf, bitExtracted, bitInserted}
 use Rattle.wgsl.specs.BitFieldCase.{fieldCasesPass}
 use Rattle.wgsl.specs.BitFieldCall.{isInteger, isSigned, FoundInteger, integerOf, integerAt, extractCall, insertCall}
@@ -48,6 +48,8 @@ use Rattle.wgsl.specs.CleanCase.{cleanCasesPass}
 use Rattle.wgsl.specs.Order.{plannedOrder, planCall, endOf, orderCall}
 use Rattle.wgsl.specs.OrderClaim.{IsPlanned, CanPlan, Accepted, CanOrder}
 use Rattle.wgsl.specs.OrderCase.{orderCasesPass}
+use Rattle.wgsl.specs.CommonClaim.{SameMembers, PartOf, Grouping, membersIn, commonOfGrouping, groupingCall, Same, IsCommon, AllEntries, SameCommon, Alike}
+use Rattle.wgsl.specs.CommonCase.{commonCasesPass}
 use Rattle.wgsl.proofs.Stride as stride
 use Rattle.wgsl.proofs.StrideCase.{stride-cases-pass}
 use Rattle.wgsl.proofs.BitField as field
@@ -77,6 +79,11 @@ use Rattle.wgsl.proofs.CleanCase.{clean-cases-pass}
 use Rattle.wgsl.proofs.OrderPlanned as planned
 use Rattle.wgsl.proofs.OrderCall as order-call
 use Rattle.wgsl.proofs.OrderCase.{order-cases-pass}
+use Rattle.wgsl.proofs.Rank as rank
+use Rattle.wgsl.proofs.Common as common
+use Rattle.wgsl.proofs.SameType as same-type
+use Rattle.wgsl.proofs.CommonCall as common-call
+use Rattle.wgsl.proofs.CommonCase.{common-cases-pass}
 
 -- ---- E1: strides
 
@@ -478,3 +485,69 @@ entries-first = strays.entries-first
 -- Members named once and twice, strays at each end and between, and 24 among the other refusals.
 pub stray-cases : T strayCasesPass
 stray-cases = stray-cases-pass
+
+-- ---- E13: any order of operands
+
+-- "It is about types": of one accepted file, types that are the same by structure, structs by entry number, are equal.
+pub same-is-equal : (f : List ℕ) (a b : ℕ) {s t : Ty} → entryOf f a ≡ good s → entryOf f b ≡ good t → Same s t → s ≡ t
+same-is-equal = same-type.same-is-equal
+
+-- "the common type of a list is the same type, .. whatever the order .. of its members, repeats included": first of types,
+pub common-any-order : (cs ds : List Candidate) → SameMembers cs ds → SameCommon (commonOfAll cs) (commonOfAll ds)
+common-any-order = common.any-order
+
+-- "or grouping",
+pub common-any-grouping : (g : Grouping Candidate) (cs : List Candidate) → SameMembers (membersIn g) cs → SameCommon (commonOfGrouping g) (commonOfAll cs)
+common-any-grouping = common.any-grouping
+
+-- and a list of which a part has none has none.
+pub common-of-part : (cs ds : List Candidate) → PartOf cs ds → commonOfAll cs ≡ none → commonOfAll ds ≡ none
+common-of-part = common.part-none
+
+-- The same of the call `common`, on any file, for any numbers: entries of one type, or one refusal.
+pub any-order : (f es fs : List ℕ) → SameMembers es fs → Alike f (commonCall f es) (commonCall f fs)
+any-order = common-call.any-order
+
+-- Part by part, and then together, the same.
+pub any-grouping : (f : List ℕ) (g : Grouping ℕ) (es : List ℕ) → SameMembers (membersIn g) es → AllEntries f es → Alike f (groupingCall f g) (commonCall f es)
+any-grouping = common-call.any-grouping
+
+-- 18 of a part is 18 of the whole.
+pub part-refused : (f es fs : List ℕ) → PartOf es fs → AllEntries f fs → commonCall f es ≡ refused 18 0 → commonCall f fs ≡ refused 18 0
+part-refused = common-call.part-refused
+
+-- A list with a number that is no entry gives 8, and no grouping of it is answered.
+pub no-entry : (f es : List ℕ) (e : ℕ) {ts : List Ty} → typesOf f ≡ good ts → length ts ≤ e → List·Memᴰ e es → commonCall f es ≡ refused 8 0
+no-entry = common-call.no-entry
+
+pub no-entry-grouped : (f : List ℕ) (g : Grouping ℕ) (e n : ℕ) {ts : List Ty} → typesOf f ≡ good ts → length ts ≤ e → List·Memᴰ e (membersIn g) → groupingCall f g ≡ good n → ⊥
+no-entry-grouped = common-call.no-entry-grouped
+
+-- "An empty list gives 18"
+pub empty-list : (f : List ℕ) {ts : List Ty} → typesOf f ≡ good ts → commonCall f [] ≡ refused 18 0
+empty-list = common-call.empty-list
+
+-- Why the order does not count: the call is good exactly if one of the list is there to which all of it convert, and such a one is the answer.
+pub common-good-if : (f es : List ℕ) → GoodIf (commonCall f es) ((c : ℕ) × IsCommon f c es)
+common-good-if = common-call.common-good-if
+
+pub common-is : (f es : List ℕ) (c : ℕ) → commonCall f es ≡ good c → IsCommon f c es
+common-is = common-call.common-is
+
+-- "Where a converts to b and b to c, a converts to c and the ranks add up": of types, and of the call `rank`.
+pub rank-adds : (a b c : Ty) {r s : ℕ} → rankOf a b ≡ some r → rankOf b c ≡ some s → rankOf a c ≡ some (r + s)
+rank-adds = rank.rank-add
+
+pub ranks-add-up : (f : List ℕ) (a b c r s : ℕ) → rankCall f a b ≡ good r → rankCall f b c ≡ good s → rankCall f a c ≡ good (r + s)
+ranks-add-up = common-call.ranks-add-up
+
+-- Entries have the rank 0 exactly if their types are equal.
+pub rank-zero : (f : List ℕ) (a b : ℕ) (t : Ty) → entryOf f a ≡ good t → entryOf f b ≡ good t → rankCall f a b ≡ good 0
+rank-zero = common-call.rank-zero
+
+pub zero-rank : (f : List ℕ) (a b : ℕ) → rankCall f a b ≡ good 0 → (t : Ty) × (entryOf f a ≡ good t) × (entryOf f b ≡ good t)
+zero-rank = common-call.zero-rank
+
+-- Orders and groupings with one answer, with two numbers of one type, with 18 and with 8; ranks that add up.
+pub common-cases : T commonCasesPass
+common-cases = common-cases-pass

@@ -1,11 +1,13 @@
 -- Laws of the ranks of scalars (specs/Rank, `scalarRank` and `leafRank`).
 --
--- In order: every scalar, in a list; the rank 0; ranks add up; the same of the scalar inside a type, if it has one.
+-- In order: every scalar, in a list; the rank 0; ranks add up; what converts to one scalar is a chain; the same of the scalar inside a
+-- type, if it has one.
 -- Assumes nothing.
 use Prim.Native.Nat.{ℕ, zero, suc, _+_}
 use mathlib.Core.List.{List, [], _∷_}
 use mathlib.Core.Bool.{Bool, true, false, _&&_, and-eq-true-iff}
-use mathlib.Core.Option.{Option, none, some}
+use mathlib.Core.Option.{Option, none, some, Option·none-ne-some}
+use mathlib.Core.Logic.{_⊎_, inl, inr}
 use mathlib.Core.Path.{_≡_, refl, ap, sym, _∙_}
 use native.Mathlib.Nat.{zero-add}
 use borrow.Author.Tests.{eqb-true}
@@ -13,6 +15,7 @@ use lib.Dec.{eqb}
 use lib.ListN.{getD}
 use Rattle.wgsl.specs.Types.{Scalar, bool, i32, u32, f32, f16, abstractInt, abstractFloat, i64, u64, f64, scalarKind}
 use Rattle.wgsl.specs.Rank.{fromAbstractInt, fromAbstractFloat, ifSame, scalarRank, leafRank}
+use Rattle.wgsl.proofs.Absent.{true-not-false}
 
 -- every scalar, by its kind; kinds 7 to 12 are no scalars'
 pub scalars : List Scalar
@@ -112,6 +115,32 @@ scalar-add a b c p q =
     sums : Scalar → Scalar → Scalar → Bool
     sums a b c = adds (scalarRank a b) (scalarRank b c) (scalarRank a c)
 
+-- one of the last two ranks is there, if the first two are
+either : Option ℕ → Option ℕ → Option ℕ → Option ℕ → Bool
+either none y p q = true
+either (some r) none p q = true
+either (some r) (some s) (some t) q = true
+either (some r) (some s) none (some t) = true
+either (some r) (some s) none none = false
+
+either-true : (x y p q : Option ℕ) {r s : ℕ} → either x y p q ≡ true → x ≡ some r → y ≡ some s → ((t : ℕ) × (p ≡ some t)) ⊎ ((t : ℕ) × (q ≡ some t))
+unfolding either
+either-true none y p q e f g = absurd (Option·none-ne-some _ f)
+either-true (some r) none p q e f g = absurd (Option·none-ne-some _ g)
+either-true (some r) (some s) (some t) q e f g = inl (t, refl)
+either-true (some r) (some s) none (some t) e f g = inr (t, refl)
+either-true (some r) (some s) none none e f g = true-not-false e refl
+
+-- Of two scalars that convert to a third, one converts to the other.
+pub scalar-chain : (a b c : Scalar) {r s : ℕ} → scalarRank a c ≡ some r → scalarRank b c ≡ some s → ((t : ℕ) × (scalarRank a b ≡ some t)) ⊎ ((t : ℕ) × (scalarRank b a ≡ some t))
+unfolding all scalars either scalarRank scalarKind ifSame fromAbstractInt fromAbstractFloat
+scalar-chain a b c p q =
+    either-true (scalarRank a c) (scalarRank b c) (scalarRank a b) (scalarRank b a)
+    (each (comparable a b) (each-two (λ a b. all (comparable a b) scalars) refl a b) c) p q
+  where
+    comparable : Scalar → Scalar → Scalar → Bool
+    comparable a b c = either (scalarRank a c) (scalarRank b c) (scalarRank a b) (scalarRank b a)
+
 -- The scalar inside, or none, has the rank 0 to itself,
 pub leaf-refl : (x : Option Scalar) → leafRank x x ≡ some 0
 unfolding leafRank
@@ -126,7 +155,7 @@ leaf-zero none (some b) e = cc
 leaf-zero (some a) none e = cc
 leaf-zero (some a) (some b) e = ap some (scalar-zero a b e)
 
--- and the ranks add up.
+-- the ranks add up,
 pub leaf-add : (x y z : Option Scalar) {r s : ℕ} → leafRank x y ≡ some r → leafRank y z ≡ some s → leafRank x z ≡ some (r + s)
 unfolding leafRank
 leaf-add none none none {r} {s} p q = cc (zero-add s)
@@ -135,3 +164,14 @@ leaf-add none (some b) z p q = cc
 leaf-add (some a) none z p q = cc
 leaf-add (some a) (some b) none p q = cc
 leaf-add (some a) (some b) (some c) p q = scalar-add a b c p q
+
+-- and of two that convert to a third, one converts to the other.
+pub leaf-chain : (x y z : Option Scalar) {r s : ℕ} → leafRank x z ≡ some r → leafRank y z ≡ some s → ((t : ℕ) × (leafRank x y ≡ some t)) ⊎ ((t : ℕ) × (leafRank y x ≡ some t))
+unfolding leafRank
+leaf-chain none none z p q = inl (0, refl)
+leaf-chain none (some b) none p q = absurd (Option·none-ne-some _ q)
+leaf-chain none (some b) (some c) p q = absurd (Option·none-ne-some _ p)
+leaf-chain (some a) none none p q = absurd (Option·none-ne-some _ p)
+leaf-chain (some a) none (some c) p q = absurd (Option·none-ne-some _ q)
+leaf-chain (some a) (some b) none p q = absurd (Option·none-ne-some _ p)
+leaf-chain (some a) (some b) (some c) p q = scalar-chain a b c p q

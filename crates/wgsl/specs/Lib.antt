@@ -25,6 +25,7 @@ pub mod StartClaim
 pub mod Demand
 pub mod CleanClaim
 pub mod OrderClaim
+pub mod CommonClaim
 pub mod Case
 pub mod StrideCase
 pub mod BoolCase
@@ -34,6 +35,7 @@ pub mod FormCase
 pub mod SiteCase
 pub mod StartCase
 pub mod StrayCase
+pub mod CommonCase
 pub mod CleanCase
 pub mod OrderCase
 pub mod Shapes
