@@ -136,8 +136,9 @@ lepugaso_answer lepugaso_layout_of(const uint8_t *file, size_t file_len, uint32_
  * preferred. Refuses 1 to 7, 24, then 8 (either number), then 18: there is no such conversion. */
 lepugaso_answer lepugaso_rank(const uint8_t *file, size_t file_len, uint32_t from, uint32_t to);
 
-/* The type that all entries of a list convert to, as one of their numbers; of equal types the later. Refuses 1 to 7, 24, then 8 (any of the
- * numbers), then 18: there is no such type, or the list is empty. */
+/* The type that all entries of a list convert to, as one of their numbers; of equal types the later. The order of the list, repeats in it
+ * and asking for parts of it first and then for their answers do not change the type, though they may change which of two equal types'
+ * numbers it is. Refuses 1 to 7, 24, then 8 (any of the numbers), then 18: there is no such type, or the list is empty. */
 lepugaso_answer lepugaso_common(const uint8_t *file, size_t file_len, const uint32_t *entries, size_t entries_len);
 
 /* Writes `words` as entry `entry` to the front of `buf`. The value is how many bytes that filled: the type's size. Those that hold no
