@@ -4,12 +4,12 @@
 -- laws of the calls; what a common type is; ranks.
 -- Assumes nothing.
 use Prim.Native.Nat.{ℕ, _+_, _<_, _≤_}
-use mathlib.Core.List.{List, [], _∷_, _++_, map, map-append, List·Memᴰ, List·Memᴰ·head, List·Memᴰ·tail, List·Memᴰ·cases-cons, List·Memᴰ·not-nil, List·Memᴰ·append-cases, Memᴰ·append-left, Memᴰ·append-right, Memᴰ·map, Memᴰ·of-map}
+use mathlib.Core.List.{List, [], _∷_, map, map-append, List·Memᴰ, List·Memᴰ·head, List·Memᴰ·tail, List·Memᴰ·cases-cons, List·Memᴰ·not-nil, List·Memᴰ·append-cases, Memᴰ·append-left, Memᴰ·append-right, Memᴰ·map, Memᴰ·of-map}
 use mathlib.Core.Option.{Option, none, some}
 use mathlib.Core.Logic.{_⊎_, inl, inr, ⊎-elim}
 use mathlib.Core.Path.{_≡_, refl, ap, sym, _∙_}
 use native.Mathlib.Omega.{arith}
-use lib.ListN.{length, getD, getElem?}
+use lib.ListN.{length, getD}
 use Rattle.wgsl.specs.Types.{bool, Ty, scalar}
 use Rattle.wgsl.specs.Said.{Said, good, refused, _>>=_, orRefuse}
 use Rattle.wgsl.specs.Rule.{andThen, typesOf}
@@ -21,8 +21,8 @@ use Rattle.wgsl.proofs.Said.{good-not-refused, then-good, then-is, then
 use Rattle.wgsl.proofs.Bit.{lt-or-le}
 use Rattle.wgsl.proofs.AtEntry.{getElem-low, getElem-past, getElem-getD}
 use Rattle.wgsl.proofs.Rank.{rank-add, same-refl, same-rank, rank-same}
-use Rattle.wgsl.proofs.Common.{IsGreatest, found, missing, Answered, EachAnswered, answered, unanswered, list-greatest, part-none, common-greatest, part-common, grouping-greatest, each-answered, greatest-same, one-in}
-use Rattle.wgsl.proofs.SameType.{There, entry-there, there-entry, same-is-equal}
+use Rattle.wgsl.proofs.Common.{IsGreatest, found, EachAnswered, answered, unanswered, list-greatest, part-none, common-greatest, part-common, grouping-greatest, each-answered, greatest-same, one-in}
+use Rattle.wgsl.proofs.SameType.{entry-there, there-entry, same-is-equal}
 
 -- what the call says of a common type, or of none
 told : Option Candidate → Said ℕ

@@ -7,7 +7,7 @@ use Prim.Native.Nat.{ℕ, _+_}
 use mathlib.Core.List.{List, [], _∷_, List·Memᴰ, List·Memᴰ·head, List·Memᴰ·tail, List·Memᴰ·cases-cons, List·Memᴰ·not-nil}
 use mathlib.Core.Logic.{⊎-elim}
 use mathlib.Core.Option.{none, some}
-use mathlib.Core.Path.{_≡_, refl, sym}
+use mathlib.Core.Path.{_≡_, refl}
 use native.Mathlib.Omega.{arith}
 use Rattle.wgsl.specs.Types.{i32, f32, abstractInt, abstractFloat, Ty, scalar, isRuntime, endsInRuntime, isOpen, everywhere, everyMember, isScalarKind, scalarKind}
 use Rattle.wgsl.specs.Said.{good, refused, _>>=_, _>>_, refuse, orRefuse}
@@ -19,7 +19,7 @@ use Rattle.wgsl.specs.Rule.{when, andThen, unused, scalarOfKind, scalarI
 use Rattle.wgsl.specs.Rank.{fromAbstractInt, fromAbstractFloat, ifSame, scalarRank, outlineOf, leafOf, sameNumbers, leafRank, rankOf, Candidate, firstOf, commonOf, commonWith, commonOfAll}
 use Rattle.wgsl.specs.Call.{entryOf, rankCall, entriesOf, commonCall}
 use Rattle.wgsl.specs.Case.{typeEntry, memberGiven, memberEntry, trailer}
-use Rattle.wgsl.specs.CommonClaim.{SameMembers, PartOf, Grouping, alone, together, part, part-and, membersIn, commonOfGrouping, groupingCall, Same, IsCommon, AllEntries, SameCommon, Alike}
+use Rattle.wgsl.specs.CommonClaim.{SameMembers, PartOf, Grouping, alone, together, part, part-and, membersIn, commonOfGrouping, groupingCall, IsCommon, AllEntries, SameCommon, Alike}
 use Rattle.wgsl.specs.CommonCase.{operands, pairAnd}
 use Rattle.wgsl.proofs.Requests as requests
 

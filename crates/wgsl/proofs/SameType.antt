@@ -3,17 +3,17 @@
 use Prim.Native.Nat.{ℕ, zero, suc, _<_}
 use mathlib.Core.List.{List}
 use mathlib.Core.Option.{Option, none, some}
-use mathlib.Core.Path.{_≡_, refl, ap, sym, _∙_}
+use mathlib.Core.Path.{_≡_, refl}
 use native.Mathlib.Omega.{arith}
-use lib.ListN.{length, getElem?}
+use lib.ListN.{getElem?}
 use Rattle.wgsl.specs.Types.{Ty, scalar, vector, matrix, array, runtime, atomic, struct, Members, no-more}
 use Rattle.wgsl.specs.Said.{good, _>>=_, orRefuse}
 use Rattle.wgsl.specs.File.{typeEntryAt}
 use Rattle.wgsl.specs.Rule.{typesOf}
 use Rattle.wgsl.specs.Call.{entryOf}
 use Rattle.wgsl.specs.CommonClaim.{Same}
-use Rattle.wgsl.proofs.Said.{then-good, then-is, orRefuse-good}
-use Rattle.wgsl.proofs.AtEntry.{getElem-low, Refers, to-none, to-vector, to-matrix, to-array, to-runtime, to-atomic, to-members, refers}
+use Rattle.wgsl.proofs.Said.{then-good, orRefuse-good}
+use Rattle.wgsl.proofs.AtEntry.{Refers, to-none, to-vector, to-matrix, to-array, to-runtime, to-atomic, to-members, refers}
 use Rattle.wgsl.proofs.Reach.{at}
 use Rattle.wgsl.proofs.Rank.{Numbered, same-equal}
 
