@@ -1,10 +1,10 @@
 /* Lepugaso: lays out, fills and reads the buffers that WGSL shaders share with a host.
  *
  * A layout file describes types as numbered entries; every call takes one, as bytes, and asks something of it, but for the four on bit
- * fields of a number. Nothing is kept between calls, nothing is allocated, and any bytes and any numbers may be passed: what cannot be
- * answered is refused with a number. Threads may call at the same time. No call takes more than LEPUGASO_STACK bytes of stack: 132 KiB to
- * write, read or clean types that nest 256 deep, 64 KiB to view, set (also on site) or use bit fields along such a path, 36 KiB to ask
- * anything else.
+ * fields of a number and the one that converts a literal. Nothing is kept between calls, nothing is allocated, and any bytes and any
+ * numbers may be passed: what cannot be answered is refused with a number. Threads may call at the same time. No call takes more than
+ * LEPUGASO_STACK bytes of stack: 132 KiB to write, read or clean types that nest 256 deep, 64 KiB to view, set (also on site) or use bit
+ * fields along such a path, 36 KiB to ask anything else.
  *
  * For x86-64 Linux. Link liblepugaso.a, which needs nothing but memcpy, memmove and memset, or liblepugaso.so.
  *
@@ -114,6 +114,7 @@ typedef struct lepugaso_layout {
 #define LEPUGASO_REFUSED_NAMED 20u        /* a member has a name, which form 1 has no room for */
 #define LEPUGASO_REFUSED_NO_SITE 21u      /* no struct of fixed size and at most 64 members, or mask bits beyond them */
 #define LEPUGASO_REFUSED_ORDER 23u        /* an order of members that is not accepted: not every one once, or no smaller end */
+#define LEPUGASO_REFUSED_CONVERSION 25u   /* no such conversion, or no finite result */
 
 /* How many entries the file has. Refuses 1 to 7, 24. */
 lepugaso_answer lepugaso_check(const uint8_t *file, size_t file_len);
@@ -295,6 +296,19 @@ lepugaso_answer lepugaso_plan_order(const uint8_t *file, size_t file_len, uint32
  * with its member, and a struct may hold a bool. The file stays: one with its members in that order is the caller's to write.
  * Refuses 1 to 7, 24, then 8, 9 (the type is no struct), 23: any other order, of whatever length. */
 lepugaso_answer lepugaso_check_order(const uint8_t *file, size_t file_len, uint32_t entry, const uint32_t *order, size_t order_len);
+
+/* A literal of kind `from_kind` as one of kind `to_kind`, as WGSL converts it by itself. No file and no pointer goes with it. The kinds are
+ * the scalars of a layout file: 0 bool, 1 i32, 2 u32, 3 f32, 4 f16, 5 abstract int, 6 abstract float, 13 i64, 14 u64, 15 f64. An abstract
+ * int is an i64, an abstract float an f64. `bits` has the literal's bits at its low end: 1 of a bool, 16 of an f16, 32 of an i32, u32 or
+ * f32, 64 of any other; higher ones are not looked at. The value has those of the result in the same way, and 0 above them.
+ *
+ * To its own kind each of them is unchanged, NaN and infinity too. An abstract int goes to abstract float, i32, u32, f32 and f16, an
+ * abstract float to f32 and f16; nothing else is converted. To a float it is rounded once, to the nearest number, of two that are as near
+ * to the one whose lowest bit is 0, among the smallest (subnormal) ones too: 2,049 is 2,048 as an f16, 16,777,217 is 16,777,216 as an f32.
+ * The sign stays: negative zero is negative zero, and so is a negative number that is rounded to zero. The abstract int 0 is positive zero.
+ * Refuses 25: there is no such conversion; a kind is none of these ten, to itself too; an abstract int is outside the range of the i32 or
+ * u32; an abstract float to f32 or f16 is a NaN or infinite, or the result would be: to f16, 65,519 gives 65,504 and 65,520 is refused. */
+lepugaso_answer lepugaso_convert(uint32_t from_kind, uint64_t bits, uint32_t to_kind);
 
 #ifdef __cplusplus
 }

@@ -756,3 +756,10 @@ pub unsafe extern "C" fn lepugaso_check_order(
         _ => BAD_POINTER,
     }
 }
+
+/// A literal of one scalar kind as one of another.
+#[no_mangle]
+pub extern "C" fn lepugaso_convert(from_kind: u32, bits: u64, to_kind: u32) -> Crossing {
+    // SAFETY: nothing is lent, and any numbers may be passed.
+    unsafe { lepugaso_surface_convert(from_kind, bits, to_kind) }
+}

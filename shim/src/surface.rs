@@ -159,4 +159,5 @@ extern "C" {
         order: *const u32,
         order_len: usize,
     ) -> Crossing;
+    pub fn lepugaso_surface_convert(from: u32, bits: u64, to: u32) -> Crossing;
 }

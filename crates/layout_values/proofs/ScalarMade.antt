@@ -17,7 +17,7 @@ use Rattle.wgsl.specs.File.{TypeEntry}
 use Rattle.wgsl.specs.Rule.{unused, scalarOfKind, scalarIn, scalarMade, isAllowed, givenFits}
 use Rattle.wgsl.specs.Place.{wordsFor}
 use Rattle.wgsl.proofs.Absent.{some-not-none}
-use Rattle.wgsl.proofs.ScalarKind.{scalar-kind-is, scalar-range, kind-clash}
+use Rattle.wgsl.proofs.ScalarKind.{scalar-kind-is, scalar-of-kind, kind-clash}
 use Rattle.layout_values.proofs.VerdictOn.{present-positive, fits-small, layout-closed, layout-none, value-is, verdict-laid, made-used, made-over}
 use Rattle.layout_values.specs.Value.{storedWidth, scalarWords, narrowOf, partsOf, valueOf, madeOf, strideIn}
 use Rattle.layout_values.specs.declared.value.Value.{Value}
@@ -172,31 +172,6 @@ scalar-kind (atomic x) l s e h = some-not-none h refl
 scalar-kind (struct n ms) l s e h = some-not-none h refl
 
 -- ---- a scalar's entry
-
-low-kind : (k : ℕ) → k ≤ 6 → (s : Scalar) × (scalarKind s ≡ k) × (scalarOfKind k ≡ some s)
-unfolding scalarOfKind scalarKind
-low-kind zero h = (bool, refl, refl)
-low-kind (suc zero) h = (i32, refl, refl)
-low-kind (suc (suc zero)) h = (u32, refl, refl)
-low-kind (suc (suc (suc zero))) h = (f32, refl, refl)
-low-kind (suc (suc (suc (suc zero)))) h = (f16, refl, refl)
-low-kind (suc (suc (suc (suc (suc zero))))) h = (abstractInt, refl, refl)
-low-kind (suc (suc (suc (suc (suc (suc zero)))))) h = (abstractFloat, refl, refl)
-low-kind (suc (suc (suc (suc (suc (suc (suc k))))))) h = absurd (omega arith)
-
-high-kind : (n : ℕ) → n ≤ 2 → (s : Scalar) × (scalarKind s ≡ 13 + n) × (scalarOfKind (13 + n) ≡ some s)
-unfolding scalarOfKind scalarKind
-high-kind zero h = (i64, refl, refl)
-high-kind (suc zero) h = (u64, refl, refl)
-high-kind (suc (suc zero)) h = (f64, refl, refl)
-high-kind (suc (suc (suc n))) h = absurd (omega arith)
-
-scalar-of-kind : (k : ℕ) → isScalarKind k ≡ true → (s : Scalar) × (scalarKind s ≡ k) × (scalarOfKind k ≡ some s)
-scalar-of-kind k h =
-    ⊎-elim (λ (low : k ≤ 6). low-kind k low)
-    (λ (high : (13 ≤ k) × (k ≤ 15)).
-    let e : k ≡ 13 + (k - 13) = omega (arith, high .0) in
-    rw e (high-kind (k - 13) (omega (arith, high .1)))) (scalar-range k h)
 
 -- no bytes take no words
 no-bytes : wordsFor 0 ≡ 0

@@ -1,6 +1,6 @@
 -- No slack: what an answer says, number and place included, tells which answer it is. So two answers that a claim allows are the same.
 --
--- In order: anything that tells itself; refusals; a number or a refusal; a number or a length beside what was lent; what cleaning changed; the mask of a site block, and
+-- In order: anything that tells itself; refusals; a number or a refusal; a pattern or a refusal; a number or a length beside what was lent; what cleaning changed; the mask of a site block, and
 -- its buffer; the four numbers of an entry; a target or a refusal; a part of the buffer.
 -- Assumes nothing.
 use Prim.Native.Nat.{ℕ}
@@ -16,10 +16,11 @@ use Rattle.wgsl.specs.Clean.{CleanDone, cleanAfter}
 use Rattle.wgsl.specs.Site.{SiteDone, siteAnswer, siteAfter, maskSet, zeroOf, maskAfter}
 use Rattle.said.specs.Refusal.{numberOf, placeOf}
 use Rattle.said.specs.declared.refusal.Refusal.{Refusal}
-use Rattle.said.specs.declared.refusal.Refusal.the-variants.{Short, Form, Counts, Length, Rule, Given, Large, Missing, Absent, Unstorable, NoMember, PastEnd, NoIndex, Count, Buffer, Word, Long, NoRank, NotUniform, Named, NoSite, NoOrder, Stray}
-use Rattle.said.specs.Answer.{saidNumber, saidMoved, gapsOf, saidCleaned, maybeOf, saidAnswer}
+use Rattle.said.specs.declared.refusal.Refusal.the-variants.{Short, Form, Counts, Length, Rule, Given, Large, Missing, Absent, Unstorable, NoMember, PastEnd, NoIndex, Count, Buffer, Word, Long, NoRank, NotUniform, Named, NoSite, NoOrder, Stray, NoConversion}
+use Rattle.said.specs.Answer.{saidNumber, saidMoved, saidPattern, gapsOf, saidCleaned, maybeOf, saidAnswer}
 use Rattle.said.specs.declared.answer.Number.{Number}
 use Rattle.said.specs.declared.answer.Moved.{Moved}
+use Rattle.said.specs.declared.answer.Pattern.{Pattern}
 use Rattle.said.specs.declared.answer.Gaps.{Gaps}
 use Rattle.said.specs.declared.answer.Cleaned.{Cleaned}
 use Rattle.said.specs.declared.answer.Maybe.{Maybe}
@@ -39,9 +40,9 @@ unfoldable pub refusalFrom : ℕ → ℕ → Refusal
 refusalFrom place number =
     getD
     (Short ∷ Short ∷ Form ∷ Counts ∷ Length ∷ Rule place ∷ Given place ∷ Large place ∷ Missing ∷ Absent ∷ Unstorable
-    ∷ NoMember place ∷ PastEnd place ∷ NoIndex place ∷ Count ∷ Buffer ∷ Word place ∷ Long ∷ NoRank ∷ NotUniform place ∷ Named ∷ NoSite ∷ NoSite ∷ NoOrder ∷ [])
+    ∷ NoMember place ∷ PastEnd place ∷ NoIndex place ∷ Count ∷ Buffer ∷ Word place ∷ Long ∷ NoRank ∷ NotUniform place ∷ Named ∷ NoSite ∷ NoSite ∷ NoOrder ∷ Stray place ∷ [])
     number
-    (Stray place)
+    NoConversion
 
 pub refusal-told : (r : Refusal) → refusalFrom (placeOf r) (numberOf r) ≡ r
 unfolding refusalFrom
@@ -68,6 +69,7 @@ refusal-told Named = refl
 refusal-told NoSite = refl
 refusal-told NoOrder = refl
 refusal-told (Stray member) = refl
+refusal-told NoConversion = refl
 
 -- ---- a number or a refusal
 
@@ -82,6 +84,20 @@ number-told (Number.Refused r) = ap Number.Refused (refusal-told r)
 -- Two numbers that a claim of check, size, align, min_size, rank, common, uniform or check_order allows are the same.
 pub single-number : {said : Said ℕ} (a b : Number) → saidNumber a ≡ said → saidNumber b ≡ said → a ≡ b
 single-number = single saidNumber numberFrom number-told
+
+-- ---- a pattern or a refusal
+
+abbrev patternFrom : Said ℕ → Pattern
+patternFrom (good p) = Pattern.Is p
+patternFrom (refused number place) = Pattern.Refused (refusalFrom place number)
+
+pattern-told : (a : Pattern) → patternFrom (saidPattern a) ≡ a
+pattern-told (Pattern.Is p) = refl
+pattern-told (Pattern.Refused r) = ap Pattern.Refused (refusal-told r)
+
+-- Two patterns that the claim of convert allows are the same.
+pub single-pattern : {said : Said ℕ} (a b : Pattern) → saidPattern a ≡ said → saidPattern b ≡ said → a ≡ b
+single-pattern = single saidPattern patternFrom pattern-told
 
 -- ---- a number beside what was lent
 

@@ -11,6 +11,7 @@ use Rattle.said.specs.Refusal.{numberOf, placeOf}
 use Rattle.said.specs.declared.answer.Number.{Number}
 use Rattle.said.specs.declared.answer.Number.the-variants.{Is, Refused}
 use Rattle.said.specs.declared.answer.Moved.{Moved}
+use Rattle.said.specs.declared.answer.Pattern.{Pattern}
 use Rattle.said.specs.declared.answer.Gaps.{Gaps}
 use Rattle.said.specs.declared.answer.Cleaned.{Cleaned}
 use Rattle.said.specs.declared.answer.Maybe.{Maybe}
@@ -24,6 +25,10 @@ saidNumber (Refused r) = refused (numberOf r) (placeOf r)
 abbrev pub saidMoved : Moved → Said ℕ
 saidMoved (Moved.Is n) = good n
 saidMoved (Moved.Refused r) = refused (numberOf r) (placeOf r)
+
+abbrev pub saidPattern : Pattern → Said ℕ
+saidPattern (Pattern.Is p) = good p
+saidPattern (Pattern.Refused r) = refused (numberOf r) (placeOf r)
 
 -- what a clean changed, of all that it has done
 abbrev pub gapsIs : CleanDone → Gaps

@@ -2,7 +2,7 @@
 -- Definitions only. Assumes nothing.
 use Prim.Native.Nat.{ℕ}
 use Rattle.said.specs.declared.refusal.Refusal.{Refusal}
-use Rattle.said.specs.declared.refusal.Refusal.the-variants.{Short, Form, Counts, Length, Rule, Given, Large, Missing, Absent, Unstorable, NoMember, PastEnd, NoIndex, Count, Buffer, Word, Long, NoRank, NotUniform, Named, NoSite, NoOrder, Stray}
+use Rattle.said.specs.declared.refusal.Refusal.the-variants.{Short, Form, Counts, Length, Rule, Given, Large, Missing, Absent, Unstorable, NoMember, PastEnd, NoIndex, Count, Buffer, Word, Long, NoRank, NotUniform, Named, NoSite, NoOrder, Stray, NoConversion}
 
 abbrev pub numberOf : Refusal → ℕ
 numberOf Short = 1
@@ -28,6 +28,7 @@ numberOf Named = 20
 numberOf NoSite = 21
 numberOf NoOrder = 23
 numberOf (Stray member) = 24
+numberOf NoConversion = 25
 
 abbrev pub placeOf : Refusal → ℕ
 placeOf Short = 0
@@ -53,3 +54,4 @@ placeOf Named = 0
 placeOf NoSite = 0
 placeOf NoOrder = 0
 placeOf (Stray member) = member
+placeOf NoConversion = 0

@@ -1,4 +1,4 @@
-// The answers of calls: a number or a refusal, a length, what cleaning changed, all numbers of an entry. What they say is specs/Answer.
+// The answers of calls: a number or a refusal, a length, the pattern of a literal, what cleaning changed, all numbers of an entry. What they say is specs/Answer.
 use crate::refusal::Refusal;
 
 // A number, or a refusal.
@@ -10,6 +10,12 @@ pub enum Number {
 // The length of a file that a move made, which need not fit 32 bits, or a refusal.
 pub enum Moved {
     Is(usize),
+    Refused(Refusal),
+}
+
+// The pattern of a literal, or a refusal.
+pub enum Pattern {
+    Is(u64),
     Refused(Refusal),
 }
 

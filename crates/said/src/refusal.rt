@@ -43,6 +43,8 @@ pub enum Refusal {
     NoOrder,
     // 24, with the member: one that no struct names
     Stray(usize),
+    // 25: no such conversion of literals, or no finite result
+    NoConversion,
 }
 
 pub fn number(r: Refusal) -> u32
@@ -72,6 +74,7 @@ pub fn number(r: Refusal) -> u32
         Refusal::NoSite => 21,
         Refusal::NoOrder => 23,
         Refusal::Stray(_) => 24,
+        Refusal::NoConversion => 25,
     }
 }
 

@@ -37,7 +37,7 @@ high-kind (suc zero) s e = rw (← Option·some-injective u64 s e)
 high-kind (suc (suc zero)) s e = rw (← Option·some-injective f64 s e)
 high-kind (suc (suc (suc n))) s e = some-not-none e refl
 
-scalar-kind : (kind : ℕ) (s : Scalar) → scalarOfKind kind ≡ some s → scalarKind s ≡ kind
+pub scalar-kind : (kind : ℕ) (s : Scalar) → scalarOfKind kind ≡ some s → scalarKind s ≡ kind
 unfolding scalarOfKind
 scalar-kind kind s e = go (ltb kind 13) refl e
   where

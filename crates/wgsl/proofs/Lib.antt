@@ -57,6 +57,7 @@ pub mod Rank
 pub mod Common
 pub mod SameType
 pub mod CommonCall
+pub mod Nearest
 pub mod Case
 pub mod StrideCase
 pub mod BoolCase

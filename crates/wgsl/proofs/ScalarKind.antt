@@ -1,13 +1,15 @@
 -- The kinds of scalars (specs/Types): 0 to 6, and 13 to 15 since E6.
 -- Assumes nothing.
-use Prim.Native.Nat.{ℕ, _<_, _≤_}
+use Prim.Native.Nat.{ℕ, zero, suc, _+_, _-_, _<_, _≤_}
 use mathlib.Core.Bool.{Bool, true, false, _&&_, _||_}
-use mathlib.Core.Logic.{_⊎_, inl, inr}
+use mathlib.Core.Logic.{_⊎_, inl, inr, ⊎-elim}
+use mathlib.Core.Option.{some}
 use mathlib.Core.Path.{_≡_, refl, sym}
 use native.Mathlib.Omega.{arith}
 use borrow.Author.Tests.{leb-true, leb-false, le-leb, lt-leb}
 use lib.Dec.{leb}
 use Rattle.wgsl.specs.Types.{Scalar, bool, i32, u32, f32, f16, abstractInt, abstractFloat, i64, u64, f64, scalarKind, isScalarKind}
+use Rattle.wgsl.specs.Rule.{scalarOfKind}
 use Rattle.wgsl.proofs.Absent.{true-not-false}
 
 -- The kind of a scalar is one.
@@ -66,3 +68,29 @@ kind-clash kind other h e low high = true-not-false h (no-scalar kind (omega ari
 
 pub no-scalar-kind : (s : Scalar) (kind : ℕ) → 7 ≤ kind → kind ≤ 12 → scalarKind s ≡ kind → ⊥
 no-scalar-kind s kind low high e = kind-clash _ _ (scalar-kind-is s) (sym e) low high
+
+low-kind : (k : ℕ) → k ≤ 6 → (s : Scalar) × (scalarKind s ≡ k) × (scalarOfKind k ≡ some s)
+unfolding scalarOfKind scalarKind
+low-kind zero h = (bool, refl, refl)
+low-kind (suc zero) h = (i32, refl, refl)
+low-kind (suc (suc zero)) h = (u32, refl, refl)
+low-kind (suc (suc (suc zero))) h = (f32, refl, refl)
+low-kind (suc (suc (suc (suc zero)))) h = (f16, refl, refl)
+low-kind (suc (suc (suc (suc (suc zero))))) h = (abstractInt, refl, refl)
+low-kind (suc (suc (suc (suc (suc (suc zero)))))) h = (abstractFloat, refl, refl)
+low-kind (suc (suc (suc (suc (suc (suc (suc k))))))) h = absurd (omega arith)
+
+high-kind : (n : ℕ) → n ≤ 2 → (s : Scalar) × (scalarKind s ≡ 13 + n) × (scalarOfKind (13 + n) ≡ some s)
+unfolding scalarOfKind scalarKind
+high-kind zero h = (i64, refl, refl)
+high-kind (suc zero) h = (u64, refl, refl)
+high-kind (suc (suc zero)) h = (f64, refl, refl)
+high-kind (suc (suc (suc n))) h = absurd (omega arith)
+
+-- A kind that is a scalar's is the kind of one.
+pub scalar-of-kind : (k : ℕ) → isScalarKind k ≡ true → (s : Scalar) × (scalarKind s ≡ k) × (scalarOfKind k ≡ some s)
+scalar-of-kind k h =
+    ⊎-elim (λ (low : k ≤ 6). low-kind k low)
+    (λ (high : (13 ≤ k) × (k ≤ 15)).
+    let e : k ≡ 13 + (k - 13) = omega (arith, high .0) in
+    rw e (high-kind (k - 13) (omega (arith, high .1)))) (scalar-range k h)

@@ -19,6 +19,7 @@ pub mod Form
 pub mod Site
 pub mod Clean
 pub mod Order
+pub mod Literal
 pub mod Claim
 pub mod SiteClaim
 pub mod StartClaim
@@ -26,6 +27,7 @@ pub mod Demand
 pub mod CleanClaim
 pub mod OrderClaim
 pub mod CommonClaim
+pub mod LiteralClaim
 pub mod Case
 pub mod StrideCase
 pub mod BoolCase

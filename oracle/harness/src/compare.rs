@@ -52,6 +52,9 @@ const PLAN: Plan = Plan {
     stray_small: 3,
     strays: 8000,
     stray_asked: 8,
+    literal_patterns: 7,
+    literal_edges: 1,
+    literals: 200_000,
 };
 
 const RECORDED: Plan = Plan {
@@ -94,6 +97,9 @@ const RECORDED: Plan = Plan {
     stray_small: 1,
     strays: 6,
     stray_asked: 2,
+    literal_patterns: 1,
+    literal_edges: 120,
+    literals: 0,
 };
 
 fn read(path: &str) -> String {
@@ -145,6 +151,7 @@ pub fn ask(seed: u64, document: &str, folder: &str) -> bool {
     generate::clean_blocks(seed, &PLAN, &mut put);
     generate::order_blocks(seed, &PLAN, &mut put);
     generate::stray_blocks(seed, &PLAN, &mut put);
+    generate::literal_blocks(seed, &PLAN, &mut put);
     flush(&mut text);
     println!("{files:9} files in all, seed {seed}");
     true
@@ -301,6 +308,7 @@ pub fn record(document: &str, folder: &str) -> bool {
     generate::clean_blocks(1, &RECORDED, |b| blocks.push(b));
     generate::order_blocks(1, &RECORDED, |b| blocks.push(b));
     generate::stray_blocks(1, &RECORDED, |b| blocks.push(b));
+    generate::literal_blocks(1, &RECORDED, |b| blocks.push(b));
     let blocks = joined(blocks);
     let questions = blocks.iter().fold(format!("{HEAD}\n"), |s, b| s + &b.lines());
     let rust = answer(&questions);

@@ -1339,6 +1339,12 @@ pub struct Plan {
     pub strays: usize,
     /// questions of any sort on each of them; and a fourth of that many on fields, cleaning, orders and site blocks each
     pub stray_asked: usize,
+    /// patterns with which each pair of kinds is converted
+    pub literal_patterns: usize,
+    /// of the literals at an edge with the other sign and to other kinds: one of so many
+    pub literal_edges: u64,
+    /// any literals, mostly near an edge or a tie
+    pub literals: usize,
 }
 
 pub fn blocks(seed: u64, plan: &Plan, mut each: impl FnMut(Block)) {
@@ -2892,5 +2898,197 @@ pub fn stray_blocks(seed: u64, plan: &Plan, mut each: impl FnMut(Block)) {
         let t = random(&mut r, 256, 1024);
         let t = with_strays(&mut r, &t);
         each(Block { file: file(&mut r, &t), questions: any(&mut r, &t) });
+    }
+}
+
+/// Numbers that are no scalar's kind: the kinds of other types, the next one, and two that end in the byte or the 16 bits of one.
+const NO_SCALARS: [u32; 9] = [7, 8, 9, 10, 11, 12, 16, 256 + 5, 65_536 + 6];
+
+const ABSTRACT_INT: u32 = 5;
+const ABSTRACT_FLOAT: u32 = 6;
+const SIGN: u64 = 1 << 63;
+
+/// What abstract ints and abstract floats may be converted to, and an i64, which they may not.
+const CONCRETE: [u32; 6] = [1, 2, 3, 4, 6, 13];
+
+/// 2^power as an abstract float.
+fn two_to(power: i32) -> f64 {
+    f64::from_bits(((1023 + power) as u64) << 52)
+}
+
+/// The abstract float after, or before, one that is above 0.
+fn after(x: f64) -> f64 {
+    f64::from_bits(x.to_bits() + 1)
+}
+
+fn before(x: f64) -> f64 {
+    f64::from_bits(x.to_bits() - 1)
+}
+
+/// Abstract floats at the edges of a float type that has so many bits of mantissa and whose greatest power of two and least one of a normal
+/// number are these: the largest number, half a place above it and a little less, the next power; the least number, half of it and a little
+/// more and less, one and a half of it; the least normal number and half a place below it; half a place above 1, one and a half, a little
+/// more than the first, by two bits, and a little less than the second; below 0 what rounds to zero, and on each side of what is infinite.
+fn float_edges(mantissa: i32, greatest: i32, least: i32) -> Vec<f64> {
+    let over = two_to(greatest) * 2.0 - two_to(greatest - mantissa - 1);
+    let (last, half) = (two_to(least - mantissa), two_to(least - mantissa - 1));
+    let (place, tie) = (two_to(-mantissa), two_to(-mantissa - 1));
+    vec![
+        over - two_to(greatest - mantissa - 1),
+        over,
+        before(over),
+        two_to(greatest + 1),
+        last,
+        half,
+        after(half),
+        before(half),
+        half + last,
+        two_to(least),
+        two_to(least) - half,
+        1.0 + tie,
+        1.0 + place + tie,
+        1.0 + tie + two_to(-40),
+        after(1.0 + tie),
+        before(1.0 + place + tie),
+        -half,
+        -half / 2.0,
+        -over,
+        -before(over),
+    ]
+}
+
+/// Literals at each edge of what they are converted to: from, to and the patterns.
+fn literal_edges() -> Vec<(u32, u32, Vec<u64>)> {
+    let ints = |to: u32, list: &[i64]| (ABSTRACT_INT, to, list.iter().map(|n| *n as u64).collect());
+    let floats = |to: u32, list: Vec<f64>| (ABSTRACT_FLOAT, to, list.iter().map(|x| x.to_bits()).collect());
+    let (low, high) = (i64::MIN, i64::MAX);
+    let near = |n: i64| [n - 1, n, n + 1];
+    vec![
+        ints(1, &[1 << 31, (1 << 31) - 1, -1 << 31, (-1 << 31) - 1, -1, low, high]),
+        ints(2, &[1 << 32, (1 << 32) - 1, 0, -1, -1 << 31, 1 - (1 << 32), low, high]),
+        ints(3, &[(1 << 24) + 1, (1 << 24) + 3, -1, low, high]),
+        ints(3, &near((1 << 40) + (1 << 16))),
+        ints(4, &[0, 2049, 2051, -2049, 65_504, 65_519, 65_520, -65_519, -65_520, 1 << 32, low, high]),
+        ints(6, &[(1 << 53) + 1, (1 << 53) + 3, 0, -1, -(1 << 53) - 1, low, high]),
+        ints(6, &near(high - 511)),
+        floats(3, float_edges(23, 127, -126)),
+        floats(4, float_edges(10, 15, -14)),
+        floats(4, vec![65_519.0, f64::MAX, -0.0, -two_to(-1022), f64::INFINITY]),
+        floats(3, vec![16_777_217.0, f64::MAX, -0.0, -two_to(-1022), f64::INFINITY]),
+        (ABSTRACT_FLOAT, 3, vec![1, 0x7ff8 << 48, (0x7ff0 << 48) + 1, 0xfff0 << 48, 0xffff << 48]),
+        (ABSTRACT_FLOAT, 4, vec![SIGN + 1, 0x7ff8 << 48, (0x7ff0 << 48) + 1, 0xfff0 << 48, 0xffff << 48]),
+    ]
+}
+
+/// The literal of the other sign.
+fn negated(from: u32, pattern: u64) -> u64 {
+    if from == ABSTRACT_INT { pattern.wrapping_neg() } else { pattern ^ SIGN }
+}
+
+/// Every pair of kinds, with so many patterns; with one alone, of what is no scalar's kind some pairs.
+fn literal_pairs(r: &mut Random, patterns: usize) -> Vec<Question> {
+    let scalars: Vec<u32> = SHORT.iter().chain(&LONG).map(|kind| *kind as u32).collect();
+    let kinds = [scalars.as_slice(), &NO_SCALARS, &[u32::MAX]].concat();
+    let mut qs: Vec<Question> = scalars[..7].iter().map(|kind| Question::Convert(*kind, u64::MAX, *kind)).collect();
+    for from in &kinds {
+        for to in &kinds {
+            let is_plain = |kind: &u32| scalars.contains(kind);
+            let is_near = from == to || [*from, *to].contains(&ABSTRACT_INT) || (is_plain(from) && is_plain(to));
+            if patterns == 1 && (!is_near || *from == u32::MAX) {
+                continue;
+            }
+            let list = [1, 0, two_to(0).to_bits(), u64::MAX, SIGN, 0x7ff8 << 48, r.next()];
+            qs.extend(list.into_iter().take(patterns).map(|pattern| Question::Convert(*from, pattern, *to)));
+        }
+    }
+    qs
+}
+
+/// An abstract int of any length; often one that is half way between two numbers of a float type, or next to that, or to an edge.
+fn any_int(r: &mut Random) -> u64 {
+    let length = 1 + r.below(64);
+    let mut n = r.next() >> (64 - length);
+    let kept = r.of(&[11, 24, 53]);
+    if length > kept && r.one_in(2) {
+        let cut = length - kept;
+        n = ((n >> cut) << cut) | 1 << (cut - 1);
+        n = n.wrapping_add(r.of(&[0, 1, u64::MAX]));
+    }
+    if r.one_in(6) {
+        n = r.of(&[1 << 31, 1 << 32, 65_520, 2048, 1 << 24, 1 << 53, SIGN]);
+        n = n.wrapping_add(r.below(7)).wrapping_sub(3);
+    }
+    if r.one_in(2) { n.wrapping_neg() } else { n }
+}
+
+/// An abstract float with an exponent that a float type has, mostly near an edge of it; often one that is half way between two of its
+/// numbers, or above or below that by the last bit or any other.
+fn any_float(r: &mut Random) -> u64 {
+    let (mantissa, greatest, least) = r.of(&[(23, 127, -126), (10, 15, -14)]);
+    let mut below = |start: i32, n: u64| start + r.below(n) as i32;
+    let ends = [below(greatest - 1, 4), below(least - mantissa - 3, 6), below(least - 2, 4)];
+    let any = [below(least - mantissa - 3, (greatest - least + mantissa + 6) as u64), below(-1022, 2046)];
+    let power = if r.one_in(4) { r.of(&any) } else { r.of(&ends) };
+    // bits that the type does not have at this power, where it has some
+    let cut = (52 - mantissa + (least - power).max(0)).min(53) as u32;
+    let tie = 1u64 << (cut - 1);
+    let bit = 1u64 << r.below(cut as u64 - 1);
+    let all = (((1023 + power) as u64) << 52) + (r.next() >> 12);
+    let near = (all >> cut).wrapping_shl(cut);
+    let any = r.below(2 * tie);
+    let low = r.of(&[any, 0, tie, tie, tie + 1, tie - 1, tie + bit, tie - bit]);
+    let pattern = if cut == 53 { ((all >> 52) << 52) + r.of(&[0, 0, 1, bit, any % tie]) } else { near + low };
+    if r.one_in(2) { pattern | SIGN } else { pattern }
+}
+
+/// A literal to convert: mostly an abstract one, and to what it may be converted to.
+fn any_literal(r: &mut Random) -> Question {
+    let (int, float, any) = (any_int(r), any_float(r), r.next());
+    match r.below(16) {
+        0..=5 => Question::Convert(ABSTRACT_INT, int, r.of(&CONCRETE)),
+        6..=12 => Question::Convert(ABSTRACT_FLOAT, float, r.of(&[3, 4, 4])),
+        13 => Question::Convert(ABSTRACT_FLOAT, any, r.of(&[3, 4])),
+        // infinities and NaNs
+        14 => {
+            let payload = r.of(&[0, 1, 1 << 51, 1 << 42, 1 << 41, 1 << 29, 1 << 28, any >> 12]);
+            Question::Convert(ABSTRACT_FLOAT, 0x7ff << 52 | any & SIGN | payload, r.of(&[3, 4, 6]))
+        }
+        _ => {
+            let mut kind = || r.of(&[0, 1, 2, 3, 4, 5, 6, 13, 14, 15, 16]);
+            let (from, to) = (kind(), kind());
+            Question::Convert(from, any, if r.one_in(2) { from } else { to })
+        }
+    }
+}
+
+/// The questions about literals, on a file that is none; and one on a file that is refused otherwise, and on a good one. They have random
+/// numbers of their own too.
+pub fn literal_blocks(seed: u64, plan: &Plan, mut each: impl FnMut(Block)) {
+    let mut r = Random(!seed.rotate_left(8));
+    let none = vec![0];
+    each(Block { file: none.clone(), questions: literal_pairs(&mut r, plan.literal_patterns) });
+    for (from, to, patterns) in literal_edges() {
+        let mut questions = Vec::new();
+        for pattern in patterns {
+            questions.push(Question::Convert(from, pattern, to));
+            let other = negated(from, pattern);
+            let mut others = vec![Question::Convert(from, other, to)];
+            for kind in CONCRETE.into_iter().filter(|kind| *kind != to) {
+                others.extend([pattern, other].map(|pattern| Question::Convert(from, pattern, kind)));
+            }
+            others.retain(|_| r.one_in(plan.literal_edges));
+            questions.extend(others);
+        }
+        each(Block { file: none.clone(), questions });
+    }
+    let mut left = plan.literals;
+    while left > 0 {
+        let n = left.min(1000);
+        each(Block { file: none.clone(), questions: (0..n).map(|_| any_literal(&mut r)).collect() });
+        left -= n;
+    }
+    // a member that no struct names, and none
+    for t in [naming(1, &[]), naming(0, &[])] {
+        each(Block { file: t.write(&[]), questions: vec![Question::Convert(ABSTRACT_INT, 7, 3)] });
     }
 }

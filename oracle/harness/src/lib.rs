@@ -2,6 +2,7 @@
 pub mod compare;
 pub mod file;
 pub mod generate;
+pub mod literal;
 pub mod model;
 pub mod question;
 pub mod rows;

@@ -1,10 +1,11 @@
 //! Document 01's rules, written from its text: which file is refused, with what number and place, and what the calls answer; and document
 //! 02's on strides, bit fields, vectors of three bools, the uniform profile, scalars of 64 bits, the two forms of a file, site blocks,
-//! cleaning, member orders and members that no struct names. It decides where Lepugaso and the Rust may differ (the rows of
-//! docs/DIFFERENCES.md), and what Lepugaso has to say there.
+//! cleaning, member orders and members that no struct names; `literal` has those on literals. It decides where Lepugaso and the Rust may
+//! differ (the rows of docs/DIFFERENCES.md), and what Lepugaso has to say there.
 use std::collections::BTreeSet;
 
 use crate::file::{Entry, Member, Table};
+use crate::literal;
 use crate::question::{
     self, Answer, Field, Question, Sheets, Shown, with_buffer, with_gaps, with_mask, with_part, with_shown, with_site,
     with_words,
@@ -1015,6 +1016,11 @@ pub fn answer(file: &[u8], checked: &Result<Good, Refusal>, nodes: &[u64], q: &Q
     if let Some(word) = of_word(q) {
         return Due { says: word.to_string(), row: Some(Row::BitFields), rust: Some(NOTHING.into()) };
     }
+    if let Question::Convert(from, pattern, to) = q {
+        let says = question::told(literal::convert(*from, *pattern, *to));
+        let (row, rust) = rows::converted(*from, *pattern, *to, &says).unzip();
+        return Due { says, row, rust };
+    }
     if let Question::Move(to, output) = q {
         let mut output = output.clone();
         let says = with_buffer(moved(file, checked, *to, &mut output), &output);
@@ -1083,7 +1089,8 @@ pub fn answer(file: &[u8], checked: &Result<Good, Refusal>, nodes: &[u64], q: &Q
             let answer = good.site_set(*e as usize, *k, path, words, &mut mask, &mut sheets);
             with_site(answer, mask, &sheets.site)
         }
-        Question::ExtractU32(..) | Question::InsertU32(..) | Question::Move(..) => unreachable!("answered before"),
+        Question::ExtractU32(..) | Question::InsertU32(..) => unreachable!("answered before"),
+        Question::Convert(..) | Question::Move(..) => unreachable!("answered before"),
     };
     let deep = |e: &u32| nodes[*e as usize] > crate::types::MOST;
     let asked_deep = match q {

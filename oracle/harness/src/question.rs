@@ -1,7 +1,7 @@
-//! Questions, their lines and those of their answers (oracle/README.md, version 12).
+//! Questions, their lines and those of their answers (oracle/README.md, version 13).
 
-pub const HEAD: &str = "questions 12";
-pub const ANSWERS_HEAD: &str = "answers 12";
+pub const HEAD: &str = "questions 13";
+pub const ANSWERS_HEAD: &str = "answers 13";
 
 #[derive(Clone)]
 pub enum Question {
@@ -35,6 +35,8 @@ pub enum Question {
     ExtractU32(u32, Field),
     /// a word, the new value and the field
     InsertU32(u32, u32, Field),
+    /// a literal's kind and pattern, and the kind to convert it to
+    Convert(u32, u64, u32),
     /// the form to move to, and what the output holds before
     Move(u16, Vec<u8>),
     /// an entry, and the mask before
@@ -83,9 +85,9 @@ fn listed(start: String, numbers: &[u32]) -> String {
     start + &numbers.iter().map(|n| format!(" {n}")).collect::<String>()
 }
 
-/// The low and the high 32 bits of a mask.
-fn halves(mask: u64) -> String {
-    format!("{} {}", mask as u32, mask >> 32)
+/// The low and the high 32 bits of a mask or a pattern.
+fn halves(long: u64) -> String {
+    format!("{} {}", long as u32, long >> 32)
 }
 
 fn hex(bytes: &[u8]) -> String {
@@ -114,6 +116,7 @@ impl Question {
             Question::Insert(e, new, field, path, _) => listed(format!("insert {e} {new} {}", field.line()), path),
             Question::ExtractU32(word, field) => format!("extract_u32 {word} {}", field.line()),
             Question::InsertU32(word, new, field) => format!("insert_u32 {word} {new} {}", field.line()),
+            Question::Convert(from, pattern, to) => format!("convert {from} {} {to}", halves(*pattern)),
             Question::Move(form, _) => format!("to_form_{form}"),
             Question::SiteInheriting(e, mask) => format!("site_inheriting {e} {}", halves(*mask)),
             Question::SiteFresh(e, mask, _) => format!("site_fresh {e} {}", halves(*mask)),
@@ -131,7 +134,7 @@ impl Question {
         let word = parts.next().unwrap_or("");
         let n: Vec<u32> = parts.map(|p| p.parse().expect("a number")).collect();
         let field = |offset: &u32, count: &u32| Field { offset: *offset, count: *count };
-        let mask = |low: &u32, high: &u32| (*high as u64) << 32 | *low as u64;
+        let long = |low: &u32, high: &u32| (*high as u64) << 32 | *low as u64;
         let sheets = || Sheets { factory: factory.to_vec(), site: buffer.to_vec() };
         match (word, n.as_slice()) {
             ("check", []) => Question::Check,
@@ -158,15 +161,16 @@ impl Question {
             }
             ("extract_u32", [word, o, c]) => Question::ExtractU32(*word, field(o, c)),
             ("insert_u32", [word, new, o, c]) => Question::InsertU32(*word, *new, field(o, c)),
+            ("convert", [from, l, h, to]) => Question::Convert(*from, long(l, h), *to),
             ("to_form_1", []) => Question::Move(1, buffer.to_vec()),
             ("to_form_2", []) => Question::Move(2, buffer.to_vec()),
-            ("site_inheriting", [e, l, h]) => Question::SiteInheriting(*e, mask(l, h)),
-            ("site_fresh", [e, l, h]) => Question::SiteFresh(*e, mask(l, h), sheets()),
-            ("site_clear", [e, k, l, h]) => Question::SiteClear(*e, *k, mask(l, h)),
-            ("site_member", [e, k, l, h]) => Question::SiteMember(*e, *k, mask(l, h), sheets()),
+            ("site_inheriting", [e, l, h]) => Question::SiteInheriting(*e, long(l, h)),
+            ("site_fresh", [e, l, h]) => Question::SiteFresh(*e, long(l, h), sheets()),
+            ("site_clear", [e, k, l, h]) => Question::SiteClear(*e, *k, long(l, h)),
+            ("site_member", [e, k, l, h]) => Question::SiteMember(*e, *k, long(l, h), sheets()),
             ("site_set", [e, k, l, h, count, rest @ ..]) if *count as usize <= rest.len() => {
                 let (words, path) = rest.split_at(*count as usize);
-                Question::SiteSet(*e, *k, mask(l, h), words.to_vec(), path.to_vec(), sheets())
+                Question::SiteSet(*e, *k, long(l, h), words.to_vec(), path.to_vec(), sheets())
             }
             _ => panic!("not a question: {line}"),
         }
@@ -175,7 +179,8 @@ impl Question {
     /// The entries that the question names.
     pub fn entries(&self) -> Vec<u32> {
         match self {
-            Question::Check | Question::ExtractU32(..) | Question::InsertU32(..) | Question::Move(..) => vec![],
+            Question::Check | Question::Move(..) | Question::Convert(..) => vec![],
+            Question::ExtractU32(..) | Question::InsertU32(..) => vec![],
             Question::Size(e) | Question::Align(e) | Question::MinSize(e) => vec![*e],
             Question::Layout(e) | Question::Uniform(e) => vec![*e],
             Question::Write(e, _, _) | Question::Read(e, _, _) => vec![*e],

@@ -1,6 +1,7 @@
 //! The rows of docs/DIFFERENCES.md. `model` decides which of them a question falls under, and asks here what the Rust says of numbers and
 //! does with a buffer instead; the document's own examples are read here too.
 use crate::file::{Member, Table};
+use crate::literal;
 use crate::model::{self, Good, Laid, Stand, Target, members};
 use crate::question::{Answer, Block, Question, parse_bytes, told, with_buffer, with_gaps, with_part, with_words};
 use crate::types::{NOTHING, PANICS, put_front};
@@ -56,6 +57,10 @@ rows! {
     ViewGaps = "view-gaps",
     SetAtomic = "set-atomic",
     SetGaps = "set-gaps",
+    NoScalar = "no-scalar",
+    IntToF16 = "int-to-f16",
+    NanLiteral = "nan-literal",
+    F16LowBits = "f16-low-bits",
     BitFields = "bit-fields",
     Uniform = "uniform",
     Forms = "forms",
@@ -428,6 +433,27 @@ pub fn departure(good: &Good, q: &Question, says: &str) -> Option<(Row, String)>
         Question::Uniform(_) => (Row::Uniform, NOTHING.into()),
         Question::SiteInheriting(..) | Question::SiteFresh(..) | Question::SiteClear(..) => (Row::Site, NOTHING.into()),
         Question::SiteMember(..) | Question::SiteSet(..) => (Row::Site, NOTHING.into()),
+        _ => return None,
+    };
+    (said != says).then_some((row, said))
+}
+
+/// A NaN of an abstract float as the Rust converts it, quiet: the sign, and of the bits below as many as there are, the highest first. An
+/// f32 has 29 bits of mantissa fewer, an f16 42.
+fn nan(pattern: u64, to: u32) -> u64 {
+    let (infinity, quiet, fewer) = if to == 3 { (0x7f80_0000, 1 << 22, 29) } else { (0x7c00, 1 << 9, 42) };
+    let sign = if pattern >> 63 == 1 { infinity + 2 * quiet } else { 0 };
+    sign + (infinity | quiet | (pattern & 0x000f_ffff_ffff_ffff) >> fewer)
+}
+
+/// The row of a conversion of a literal, and what the Rust says of it; none where that is what 02 says.
+pub fn converted(from: u32, pattern: u64, to: u32, says: &str) -> Option<(Row, String)> {
+    let (row, said) = match (from, to) {
+        _ if !literal::is_kind(from) || !literal::is_kind(to) => (Row::NoScalar, NOTHING.into()),
+        (5, 4) => (Row::IntToF16, NOTHING.into()),
+        (6, 3 | 4) if literal::is_nan(pattern) => (Row::NanLiteral, nan(pattern, to).to_string()),
+        // half does not look at the lowest 32 bits
+        (6, 4) => (Row::F16LowBits, told(literal::convert(6, pattern & !0xffff_ffff, 4))),
         _ => return None,
     };
     (said != says).then_some((row, said))

@@ -5,14 +5,14 @@ use std::panic::{AssertUnwindSafe, catch_unwind};
 
 use half::f16;
 use wgsl_types::Error;
-use wgsl_types::conv::{conversion_rank, convert_all_ty};
+use wgsl_types::conv::{Convert, conversion_rank, convert_all_ty};
 use wgsl_types::inst::{
     ArrayInstance, AtomicInstance, Instance, LiteralInstance, MatInstance, MemView, StructInstance, VecInstance,
 };
 use wgsl_types::ty::{StructMemberType, StructType, Ty, Type};
 
 use crate::file::{Entry, Table};
-use crate::model::{Good, Refusal};
+use crate::model::{Good, Refusal, is_scalar};
 use crate::question::{self, Answer, Question, with_buffer, with_gaps, with_part, with_words};
 use crate::rows::VAST;
 
@@ -450,6 +450,54 @@ fn check_order(ty: &Type, order: &[u32]) -> Answer {
     new.filter(|new| *new < now).map(u64::from).ok_or((23, 0))
 }
 
+/// The type of a scalar's kind.
+fn scalar(kind: u32) -> Option<Type> {
+    let kind = u8::try_from(kind).ok().filter(|kind| is_scalar(*kind))?;
+    entry(&Table::default(), &[], 0, &Entry { kind, ..Entry::default() })
+}
+
+/// The literal of a scalar whose pattern is the lowest bits of this one.
+fn literal_of(scalar: &Type, pattern: u64) -> LiteralInstance {
+    match scalar {
+        Type::Bool => LiteralInstance::Bool(pattern & 1 == 1),
+        Type::I32 => LiteralInstance::I32(pattern as i32),
+        Type::U32 => LiteralInstance::U32(pattern as u32),
+        Type::F32 => LiteralInstance::F32(f32::from_bits(pattern as u32)),
+        Type::F16 => LiteralInstance::F16(f16::from_bits(pattern as u16)),
+        Type::AbstractInt => LiteralInstance::AbstractInt(pattern as i64),
+        Type::AbstractFloat => LiteralInstance::AbstractFloat(f64::from_bits(pattern)),
+        Type::I64 => LiteralInstance::I64(pattern as i64),
+        Type::U64 => LiteralInstance::U64(pattern),
+        Type::F64 => LiteralInstance::F64(f64::from_bits(pattern)),
+        _ => unreachable!("a scalar"),
+    }
+}
+
+/// The pattern of a literal.
+fn pattern_of(literal: LiteralInstance) -> u64 {
+    match literal {
+        LiteralInstance::Bool(b) => b as u64,
+        LiteralInstance::I32(n) => n as u32 as u64,
+        LiteralInstance::U32(n) => n as u64,
+        LiteralInstance::F32(n) => n.to_bits() as u64,
+        LiteralInstance::F16(n) => n.to_bits() as u64,
+        LiteralInstance::AbstractInt(n) | LiteralInstance::I64(n) => n as u64,
+        LiteralInstance::AbstractFloat(n) | LiteralInstance::F64(n) => n.to_bits(),
+        LiteralInstance::U64(n) => n,
+    }
+}
+
+/// The Rust converts a literal. None where a kind is no scalar's, and of an abstract int to an f16: there the Rust calls `f16::from_i64`,
+/// which half 1.6.0 lacks and oracle/num-traits only stands in for.
+fn convert(from: u32, pattern: u64, to: u32) -> Option<String> {
+    let (from, to) = (scalar(from)?, scalar(to)?);
+    if (&from, &to) == (&Type::AbstractInt, &Type::F16) {
+        return None;
+    }
+    let converted = literal_of(&from, pattern).convert_to(&to);
+    Some(question::told(converted.map(pattern_of).ok_or((25, 0))))
+}
+
 /// What the Rust says of a question; `NOTHING` where it has no type, or no value, to be asked about. Buffers are asked about on tables
 /// whose entries 01 accepts.
 pub fn answer(types: &[Option<Type>], laid: &Result<Good, Refusal>, q: &Question) -> String {
@@ -496,6 +544,7 @@ pub fn answer(types: &[Option<Type>], laid: &Result<Good, Refusal>, q: &Question
             let (_, ty) = laid.as_ref().ok().zip(of(e))?;
             Some(question::told(check_order(ty, order)))
         }
+        Question::Convert(from, pattern, to) => convert(*from, *pattern, *to),
         // The six files have no such function.
         Question::Uniform(_) | Question::Move(..) => None,
         Question::Extract(..) | Question::Insert(..) | Question::ExtractU32(..) | Question::InsertU32(..) => None,

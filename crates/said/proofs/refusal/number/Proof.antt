@@ -74,12 +74,15 @@ returns-22 c = ap numberOf (sym (c .enum-told22 .given .1))
 returns-23 : tie.Need-returns-23
 returns-23 c = ap numberOf (sym (c .enum-told23 .given .1))
 
+returns-24 : tie.Need-returns-24
+returns-24 c = ap numberOf (sym (c .enum-told24 .given .1))
+
 pub number-spec : {M : Type 1} → statement M
 number-spec =
     tie.close (tie.spec
     (λ c. search needs) (λ c. search needs) (λ c. search needs) (λ c. search needs) (λ c. search needs) (λ c. search needs)
     (λ c. search needs) (λ c. search needs) (λ c. search needs) (λ c. search needs) (λ c. search needs) (λ c. search needs)
     (λ c. search needs) (λ c. search needs) (λ c. search needs) (λ c. search needs) (λ c. search needs) (λ c. search needs)
-    (λ c. search needs) (λ c. search needs) (λ c. search needs) (λ c. search needs) (λ c. search needs)
+    (λ c. search needs) (λ c. search needs) (λ c. search needs) (λ c. search needs) (λ c. search needs) (λ c. search needs)
     returns returns-2 returns-3 returns-4 returns-5 returns-6 returns-7 returns-8 returns-9
-    returns-10 returns-11 returns-12 returns-13 returns-14 returns-15 returns-16 returns-17 returns-18 returns-19 returns-20 returns-21 returns-22 returns-23)
+    returns-10 returns-11 returns-12 returns-13 returns-14 returns-15 returns-16 returns-17 returns-18 returns-19 returns-20 returns-21 returns-22 returns-23 returns-24)
