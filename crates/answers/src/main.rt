@@ -66,9 +66,9 @@ fn main() {
     let n = io::read_full(STDIN_FILENO, &mut input);
     let text = &input[..n];
     let first = next(text, 0, 10);
-    if !same(&text[..first], b"questions 12") {
-        return say(b"not questions 12\n");
+    if !same(&text[..first], b"questions 13") {
+        return say(b"not questions 13\n");
     }
-    say(b"answers 12\n");
+    say(b"answers 13\n");
     answer_all(text, first + 1, &mut file, &mut buffer, &mut factory);
 }

@@ -9,6 +9,7 @@ use crate::say::say_layout;
 use crate::say::say_mask;
 use crate::say::say_moved;
 use crate::say::say_number;
+use crate::say::say_pattern;
 use crate::say::say_plain;
 use crate::say::say_shown;
 use crate::say::say_walked;
@@ -18,6 +19,7 @@ use lepugaso::check;
 use lepugaso::check_order;
 use lepugaso::clean;
 use lepugaso::common;
+use lepugaso::convert;
 use lepugaso::extract_bits;
 use lepugaso::extract_bits_u32;
 use lepugaso::insert_bits;
@@ -184,8 +186,8 @@ fn answer_move(file: &[u8], form_1: bool, held: &[u8]) {
     say(b"\n");
 }
 
-// A mask by its low and its high 32 bits.
-fn mask_of(low: u32, high: u32) -> u64 {
+// A number of 64 bits by its low and its high 32.
+fn joined(low: u32, high: u32) -> u64 {
     (high as u64) * 4294967296 + (low as u64)
 }
 
@@ -294,23 +296,23 @@ fn answer_site_set_of(
 fn answer_site<'a>(file: &[u8], held: &'a [u8], factory: &'a [u8], word: &[u8], ns: &[u32]) {
     if ns.len() == 3 {
         if same(word, b"site_inheriting") {
-            return answer_inheriting(file, ns[0], mask_of(ns[1], ns[2]));
+            return answer_inheriting(file, ns[0], joined(ns[1], ns[2]));
         }
         if same(word, b"site_fresh") {
-            return answer_fresh(file, ns[0], mask_of(ns[1], ns[2]), factory, held);
+            return answer_fresh(file, ns[0], joined(ns[1], ns[2]), factory, held);
         }
     }
     if ns.len() == 4 {
         if same(word, b"site_clear") {
-            return answer_clear(file, ns[0], ns[1], mask_of(ns[2], ns[3]));
+            return answer_clear(file, ns[0], ns[1], joined(ns[2], ns[3]));
         }
         if same(word, b"site_member") {
-            return answer_member(file, ns[0], ns[1], mask_of(ns[2], ns[3]), factory, held);
+            return answer_member(file, ns[0], ns[1], joined(ns[2], ns[3]), factory, held);
         }
     }
     if 4 < ns.len() {
         if same(word, b"site_set") {
-            let mask = mask_of(ns[2], ns[3]);
+            let mask = joined(ns[2], ns[3]);
             return answer_site_set_of(file, ns[0], ns[1], mask, ns[4], &ns[5..], factory, held);
         }
     }
@@ -362,6 +364,9 @@ fn answer(file: &[u8], word: &[u8], ns: &[u32]) {
     if ns.len() == 4 {
         if same(word, b"insert_u32") {
             return say_number(Number::Is(insert_bits_u32(ns[0], ns[1], ns[2], ns[3])));
+        }
+        if same(word, b"convert") {
+            return say_pattern(convert(ns[0], joined(ns[1], ns[2]), ns[3]));
         }
     }
     say(b"not a question\n");

@@ -6,6 +6,7 @@ use said::answer::Cleaned;
 use said::answer::Maybe;
 use said::answer::Moved;
 use said::answer::Number;
+use said::answer::Pattern;
 use said::refusal::Refusal;
 use said::refusal::number;
 use said::refusal::place;
@@ -52,6 +53,17 @@ pub fn say_cleaned(c: Cleaned) {
         }
         Cleaned::Refused(r) => say_refused(r),
     }
+}
+
+// The pattern of a literal.
+pub fn say_pattern(p: Pattern) {
+    match p {
+        Pattern::Is(bits) => {
+            io::print_decimal(STDOUT_FILENO, bits);
+        }
+        Pattern::Refused(r) => say_refused(r),
+    }
+    say(b"\n");
 }
 
 pub fn say_number(n: Number) {

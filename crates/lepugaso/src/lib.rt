@@ -1,7 +1,7 @@
 // The public calls, in one place. None has a `requires`: any bytes of any length and any numbers are answered. Each answers a number or a
 // refusal (`said::answer::Number`), but for `layout`, which answers all four numbers of an entry (`said::answer::Answer`), `view_at`, which
 // answers a target (`said::target::Walked`), the two views, which hand back a part of the buffer that they were lent, the four calls on
-// numbers alone, which answer a number, the two moves, which answer a length (`said::answer::Moved`), and `clean`, which answers what it
+// numbers alone, which answer a number, the two moves, which answer a length (`said::answer::Moved`), `convert`, which answers a pattern (`said::answer::Pattern`), and `clean`, which answers what it
 // changed (`said::answer::Cleaned`). The refusals of each stand over it; whatever takes a file gives 24 besides, after 1 to 7.
 
 // How many entries an accepted file has; else 1 to 7.
@@ -15,6 +15,8 @@ pub use layout_ask::layout;
 // The rank of one entry's type to another's, and the common type of a list of entries; else 1 to 8, 18.
 pub use convert_ask::common;
 pub use convert_ask::rank;
+// A literal of one kind as one of another: its pattern; else 25.
+pub use literals::convert;
 // The words of an entry into a buffer (the byte count), and out of one (the word count); else 1 to 10, 14 to 17.
 pub use words::reading::read;
 pub use words::writing::write;

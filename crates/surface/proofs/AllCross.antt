@@ -78,4 +78,5 @@ all-cross f =
       clean = λ e b. whole _ (changed-fits _ (fits .clean e b));
       plan-order = λ e lent. whole _ (answer-fits _ (fits .plan-order e lent));
       check-order = λ e order. whole _ (fits .check-order e order);
+      convert = λ a b c. whole _ (fits .convert a b c);
     }

@@ -18,6 +18,7 @@ use Rattle.wgsl.specs.Form.{moveOnCall, moveBackCall}
 use Rattle.wgsl.specs.Site.{inheritingCall, freshCall, memberCall, siteSetCall, siteAnswer, clearCall, zeroOf}
 use Rattle.wgsl.specs.Clean.{cleanCall, changedOf}
 use Rattle.wgsl.specs.Order.{planCall, orderCall}
+use Rattle.wgsl.specs.Literal.{convertCall}
 use Rattle.surface.specs.declared.Crossing.{Crossing}
 
 -- 0 and the value, or the refusal's number and place
@@ -84,3 +85,4 @@ pub record AllCross (f : List ℕ) : Type 0 where
   pub clean : (e : ℕ) (b : List ℕ) → CrossesWhole (changedOf (cleanCall f e b))
   pub plan-order : (e : ℕ) (lent : List ℕ) → CrossesWhole (answerOf (planCall f e lent))
   pub check-order : (e : ℕ) (order : List ℕ) → CrossesWhole (orderCall f e order)
+  pub convert : (from bits to : ℕ) → CrossesWhole (convertCall from bits to)

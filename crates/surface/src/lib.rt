@@ -5,6 +5,7 @@ use said::answer::Cleaned;
 use said::answer::Maybe;
 use said::answer::Moved;
 use said::answer::Number;
+use said::answer::Pattern;
 use said::refusal::number;
 use said::refusal::place;
 use said::target::Walked;
@@ -17,8 +18,9 @@ ghost use Rattle.wgsl.specs.Uniform.{uniformCall};
 ghost use Rattle.wgsl.specs.Form.{moveOnCall, moveBackCall};
 ghost use Rattle.wgsl.specs.Site.{inheritingCall, freshCall, clearCall, memberCall, siteSetCall, zeroOf, maskAfter, siteAnswer, siteAfter, maskSet};
 ghost use Rattle.wgsl.specs.Order.{planCall, orderCall};
+ghost use Rattle.wgsl.specs.Literal.{convertCall};
 ghost use Rattle.wgsl.specs.Clean.{cleanCall, changedOf, firstAfter, cleanAfter};
-ghost use Rattle.said.specs.Answer.{saidNumber, saidMoved, maybeOf};
+ghost use Rattle.said.specs.Answer.{saidNumber, saidMoved, saidPattern, maybeOf};
 ghost use Rattle.surface.specs.Crossing.{crossed, crossedMaybe, told, laidOut, sizeOut, siteOut};
 
 // An answer as it crosses to C: 0 or document 01's number, its place, the value (0 when refused).
@@ -58,6 +60,20 @@ fn cross_moved(m: Moved) -> Crossing
             value: length as u64,
         },
         Moved::Refused(r) => cross(Number::Refused(r)),
+    }
+}
+
+// A pattern or a refusal, as it crosses.
+fn cross_pattern(p: Pattern) -> Crossing
+    ensures { λ r. ⌜ r ≡ crossed (saidPattern p) ⌝ }
+{
+    match p {
+        Pattern::Is(bits) => Crossing {
+            refusal: 0,
+            place: 0,
+            value: bits,
+        },
+        Pattern::Refused(r) => cross(Number::Refused(r)),
     }
 }
 
@@ -426,4 +442,11 @@ pub extern "C" fn lepugaso_surface_check_order(file: &[u8], entry: u32, order: &
     ensures { λ r. ⌜ r ≡ crossed (orderCall (now (file .entry)) entry (now (order .entry))) ⌝ }
 {
     cross(lepugaso::check_order(file, entry, order))
+}
+
+#[no_mangle]
+pub extern "C" fn lepugaso_surface_convert(from: u32, bits: u64, to: u32) -> Crossing
+    ensures { λ r. ⌜ r ≡ crossed (convertCall from bits to) ⌝ }
+{
+    cross_pattern(lepugaso::convert(from, bits, to))
 }

@@ -58,6 +58,8 @@ pub mod Common
 pub mod SameType
 pub mod CommonCall
 pub mod Nearest
+pub mod Literal
+pub mod LiteralCall
 pub mod Case
 pub mod StrideCase
 pub mod BoolCase
@@ -70,6 +72,7 @@ pub mod SiteWitness
 pub mod StartWitness
 pub mod StrayWitness
 pub mod CommonWitness
+pub mod LiteralWitness
 pub mod CleanWitness
 pub mod OrderWitness
 pub mod Site
@@ -80,6 +83,7 @@ pub mod SiteCase
 pub mod StartCase
 pub mod StrayCase
 pub mod CommonCase
+pub mod LiteralCase
 pub mod CleanCase
 pub mod OrderCase
 pub mod OrderList

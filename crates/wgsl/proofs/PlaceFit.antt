@@ -27,6 +27,7 @@ use Rattle.wgsl.specs.Site.{blockEntry, blockIn, memberOf, inheritingCal
 use Rattle.wgsl.specs.Clean.{cleanType, cleanCall}
 use Rattle.wgsl.specs.Order.{membersIn, structMembers, newEnd, planMembers, planCall, orderCall}
 use Rattle.wgsl.specs.Claim.{PlaceFits, PlacesFit}
+use Rattle.wgsl.proofs.LiteralCall.{convert-refuses}
 use Rattle.wgsl.proofs.Said.{good-not-refused, then-cases, refuse-cases, orRefuse-good, orRefuse-refused}
 use Rattle.wgsl.proofs.Accepted.{refused-place}
 use Rattle.wgsl.proofs.ScalarWords.{scalar-length}
@@ -291,4 +292,5 @@ places-fit f =
       clean = fits-clean f;
       plan-order = fits-plan f;
       check-order = fits-order f;
+      convert = λ a b c number place e. omega (arith, convert-refuses a b c e .1);
     }

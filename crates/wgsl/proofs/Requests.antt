@@ -2,7 +2,7 @@
 --
 -- Here: E1, strides; E2, bit fields; E4, vectors of three bools; E5, the uniform profile; E6, scalars of 64 bits; E7, the two forms of a
 -- file; E8, factory sheet and site block; E9, the gaps cleaned; E10, a better member order; E11, the two starts of a site block; E12, members
--- that nobody names; E13, common types in any order and grouping.
+-- that nobody names; E13, common types in any order and grouping; E14, literals converted.
 -- That the places of refusals fit and what the calls have in common with those of 01 stands in Claims.
 -- Assumes nothing.
 use Prim.Native.Nat.{ℕ, _+_, _-_, _*_, _%_, _^_, _<_, _≤_, max, min}
@@ -15,10 +15,10 @@ use lib.IntN.{pos, _-ℤ_}
 use lib.ListN.{length, getD, getElem?, take, drop}
 use Rattle.wgsl.specs.Number.{load}
 use Rattle.wgsl.specs.Round.{up, limit}
-use Rattle.wgsl.specs.Types.{Scalar, Ty, array, runtime, struct, Members, everywhere}
+use Rattle.wgsl.specs.Types.{Scalar, Ty, array, runtime, struct, Members, everywhere, scalarKind}
 use Rattle.wgsl.specs.Size.{present, widthOf, sizeOf, alignOf, ownStrideOf, isStorable}
 use Rattle.wgsl.specs.Said.{good, refused}
-use Rattle.wgsl.specs.Rule.{isWellFormed, countOf, typesBelow, typesOf}
+use Rattle.wgsl.specs.Rule.{scalarOfKind, isWellFormed, countOf, typesBelow, typesOf}
 use Rattle.wgsl.specs.Place.{shapeOf, spanOf, one, elementsIn, Place, wordsFor, wordPlaces, places, wordCount, wordsRead}
 use Rattle.wgsl.specs.Call.{Done, entryOf, entryFor, readCall, writeCall, setCall, rankCall, commonCall}
 use Rattle.wgsl.specs.Path.{Target, walk, stepOf}
@@ -50,6 +50,9 @@ use Rattle.wgsl.specs.OrderClaim.{IsPlanned, CanPlan, Accepted, CanOrder
 use Rattle.wgsl.specs.OrderCase.{orderCasesPass}
 use Rattle.wgsl.specs.CommonClaim.{SameMembers, PartOf, Grouping, membersIn, commonOfGrouping, groupingCall, Same, IsCommon, AllEntries, SameCommon, Alike}
 use Rattle.wgsl.specs.CommonCase.{commonCasesPass}
+use Rattle.wgsl.specs.Literal.{Format, worth, rounded, Literal, unitOf, inFormat, patternBits, convertCall}
+use Rattle.wgsl.specs.LiteralClaim.{IsNearest, IsFloat, literalIn, formatOf}
+use Rattle.wgsl.specs.LiteralCase.{literalCasesPass}
 use Rattle.wgsl.proofs.Stride as stride
 use Rattle.wgsl.proofs.StrideCase.{stride-cases-pass}
 use Rattle.wgsl.proofs.BitField as field
@@ -84,6 +87,10 @@ use Rattle.wgsl.proofs.Common as common
 use Rattle.wgsl.proofs.SameType as same-type
 use Rattle.wgsl.proofs.CommonCall as common-call
 use Rattle.wgsl.proofs.CommonCase.{common-cases-pass}
+use Rattle.wgsl.proofs.Nearest as nearest
+use Rattle.wgsl.proofs.Literal as literal
+use Rattle.wgsl.proofs.LiteralCall as literal-call
+use Rattle.wgsl.proofs.LiteralCase.{literal-cases-pass}
 
 -- ---- E1: strides
 
@@ -551,3 +558,56 @@ zero-rank = common-call.zero-rank
 -- Orders and groupings with one answer, with two numbers of one type, with 18 and with 8; ranks that add up.
 pub common-cases : T commonCasesPass
 common-cases = common-cases-pass
+
+-- ---- E14: converting the literals
+
+-- "Floats are rounded to nearest, ties to even, defined over whole numbers": no pattern of d digits, whose number is in units of u, is nearer
+-- to n, and of two as near it is the even one;
+pub rounded-nearest : (d u n : ℕ) → 0 < d → 0 < u → IsNearest d u n (rounded d u n)
+rounded-nearest = nearest.rounded-nearest
+
+-- there is no other such.
+pub nearest-one : (d u n : ℕ) {r t : ℕ} → 0 < u → IsNearest d u n r → IsNearest d u n t → r ≡ t
+nearest-one = nearest.nearest-unique
+
+-- Exact values stay,
+pub exact-stays : (f : Format) (m : ℕ) → 0 < f .digits → rounded (f .digits) (unitOf f) (unitOf f * worth (f .digits) m) ≡ m
+exact-stays = literal.exact-stays
+
+-- and a larger literal never rounds to a smaller number.
+pub order-kept : (f : Format) (n n′ : ℕ) → 0 < f .digits → n ≤ n′ → rounded (f .digits) (unitOf f) n ≤ rounded (f .digits) (unitOf f) n′
+order-kept = literal.order-kept
+
+-- "one statement over the width of the target serves all": what a literal becomes in a format is the nearest, finite, with its sign, of zero
+-- too; and what is so, it becomes: so where there is none, none is given.
+pub float-is : (f : Format) (l : Literal) → 0 < f .digits → {p : ℕ} → inFormat f l ≡ some p → IsFloat f l p
+float-is = literal.float-is
+
+pub float-if : (f : Format) (l : Literal) → 0 < f .digits → {p : ℕ} → IsFloat f l p → inFormat f l ≡ some p
+float-if = literal.float-if
+
+pub float-one : (f : Format) (l : Literal) → 0 < f .digits → {p q : ℕ} → IsFloat f l p → IsFloat f l q → p ≡ q
+float-one = literal.float-one
+
+-- The same of the call, from any kind to a float of another.
+pub convert-float : (a b c : ℕ) {s t : Scalar} (f : Format) {p : ℕ} → scalarOfKind a ≡ some s → scalarOfKind c ≡ some t → (scalarKind s ≡ scalarKind t → ⊥) → formatOf t ≡ some f → convertCall a b c ≡ good p → (l : Literal) × (literalIn s (b % 2 ^ patternBits s) ≡ some l) × IsFloat f l p
+convert-float = literal-call.convert-float
+
+-- A conversion exists exactly where there is a rank between the two scalars: what converts has one, and where there is one, zero converts.
+pub convert-ranked : (a b c : ℕ) {s t : Scalar} {p : ℕ} → scalarOfKind a ≡ some s → scalarOfKind c ≡ some t → convertCall a b c ≡ good p → (r : ℕ) × (scalarRank s t ≡ some r)
+convert-ranked = literal-call.convert-ranked
+
+pub ranked-convert : (a c : ℕ) {s t : Scalar} {r : ℕ} → scalarOfKind a ≡ some s → scalarOfKind c ≡ some t → scalarRank s t ≡ some r → (p : ℕ) × (convertCall a 0 c ≡ good p)
+ranked-convert = literal-call.ranked-convert
+
+-- The answer has the bits of its kind, and no higher ones.
+pub convert-bits : (a b c : ℕ) {t : Scalar} {p : ℕ} → scalarOfKind c ≡ some t → convertCall a b c ≡ good p → p < 2 ^ patternBits t
+convert-bits = literal-call.convert-bits
+
+-- "Refusals: 25", and no other.
+pub convert-refuses : (a b c : ℕ) {number place : ℕ} → convertCall a b c ≡ refused number place → (number ≡ 25) × (place ≡ 0)
+convert-refuses = literal-call.convert-refuses
+
+-- Each edge of each target, ties, subnormals, negative zero, the ranges of integers, and what is refused.
+pub literal-cases : T literalCasesPass
+literal-cases = literal-cases-pass

@@ -27,6 +27,7 @@ use Rattle.wgsl.specs.Form.{nameAt, toForm2, toForm1, moveOnCall, moveBa
 use Rattle.wgsl.specs.Site.{inheritingCall, freshCall, memberCall, siteSetCall, clearCall}
 use Rattle.wgsl.specs.Clean.{cleanCall}
 use Rattle.wgsl.specs.Order.{planCall, orderCall}
+use Rattle.wgsl.specs.Literal.{convertCall}
 use Rattle.wgsl.specs.Uniform.{isUniform, refersTo, isBroken, uniformCall}
 
 -- ---- bytes
@@ -338,6 +339,7 @@ pub record PlacesFit (f : List ℕ) : Type 0 where
   pub clean : (e : ℕ) (b : List ℕ) → PlaceFits (cleanCall f e b)
   pub plan-order : (e : ℕ) (lent : List ℕ) → PlaceFits (planCall f e lent)
   pub check-order : (e : ℕ) (order : List ℕ) → PlaceFits (orderCall f e order)
+  pub convert : (from bits to : ℕ) → PlaceFits (convertCall from bits to)
 
 -- ---- two files with the same answers
 

@@ -38,6 +38,7 @@ pub mod SiteCase
 pub mod StartCase
 pub mod StrayCase
 pub mod CommonCase
+pub mod LiteralCase
 pub mod CleanCase
 pub mod OrderCase
 pub mod Shapes

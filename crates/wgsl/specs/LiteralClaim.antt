@@ -1,13 +1,15 @@
 -- What the laws of conversions say (02, E14; specs/Literal).
 --
--- In order: the nearest; a float that a literal is converted to.
+-- In order: the nearest; a float that a literal is converted to; the literal of a pattern, and the format of a kind.
 -- Definitions only. Assumes nothing.
 use Prim.Native.Nat.{ℕ, _+_, _-_, _*_, _%_, _<_, _≤_}
 use mathlib.Core.Bool.{Bool}
 use mathlib.Core.Logic.{_⊎_}
 use mathlib.Core.Path.{_≡_}
+use mathlib.Core.Option.{Option, none, some}
 use lib.Dec.{leb}
-use Rattle.wgsl.specs.Literal.{Format, signOf, infinity, worth, Literal, unitOf}
+use Rattle.wgsl.specs.Types.{Scalar, bool, i32, u32, f32, f16, abstractInt, abstractFloat, i64, u64, f64}
+use Rattle.wgsl.specs.Literal.{Format, half, single, double, signOf, infinity, worth, Literal, wholeOf, literalOf, floatOf, unitOf}
 
 -- ---- the nearest
 
@@ -30,3 +32,30 @@ pub record IsFloat (f : Format) (l : Literal) (p : ℕ) : Type 0 where
   pub low : p % signOf f ≡ pattern
   pub sign : leb (signOf f) p ≡ l .negative
   pub fits : p < signOf f + signOf f
+
+-- ---- the literal of a pattern, and the format of a kind
+
+-- an abstract int is a whole number, and an abstract float one of 2^-1074, if it is finite
+unfoldable pub literalIn : Scalar → ℕ → Option Literal
+literalIn bool b = none
+literalIn i32 b = none
+literalIn u32 b = none
+literalIn f32 b = none
+literalIn f16 b = none
+literalIn abstractInt b = some (literalOf (wholeOf b))
+literalIn abstractFloat b = floatOf b
+literalIn i64 b = none
+literalIn u64 b = none
+literalIn f64 b = none
+
+unfoldable pub formatOf : Scalar → Option Format
+formatOf bool = none
+formatOf i32 = none
+formatOf u32 = none
+formatOf f32 = some single
+formatOf f16 = some half
+formatOf abstractInt = none
+formatOf abstractFloat = some double
+formatOf i64 = none
+formatOf u64 = none
+formatOf f64 = none
