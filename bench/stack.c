@@ -1,8 +1,8 @@
 /* How much stack each call takes at the most of three tables of 256 entries, each within the next: nested arrays, nested structs, and both
  * in turn, for a block the last a struct in any case, and for an order one of three members; views, sets and bit fields go by a path
- * through all of them, what is cleaned is a gap within all of them, and what moves to form 1 is the table in form 2. The call runs in a
- * thread whose stack was painted before; what is no longer paint was used, the thread's own start included. Ends with 1 where a call takes
- * more than the header says (LEPUGASO_STACK). */
+ * through all of them, what is cleaned is a gap within all of them, what moves to form 1 is the table in form 2, and what is converted is
+ * the abstract float after 1. The call runs in a thread whose stack was painted before; what is no longer paint was used, the thread's own
+ * start included. Ends with 1 where a call takes more than the header says (LEPUGASO_STACK). */
 #include <pthread.h>
 #include <stdio.h>
 #include <stdlib.h>
@@ -21,12 +21,12 @@ static const uint32_t seven = 7;
 static uint32_t path[ENTRIES - 1];
 static enum {
     CHECK, SIZE, ALIGN, MIN_SIZE, LAYOUT_OF, UNIFORM, RANK, COMMON, TO_FORM_2, TO_FORM_1, WRITE, READ, CLEAN, VIEW, SET, INSERT,
-    EXTRACT, SITE_FRESH, SITE_INHERITING, SITE_MEMBER, SITE_CLEAR, SITE_SET, PLAN_ORDER, CHECK_ORDER, CALLS
+    EXTRACT, SITE_FRESH, SITE_INHERITING, SITE_MEMBER, SITE_CLEAR, SITE_SET, PLAN_ORDER, CHECK_ORDER, CONVERT, CALLS
 } way;
 static const char *const names[CALLS] = {
     "check",           "size",        "align",      "min_size", "layout_of",  "uniform",     "rank",        "common",       "to_form_2",
     "to_form_1",       "write",       "read",       "clean",    "view",       "set",         "insert_bits", "extract_bits", "site_fresh",
-    "site_inheriting", "site_member", "site_clear", "site_set", "plan_order", "check_order",
+    "site_inheriting", "site_member", "site_clear", "site_set", "plan_order", "check_order",  "convert",
 };
 enum { ARRAYS, STRUCTS, BOTH, TABLES };
 static lepugaso_answer answer;
@@ -103,7 +103,8 @@ static void *call(void *unused) {
         answer = lepugaso_site_set(file, file_len, last, 0, path + 1, ENTRIES - 2, &seven, 1, buf, sizeof buf, site, sizeof site, &mask);
         break;
     case PLAN_ORDER: answer = lepugaso_plan_order(file, file_len, last, order, 3); break;
-    default: answer = lepugaso_check_order(file, file_len, last, order, 3);
+    case CHECK_ORDER: answer = lepugaso_check_order(file, file_len, last, order, 3); break;
+    default: answer = lepugaso_convert(6, 0x3ff0000000000001, 3);
     }
     return unused;
 }
@@ -127,7 +128,8 @@ static size_t used(int table) {
     if (way == CLEAN && (answer.value != 4 || first != 12)) exit(1);
     /* All 16 bytes are copied, of the one member. */
     if (way == SITE_FRESH && (mask != 1 || memcmp(site, buf, sizeof site))) exit(1);
-    if (way >= PLAN_ORDER && (answer.value != (way == PLAN_ORDER ? 3 : 32) || order[0] != 1)) exit(1);
+    if ((way == PLAN_ORDER || way == CHECK_ORDER) && (answer.value != (way == PLAN_ORDER ? 3 : 32) || order[0] != 1)) exit(1);
+    if (way == CONVERT && answer.value != 0x3f800000) exit(1);
     return STACK - clean;
 }
 
