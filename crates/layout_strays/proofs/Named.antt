@@ -9,10 +9,10 @@ use mathlib.Core.Path.{_≡_, refl, ap, sym, _∙_}
 use native.Mathlib.Numerals.{add-one}
 use native.Mathlib.Omega.{arith}
 use borrow.Author.Tests.{eq-eqb, ne-eqb, lt-ltb, le-ltb}
-use lib.Dec.{eqb, leb, ltb}
+use lib.Dec.{leb, ltb}
 use lib.ListN.{getD, replicate}
 use Rattle.wgsl.specs.Types.{structKind}
-use Rattle.wgsl.specs.Said.{good, refused, refuse}
+use Rattle.wgsl.specs.Said.{refuse}
 use Rattle.wgsl.specs.File.{TypeEntry, typeEntryAt, typeEntryFrom, typeEntryLength}
 use Rattle.wgsl.specs.Rule.{namesMember, isNamed, allNamed}
 use Rattle.wgsl.proofs.Bit.{bit-above}

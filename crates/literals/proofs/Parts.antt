@@ -3,18 +3,18 @@
 -- In order: kinds by their numbers; a number in a format; an abstract float taken apart; abstract ints; the same kind; the call, by the
 -- kind that is converted.
 -- Assumes nothing.
-use Prim.Native.Nat.{ℕ, zero, suc, _+_, _-_, _*_, _/_, _%_, _^_, _<_, _≤_}
-use mathlib.Core.Bool.{Bool, true, false, cond, not, _&&_}
+use Prim.Native.Nat.{ℕ, _+_, _-_, _*_, _/_, _%_, _^_, _<_, _≤_}
+use mathlib.Core.Bool.{Bool, true, false, cond}
 use mathlib.Core.Option.{Option, none, some}
 use mathlib.Core.Path.{_≡_, refl, ap, sym, _∙_}
 use mathlib.Core.Logic.{⊎-elim}
 use native.Mathlib.Nat.{mul-one, mod-eq-of-lt}
 use native.Mathlib.Omega.{arith}
-use borrow.Author.Tests.{ltb-true, ltb-false, lt-ltb, le-ltb, le-leb, lt-leb, eq-eqb, ne-eqb}
-use lib.Dec.{eqb, leb, ltb}
+use borrow.Author.Tests.{ltb-true, lt-ltb, le-ltb, le-leb, lt-leb, eq-eqb, ne-eqb}
+use lib.Dec.{leb, ltb}
 use Rattle.wgsl.specs.Types.{Scalar, bool, i32, u32, f32, f16, abstractInt, abstractFloat, i64, u64, f64, scalarKind, isScalarKind}
-use Rattle.wgsl.specs.Said.{Said, good, refused, orRefuse, _>>=_}
-use Rattle.wgsl.specs.Rule.{when, andThen, scalarOfKind}
+use Rattle.wgsl.specs.Said.{good, refused, orRefuse, _>>=_}
+use Rattle.wgsl.specs.Rule.{when, scalarOfKind}
 use Rattle.wgsl.specs.Literal.{Format, Literal, rounded, unitOf, infinity, signOf, inFormat, worth, floatOf, Whole, wholeOf, inI32, inU32, literalOf, fromInt, fromFloat, ifSame, converted, patternBits, convertCall}
 use Rattle.wgsl.proofs.Absent.{true-not-false}
 use Rattle.wgsl.proofs.Bit.{lt-or-le}

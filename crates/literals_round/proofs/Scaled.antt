@@ -4,11 +4,11 @@
 -- Assumes nothing.
 use Prim.Native.Nat.{ℕ, zero, suc, _+_, _-_, _*_, _/_, _%_, _^_, _<_, _≤_}
 use mathlib.Core.Bool.{Bool, true, false, cond}
-use mathlib.Core.Logic.{_⊎_, ⊎-elim}
+use mathlib.Core.Logic.{⊎-elim}
 use mathlib.Core.Path.{_≡_, refl, ap, sym, _∙_}
 use native.Mathlib.Omega.{arith}
-use native.Mathlib.Nat.{add-zero, zero-mul, mul-assoc, mul-comm, mul-le-mul-right, mul-lt-mul-of-pos-right, div-eq-of-lt, le-div-iff-mul-le, div-div-eq-div-mul, mod-lt, mod-eq-of-lt, mul-pos, add-mul}
-use borrow.Author.Tests.{ltb-true, ltb-false, lt-ltb, le-ltb}
+use native.Mathlib.Nat.{add-zero, zero-mul, mul-assoc, mul-comm, mul-le-mul-right, mul-lt-mul-of-pos-right, div-eq-of-lt, le-div-iff-mul-le, mod-lt, mod-eq-of-lt, mul-pos, add-mul}
+use borrow.Author.Tests.{lt-ltb, le-ltb}
 use lib.Dec.{ltb}
 use lib.Ieee.{size}
 use lib.Ieee.Digits.{size-lt, size-reaches, size-le}

@@ -1,17 +1,15 @@
 -- Shifts of u64, in whole numbers.
-use Prim.Native.Nat.{ℕ, zero, suc, _+_, _-_, _*_, _/_, _%_, _^_, _≤_, _<_}
-use mathlib.Core.Bool.{Bool, true, false, cond}
+use Prim.Native.Nat.{ℕ, zero, suc, _+_, _-_, _*_, _%_, _^_, _≤_, _<_}
 use mathlib.Core.Logic.{_⊎_, inl, inr, ⊎-elim}
-use mathlib.Core.Path.{_≡_, refl, ap, sym, _∙_}
+use mathlib.Core.Path.{_≡_, ap, _∙_}
 use native.Mathlib.Omega.{arith}
-use native.Mathlib.Nat.{one-mul, mod-eq-of-lt, mod-lt}
-use borrow.Author.Tests.{ltb-true, ltb-false, lt-ltb, le-ltb}
-use lib.Dec.{ltb}
+use native.Mathlib.Nat.{one-mul}
+use borrow.Author.Tests.{lt-ltb, le-ltb}
 use lib.Bits.{bitAnd, and-mask}
 use lib.Count.{leadingZeros, leading-top, leading-of-zero}
-use lib.Pow.{pow-lt, pow-pos, shl-exact}
+use lib.Pow.{pow-lt, shl-exact}
 use lib.Ieee.{size}
-use lib.Ieee.Digits.{size-lt, size-reaches, size-le}
+use lib.Ieee.Digits.{size-lt, size-le}
 use Rattle.wgsl.specs.Literal.{stepped}
 
 -- 1 shifted left

@@ -3,15 +3,14 @@
 -- In order: a float with its sign; what a literal is converted to; every literal has one nearest pattern; ranks; how many bits; refusals.
 -- Not here: rounding (`Nearest`).
 -- Assumes nothing.
-use Prim.Native.Nat.{ℕ, _+_, _-_, _*_, _%_, _^_, _<_, _≤_}
+use Prim.Native.Nat.{ℕ, _+_, _-_, _*_, _%_, _<_, _≤_}
 use mathlib.Core.Bool.{Bool, true, false, cond}
-use mathlib.Core.Logic.{⊎-elim}
-use mathlib.Core.Option.{Option, none, some, Option·some-injective}
+use mathlib.Core.Option.{Option, some, Option·some-injective}
 use mathlib.Core.Path.{_≡_, refl, ap, sym, _∙_}
 use native.Mathlib.Nat.{mod-eq-of-lt, add-mod-left}
 use native.Mathlib.Omega.{arith}
 use borrow.Author.Tests.{eqb-true, ltb-true, lt-ltb, le-leb, lt-leb, leb-true, leb-false}
-use lib.Dec.{eqb, leb, ltb}
+use lib.Dec.{eqb, leb}
 use lib.Ieee.{size}
 use lib.Pow.{pow-pos}
 use Rattle.wgsl.specs.Rule.{when, andThen}
@@ -19,9 +18,8 @@ use Rattle.wgsl.specs.Types.{Scalar, bool, i32, u32, f32, f16, abstractI
 use Rattle.wgsl.specs.Rank as rank
 use Rattle.wgsl.specs.Rank.{fromAbstractInt, fromAbstractFloat, scalarRank}
 use Rattle.wgsl.specs.Literal.{Format, half, single, double, signOf, infinity, lowest, worth, stepped, roundedBy, rounded, Literal, wholeOf, literalOf, floatOf, unitOf, inFormat, inI32, inU32, fromInt, fromFloat, ifSame, converted}
-use Rattle.wgsl.specs.LiteralClaim.{IsNearest, IsFloat, literalIn, formatOf}
-use Rattle.wgsl.proofs.Absent.{true-not-false, some-not-none}
-use Rattle.wgsl.proofs.Bit.{lt-or-le}
+use Rattle.wgsl.specs.LiteralClaim.{IsFloat, literalIn, formatOf}
+use Rattle.wgsl.proofs.Absent.{some-not-none}
 use Rattle.wgsl.proofs.Said.{when-some, andThen-some}
 use Rattle.wgsl.proofs.Nearest.{rounded-nearest, nearest-unique, exact-unchanged, rounded-keeps}
 

@@ -2,23 +2,23 @@
 --
 -- In order: the kinds of a call that is good; ranks; a float; how many bits the answer has; refusals.
 -- Assumes nothing.
-use Prim.Native.Nat.{ℕ, _+_, _-_, _%_, _^_, _<_, _≤_}
-use mathlib.Core.Bool.{Bool, true, false, cond, not, _&&_, and-eq-true-iff}
-use mathlib.Core.Option.{Option, none, some, Option·some-injective}
+use Prim.Native.Nat.{ℕ, _+_, _-_, _%_, _^_, _<_}
+use mathlib.Core.Bool.{Bool, true, false, cond, not, and-eq-true-iff}
+use mathlib.Core.Option.{some, Option·some-injective}
 use mathlib.Core.Path.{_≡_, refl, ap, sym, _∙_}
 use native.Mathlib.Nat.{mod-lt, mod-eq-of-lt}
 use native.Mathlib.Omega.{arith}
-use borrow.Author.Tests.{eqb-true, ltb-true, leb-true, lt-ltb, le-ltb}
+use borrow.Author.Tests.{eqb-true, ltb-true}
 use lib.Dec.{eqb, leb, ltb}
 use lib.Pow.{pow-pos}
 use Rattle.wgsl.specs.Types.{Scalar, bool, i32, u32, f32, f16, abstractInt, abstractFloat, i64, u64, f64, scalarKind}
-use Rattle.wgsl.specs.Said.{Said, good, refused, orRefuse, _>>=_}
+use Rattle.wgsl.specs.Said.{good, refused, orRefuse, _>>=_}
 use Rattle.wgsl.specs.Rule.{when, scalarOfKind}
 use Rattle.wgsl.specs.Rank.{scalarRank}
 use Rattle.wgsl.specs.Literal.{Format, half, single, double, signOf, Literal, Whole, wholeOf, inI32, inU32, fromInt, fromFloat, ifSame, converted, patternBits, convertCall}
 use Rattle.wgsl.specs.LiteralClaim.{IsFloat, literalIn, formatOf}
-use Rattle.wgsl.proofs.Absent.{true-not-false, some-not-none}
-use Rattle.wgsl.proofs.Said.{then-good, then-cases, orRefuse-good, orRefuse-refused, when-some, good-not-refused}
+use Rattle.wgsl.proofs.Absent.{some-not-none}
+use Rattle.wgsl.proofs.Said.{then-good, then-cases, orRefuse-good, orRefuse-refused, when-some}
 use Rattle.wgsl.proofs.ScalarRank.{kind-same}
 use Rattle.wgsl.proofs.Literal.{converts-ranked, ranked-converts, converted-float}
 

@@ -10,10 +10,10 @@ use native.Mathlib.Omega.{arith}
 use lib.Ieee.{size}
 use lib.Pow.{pow-pos}
 use Rattle.wgsl.specs.Types.{f32, f16, abstractInt, abstractFloat, scalarKind}
-use Rattle.wgsl.specs.Said.{good, refused, _>>=_, orRefuse}
+use Rattle.wgsl.specs.Said.{good, _>>=_, orRefuse}
 use Rattle.wgsl.specs.Rule.{when, andThen, scalarOfKind}
 use Rattle.wgsl.specs.Rank.{fromAbstractInt, fromAbstractFloat, scalarRank}
-use Rattle.wgsl.specs.Literal.{half, single, signOf, infinity, lowest, worth, stepped, roundedBy, rounded, Literal, wholeOf, literalOf, floatOf, unitOf, inFormat, inI32, inU32, fromInt, fromFloat, ifSame, converted, patternBits, convertCall}
+use Rattle.wgsl.specs.Literal.{half, signOf, infinity, lowest, worth, stepped, roundedBy, rounded, Literal, wholeOf, literalOf, floatOf, unitOf, inFormat, inI32, inU32, fromInt, fromFloat, ifSame, converted, patternBits, convertCall}
 use Rattle.wgsl.specs.LiteralClaim.{IsNearest, IsFloat, literalIn, formatOf}
 use Rattle.wgsl.proofs.Requests as requests
 

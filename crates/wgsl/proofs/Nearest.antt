@@ -8,7 +8,7 @@ use mathlib.Core.Bool.{Bool, true, false, cond}
 use mathlib.Core.Logic.{_⊎_, inl, inr, ⊎-elim}
 use mathlib.Core.Path.{_≡_, refl, ap, sym, _∙_}
 use native.Mathlib.Omega.{arith}
-use native.Mathlib.Nat.{mul-le-mul-left, mul-le-mul-right, mul-lt-mul-of-pos-right, suc-mul, mul-assoc, mul-comm, one-mul, zero-mul, mod-lt, div-add-mod', mul-pos, add-mul-mod-self-left, mul-add-mod-self-right, div-div-eq-div-mul, le-div-iff-mul-le}
+use native.Mathlib.Nat.{mul-lt-mul-of-pos-right, suc-mul, mul-assoc, mul-comm, mod-lt, div-add-mod', mul-pos, mul-add-mod-self-right, div-div-eq-div-mul, le-div-iff-mul-le}
 use borrow.Author.Tests.{ltb-true, ltb-false, lt-ltb, le-ltb}
 use lib.Dec.{ltb}
 use lib.Pow.{pow-add, pow-pos, pow-mono, split, high, low, shr-lt}

@@ -1,6 +1,6 @@
 -- What a struct's entry names is marked, and nothing by another (`Named`).
 use mathlib.Core.Bool.{Bool, _||_}
-use mathlib.Core.Path.{_≡_, ap, _∙_}
+use mathlib.Core.Path.{ap, _∙_}
 use native.Mathlib.Omega.{arith}
 use borrow.Author.Needs.{needs}
 use denote.Ref.{now}

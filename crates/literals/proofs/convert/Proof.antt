@@ -1,5 +1,5 @@
 -- By the kind that is converted (`Parts`).
-use mathlib.Core.Path.{_≡_, refl, ap, sym, _∙_}
+use mathlib.Core.Path.{_≡_, ap, sym, _∙_}
 use native.Mathlib.Omega.{arith}
 use borrow.Author.Needs.{needs}
 use Rattle.wgsl.specs.Literal.{convertCall}

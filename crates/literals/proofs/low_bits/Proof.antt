@@ -1,9 +1,7 @@
 -- By the bits that a kind has (`Parts`).
-use Prim.Native.Nat.{_%_, _^_}
-use mathlib.Core.Path.{_≡_, refl, ap, sym, _∙_}
+use mathlib.Core.Path.{refl, sym}
 use native.Mathlib.Omega.{arith}
 use native.Mathlib.Nat.{mod-eq-of-lt}
-use Rattle.wgsl.specs.Literal.{patternBits}
 use Rattle.literals.proofs.Parts.{bits-1, bits-16, bits-32, bits-64}
 use Rattle.literals.proofs.low_bits.Statement.{statement}
 use Rattle.literals.proofs.low_bits.Tie as tie

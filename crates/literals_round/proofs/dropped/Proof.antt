@@ -1,12 +1,11 @@
 -- What is left, beside half of the divisor (`Shifts`).
-use Prim.Native.Nat.{ℕ, zero, suc, _+_, _*_, _/_, _%_, _^_, _-_, _≤_, _<_}
+use Prim.Native.Nat.{ℕ, zero, suc, _*_, _/_, _%_, _^_, _-_, _≤_, _<_}
 use native.Mathlib.Nat.{div-lt-iff-lt-mul, mul-le-mul-left}
-use mathlib.Core.Path.{_≡_, sym, ap, _∙_}
+use mathlib.Core.Path.{_≡_, sym}
 use native.Mathlib.Omega.{arith}
 use borrow.Author.Needs.{needs}
 use lib.Bits.{and-mask}
-use lib.Pow.{pow-pos, shr-le}
-use Rattle.wgsl.specs.Literal.{stepped}
+use lib.Pow.{pow-pos}
 use Rattle.literals_round.proofs.Shifts.{one-shl, masked, stepped-low, stepped-high, stepped-tie}
 use Rattle.literals_round.proofs.dropped.Statement.{statement}
 use Rattle.literals_round.proofs.dropped.Tie as tie

@@ -1,13 +1,13 @@
 -- The digits past those that are kept, and what is kept of the rest (`Scaled`).
 use Prim.Native.Nat.{ℕ, _+_, _-_, _*_, _/_, _%_, _^_, _<_, _≤_}
-use mathlib.Core.Path.{_≡_, refl, ap, sym, _∙_}
+use mathlib.Core.Path.{_≡_, ap, sym, _∙_}
 use native.Mathlib.Omega.{arith}
 use native.Mathlib.Nat.{mul-le-mul-left, mul-le-mul-right}
 use borrow.Author.Needs.{needs}
 use lib.Ieee.{size}
 use lib.Ieee.Digits.{size-le}
-use lib.Pow.{shl-exact, pow-mono, pow-pos}
-use Rattle.wgsl.specs.Literal.{stepped, rounded}
+use lib.Pow.{shl-exact, pow-mono}
+use Rattle.wgsl.specs.Literal.{rounded}
 use Rattle.literals_round.proofs.Scaled.{stepped-most, quotient-below, rounded-is, rounded-none}
 use Rattle.literals_round.proofs.round_to.Statement.{statement}
 use Rattle.literals_round.proofs.round_to.Tie as tie

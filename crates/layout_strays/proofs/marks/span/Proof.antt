@@ -1,6 +1,5 @@
 -- Ones, by two shifts (`InWords`).
 use borrow.Author.Needs.{needs}
-use native.Mathlib.Omega.{arith}
 use Rattle.layout_strays.proofs.InWords.{span-is}
 use Rattle.layout_strays.proofs.marks.span.Statement.{statement}
 use Rattle.layout_strays.proofs.marks.span.Tie as tie

@@ -1,5 +1,5 @@
 -- No finite number, or one taken apart (`Parts`).
-use mathlib.Core.Path.{_≡_, refl, ap, sym, _∙_}
+use mathlib.Core.Path.{refl, ap, sym, _∙_}
 use native.Mathlib.Omega.{arith}
 use lib.Dec.{leb}
 use Prim.Native.Nat.{_*_, _%_, _^_}

@@ -1,5 +1,5 @@
 -- Below, between and above (`Parts`).
-use mathlib.Core.Path.{_≡_, refl, ap, sym, _∙_}
+use mathlib.Core.Path.{sym}
 use native.Mathlib.Omega.{arith}
 use borrow.Author.Needs.{needs}
 use Rattle.literals.proofs.Parts.{i32-low, i32-between, i32-high}

@@ -1,5 +1,5 @@
 -- Below, or not (`Parts`).
-use mathlib.Core.Path.{_≡_, refl, ap, sym, _∙_}
+use mathlib.Core.Path.{sym}
 use native.Mathlib.Omega.{arith}
 use Rattle.literals.proofs.Parts.{u32-low, u32-high}
 use Rattle.literals.proofs.int.in_u32.Statement.{statement}

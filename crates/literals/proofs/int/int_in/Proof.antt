@@ -1,5 +1,5 @@
 -- A whole number of 2 ^ -1074 (`Parts`).
-use mathlib.Core.Path.{_≡_, refl, ap, sym, _∙_}
+use mathlib.Core.Path.{ap, sym, _∙_}
 use native.Mathlib.Omega.{arith}
 use lib.Dec.{leb}
 use Prim.Native.Nat.{_*_, _^_}

@@ -1,5 +1,4 @@
 -- The pattern, or what it lacks to 2 ^ 64 (`Parts`).
-use mathlib.Core.Path.{_≡_, refl, ap, sym, _∙_}
 use native.Mathlib.Omega.{arith}
 use borrow.Author.Needs.{needs}
 use Rattle.literals.proofs.Parts.{magnitude-low, magnitude-high}
