@@ -37,6 +37,7 @@ compare:
 record:
 	@oracle/record $(GIVEN)
 
-# How long writing, reading, views and sets take, beside wgsl-types and memcpy, in one process; cleaning, beside a loop in C.
+# How long writing, reading, views and sets take, beside wgsl-types and memcpy, in one process; cleaning, beside a loop in C; literals, beside
+# the compiler's conversions.
 bench: shim
 	@bench/run $(GIVEN)
