@@ -51,7 +51,7 @@ use Rattle.wgsl.specs.OrderCase.{orderCasesPass}
 use Rattle.wgsl.specs.CommonClaim.{SameMembers, PartOf, Grouping, membersIn, commonOfGrouping, groupingCall, Same, IsCommon, AllEntries, SameCommon, Alike}
 use Rattle.wgsl.specs.CommonCase.{commonCasesPass}
 use Rattle.wgsl.specs.Literal.{Format, worth, rounded, Literal, unitOf, inFormat, patternBits, convertCall}
-use Rattle.wgsl.specs.LiteralClaim.{IsNearest, IsFloat, literalIn, formatOf}
+use Rattle.wgsl.specs.LiteralClaim.{IsNearest, IsFloat, literalIn, formatOf, widened}
 use Rattle.wgsl.specs.LiteralCase.{literalCasesPass}
 use Rattle.wgsl.proofs.Stride as stride
 use Rattle.wgsl.proofs.StrideCase.{stride-cases-pass}
@@ -592,6 +592,23 @@ float-one = literal.float-one
 -- The same of the call, from any kind to a float of another.
 pub convert-float : (a b c : ℕ) {s t : Scalar} (f : Format) {p : ℕ} → scalarOfKind a ≡ some s → scalarOfKind c ≡ some t → (scalarKind s ≡ scalarKind t → ⊥) → formatOf t ≡ some f → convertCall a b c ≡ good p → (l : Literal) × (literalIn s (b % 2 ^ patternBits s) ≡ some l) × IsFloat f l p
 convert-float = literal-call.convert-float
+
+-- "the same type unchanged": every pattern of every scalar, NaN and infinities too.
+pub convert-same : (a b : ℕ) {s : Scalar} → scalarOfKind a ≡ some s → convertCall a b a ≡ good (b % 2 ^ patternBits s)
+convert-same = literal-call.convert-same
+
+-- "Integers out of range are refused.": what is converted to an i32 or a u32 is the same number, and each of these is had so.
+pub convert-i32 : (b p : ℕ) → b < 2 ^ 64 → convertCall 5 b 1 ≡ good p → b ≡ widened p
+convert-i32 = literal-call.convert-i32
+
+pub convert-i32-if : (p : ℕ) → p < 2 ^ 32 → convertCall 5 (widened p) 1 ≡ good p
+convert-i32-if = literal-call.convert-i32-if
+
+pub convert-u32 : (b p : ℕ) → b < 2 ^ 64 → convertCall 5 b 2 ≡ good p → b ≡ p
+convert-u32 = literal-call.convert-u32
+
+pub convert-u32-if : (p : ℕ) → p < 2 ^ 32 → convertCall 5 p 2 ≡ good p
+convert-u32-if = literal-call.convert-u32-if
 
 -- A conversion exists exactly where there is a rank between the two scalars: what converts has one, and where there is one, zero converts.
 pub convert-ranked : (a b c : ℕ) {s t : Scalar} {p : ℕ} → scalarOfKind a ≡ some s → scalarOfKind c ≡ some t → convertCall a b c ≡ good p → (r : ℕ) × (scalarRank s t ≡ some r)

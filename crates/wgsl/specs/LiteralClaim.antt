@@ -1,12 +1,13 @@
 -- What the laws of conversions say (02, E14; specs/Literal).
 --
--- In order: the nearest; a float that a literal is converted to; the literal of a pattern, and the format of a kind.
+-- In order: the nearest; a float that a literal is converted to; the literal of a pattern, and the format of a kind; an i32 as an i64.
 -- Definitions only. Assumes nothing.
-use Prim.Native.Nat.{ℕ, _+_, _-_, _*_, _%_, _<_, _≤_}
+use Prim.Native.Nat.{ℕ, _+_, _-_, _*_, _%_, _^_, _<_, _≤_}
+use mathlib.Core.Bool.{cond}
 use mathlib.Core.Logic.{_⊎_}
 use mathlib.Core.Path.{_≡_}
 use mathlib.Core.Option.{Option, none, some}
-use lib.Dec.{leb}
+use lib.Dec.{leb, ltb}
 use Rattle.wgsl.specs.Types.{Scalar, bool, i32, u32, f32, f16, abstractInt, abstractFloat, i64, u64, f64}
 use Rattle.wgsl.specs.Literal.{Format, half, single, double, signOf, infinity, worth, Literal, wholeOf, literalOf, floatOf, unitOf}
 
@@ -58,3 +59,8 @@ formatOf abstractFloat = some double
 formatOf i64 = none
 formatOf u64 = none
 formatOf f64 = none
+
+-- ---- an i32 as an i64: the same number, its sign bit repeated
+
+unfoldable pub widened : ℕ → ℕ
+widened p = cond (ltb p (2 ^ 31)) p (p + (2 ^ 64 - 2 ^ 32))
