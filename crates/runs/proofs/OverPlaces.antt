@@ -7,7 +7,7 @@
 -- Assumes nothing.
 use Prim.Native.Nat.{ℕ, zero, suc, _+_, _-_, _*_, _<_, _≤_}
 use mathlib.Core.Bool.{Bool, true, false, not}
-use mathlib.Core.List.{List, [], _∷_, _++_, map, map-append}
+use mathlib.Core.List.{List, [], _∷_, _++_, map, map-append, append-assoc}
 use mathlib.Core.Path.{_≡_, refl, sym, _∙_}
 use native.Mathlib.Nat.{add-zero, zero-mul, suc-mul, mul-one}
 use native.Mathlib.Omega.{arith}
@@ -61,25 +61,40 @@ pub run-length : (n width at : ℕ) → length (runPlaces n width at) ≡ n
 unfolding runPlaces
 run-length n width at = repeated-length n width (λ p. record { at = p; width = width } ∷ []) at 1 (λ p. refl) ∙ mul-one n
 
+-- What is repeated is its first m, and the others after them.
+pub repeated-append : {A : Type 0} (m n stride : ℕ) (g : ℕ → List A) (at : ℕ) → repeated (m + n) stride g at ≡ repeated m stride g at ++ repeated n stride g (at + m * stride)
+unfolding repeated
+repeated-append zero n stride g at =
+    let e : 0 + n ≡ n = omega arith in
+    let p : at + 0 * stride ≡ at = omega arith in
+    rw (e, p)
+repeated-append (suc m) n stride g at =
+    let e : suc m + n ≡ suc (m + n) = omega arith in
+    let p : at + suc m * stride ≡ at + stride + m * stride = omega (arith, suc-mul m stride) in
+    rw (e, p, repeated-append m n stride g (at + stride), append-assoc)
+
+-- Repetitions of what is repeated are one repetition, where they touch.
+pub repeated-touch : {A : Type 0} (n c stride : ℕ) (g : ℕ → List A) (at : ℕ) → repeated n (c * stride) (λ p. repeated c stride g p) at ≡ repeated (n * c) stride g at
+unfolding repeated
+repeated-touch zero c stride g at = rw (zero-mul c)
+repeated-touch (suc n) c stride g at =
+    let e : suc n * c ≡ c + n * c = omega (arith, suc-mul n c) in
+    rw (e, repeated-append c (n * c) stride g at, repeated-touch n c stride g (at + c * stride))
+
 -- A run is its first m words, and the others after them.
 pub run-append : (m n width at : ℕ) → runPlaces (m + n) width at ≡ runPlaces m width at ++ runPlaces n width (at + m * width)
-unfolding runPlaces repeated
-run-append zero n width at =
-    let e : 0 + n ≡ n = omega arith in
-    let p : at + 0 * width ≡ at = omega arith in
-    rw (e, p)
-run-append (suc m) n width at =
-    let e : suc m + n ≡ suc (m + n) = omega arith in
-    let p : at + suc m * width ≡ at + width + m * width = omega arith in
-    rw (e, p, run-append m n width (at + width))
+unfolding runPlaces
+run-append m n width at = repeated-append m n width (λ p. record { at = p; width = width } ∷ []) at
 
 -- Parts that touch are one run.
 pub parts-touch : (count unit width at : ℕ) → partPlaces count unit width (unit * width) at ≡ runPlaces (count * unit) width at
-unfolding partPlaces runPlaces repeated
-parts-touch zero unit width at = rw (zero-mul unit)
-parts-touch (suc count) unit width at =
-    let e : suc count * unit ≡ unit + count * unit = omega (arith, suc-mul count unit) in
-    rw (e, run-append unit (count * unit) width at, parts-touch count unit width (at + unit * width))
+unfolding partPlaces runPlaces
+parts-touch count unit width at = repeated-touch count unit width (λ p. record { at = p; width = width } ∷ []) at
+
+-- Rows of parts that touch are one row.
+pub rows-touch : (n count unit width stride at : ℕ) → repeated n (count * stride) (λ p. partPlaces count unit width stride p) at ≡ partPlaces (n * count) unit width stride at
+unfolding partPlaces
+rows-touch n count unit width stride at = repeated-touch n count stride (λ p. runPlaces unit width p) at
 
 -- ---- storing
 

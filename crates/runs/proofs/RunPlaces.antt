@@ -1,13 +1,13 @@
 -- Passes over a run, turn by turn (crates/runs, proofs/OverPlaces), and what one word of two bytes is stored and tested as.
 --
--- In order: what is left of a run; a run one word longer; widths, and room for a part; the two lowest bytes of a word;
--- a word that fits, and one that does not.
+-- In order: what is left of a run; a run one word longer; widths, and room for a part; parts whose unit and width a test has found;
+-- the two lowest bytes of a word; a word that fits, one that does not, and words that all fit.
 -- Assumes nothing.
-use Prim.Native.Nat.{ℕ, _+_, _-_, _*_, _/_, _%_, _^_, _<_, _≤_}
+use Prim.Native.Nat.{ℕ, zero, suc, _+_, _-_, _*_, _/_, _%_, _^_, _<_, _≤_}
 use mathlib.Core.Path.{_≡_, refl}
 use mathlib.Core.Logic.{_⊎_, ⊎-elim}
 use mathlib.Core.List.{List, [], _∷_}
-use native.Mathlib.Nat.{mul-one, mul-le-mul-right}
+use native.Mathlib.Nat.{add-zero, add-suc, suc-add, mul-one, mul-le-mul-right}
 use native.Mathlib.Omega.{arith}
 use lib.ListN.{getD}
 use borrow.Author.Tests.{lt-ltb, le-ltb}
@@ -15,7 +15,7 @@ use Rattle.wgsl.specs.Number.{bytesOf, store}
 use Rattle.wgsl.specs.Said.{good, refused, _>>_, refuse}
 use Rattle.wgsl.specs.Place.{Place, repeated, canHold}
 use Rattle.runs.specs.Fold.{overPlaces, testing}
-use Rattle.runs.specs.Run.{runPlaces}
+use Rattle.runs.specs.Run.{runPlaces, partPlaces}
 use Rattle.runs.proofs.OverPlaces.{over-append, over-all, over-next, over-none, run-length, run-append}
 use Rattle.runs.specs.declared.Parts.{Parts}
 use Rattle.runs.specs.Ask.{PartsRoom}
@@ -51,6 +51,9 @@ run-more f i width at k s t e =
 pub width-four : {width : ℕ} → (width ≡ 2) ⊎ (width ≡ 4) → (width ≡ 2 → ⊥) → width ≡ 4
 width-four w other = ⊎-elim (λ e. absurd (other e)) (λ e. e) w
 
+pub width-two : {width : ℕ} → (width ≡ 2) ⊎ (width ≡ 4) → (width ≡ 4 → ⊥) → width ≡ 2
+width-two w other = ⊎-elim (λ e. e) (λ e. absurd (other e)) w
+
 inside : (i count size stride at end : ℕ) → i < count → size ≤ stride → at + count * stride ≤ end → at + i * stride + size ≤ end
 inside i count size stride at end h fits room = omega (arith, mul-le-mul-right stride h)
 
@@ -60,6 +63,25 @@ part-room {p} {at} {bytes} {k} {words} i room h = (
   inside i (p .count) (p .unit * p .width) (p .stride) at bytes h (room .fits) (room .bytes-there),
   inside i (p .count) (p .unit) (p .unit) k words h (omega arith) (room .words-there),
 )
+
+-- ---- a unit and a width that a test has found
+
+-- Where there is room for parts, there is room for them as the test writes them.
+pub room-found : {p : Parts} {at bytes k words unit width : ℕ} → p .unit ≡ unit → p .width ≡ width → PartsRoom p at bytes k words → PartsRoom (record { count = p .count; unit = unit; width = width; stride = p .stride }) at bytes k words
+room-found u w room =
+    record {
+      width = rw w at (room .width);
+      fits = rw (u, w) at (room .fits);
+      bytes-there = room .bytes-there;
+      words-there = rw u at (room .words-there);
+    }
+
+-- What a pass makes over their places is what it makes over those of the parts.
+pub pass-found : {S : Type 0} (f : Place → ℕ → S → S) (p : Parts) {unit width : ℕ} (at k : ℕ) (s t : S) → p .unit ≡ unit → p .width ≡ width → t ≡ overPlaces f (partPlaces (p .count) unit width (p .stride) at) k s → t ≡ overPlaces f (partPlaces (p .count) (p .unit) (p .width) (p .stride) at) k s
+pass-found f p at k s t u w e = rw (u, w) e
+
+-- For a call that says the unit and the width outright: what it requires, and what it ensures.
+pub ruleset found = (room-found, pass-found, width-two)
 
 -- ---- the two lowest bytes
 
@@ -82,3 +104,12 @@ test-fits ws p k h = rw (lt-ltb _ _ h)
 pub test-past : (ws : List ℕ) (p : Place) (k : ℕ) → 256 ^ p .width ≤ getD ws k 0 → testing ws p k (good tt) ≡ refused 16 k
 unfolding testing canHold _>>_ refuse
 test-past ws p k h = rw (le-ltb _ _ h)
+
+-- Words of which each fits into two bytes pass.
+pub halves-pass : (ws : List ℕ) (n at k : ℕ) → ((i : ℕ) → i < n → getD ws (k + i) 0 ≤ 65535) → overPlaces (testing ws) (runPlaces n 2 at) k (good tt) ≡ good tt
+unfolding overPlaces runPlaces repeated
+halves-pass ws zero at k h = refl
+halves-pass ws (suc n) at k h =
+    let first : getD ws k 0 ≤ 65535 = rw add-zero at (h 0 (omega arith)) in
+    rw (overPlaces, test-fits ws (record { at = at; width = 2 }) k (omega arith))
+    (halves-pass ws n (at + 2) (suc k) (λ i l. rw (suc-add, ← add-suc) (h (suc i) (omega arith))))

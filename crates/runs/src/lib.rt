@@ -6,8 +6,8 @@ use numbers::bytes::u16_at;
 use numbers::bytes::u32_at;
 ghost use mathlib.Core.Path.{_≡_};
 ghost use mathlib.Core.Logic.{_⊎_};
-ghost use Prim.Native.Nat.{_+_, _*_, _≤_};
-ghost use lib.ListN.{length};
+ghost use Prim.Native.Nat.{ℕ, _+_, _*_, _<_, _≤_};
+ghost use lib.ListN.{length, getD};
 ghost use Rattle.runs.specs.Fold.{Stores, Loads, Tests};
 ghost use Rattle.runs.specs.Run.{runPlaces, partPlaces};
 ghost use Rattle.runs.specs.Ask.{PartsRoom, saidScan};
@@ -74,7 +74,7 @@ fn write_two(words: &[u32], k: usize, n: usize, buf: &mut [u8], at: usize)
 }
 
 // Stores `n` words, from word `k` on, in the bytes from `at` on, `width` each.
-fn write_run(words: &[u32], k: usize, n: usize, width: usize, buf: &mut [u8], at: usize)
+pub fn write_run(words: &[u32], k: usize, n: usize, width: usize, buf: &mut [u8], at: usize)
     requires { ⌜ ((width ≡ 2) ⊎ (width ≡ 4)) × (k + n ≤ length (now words)) × (at + n * width ≤ length (now buf)) ⌝ }
     ensures { λ _. ⌜ Stores (now (words .entry)) (runPlaces n width at) k (now (buf .entry)) (now (buf .exit)) ⌝ }
 {
@@ -89,6 +89,28 @@ fn write_run(words: &[u32], k: usize, n: usize, width: usize, buf: &mut [u8], at
     write_four(words, k, n, buf, at);
 }
 
+// Stores `count` runs of `unit` words, from word `k` on, the first in the bytes from `at` on and each a `stride` after the one before.
+// Numbers and no `Parts`: a caller that says `unit` and `width` outright gets a loop of its own from the compiler.
+fn write_row(
+    words: &[u32],
+    k: usize,
+    count: usize,
+    unit: usize,
+    width: usize,
+    stride: usize,
+    buf: &mut [u8],
+    at: usize,
+)
+    requires { ⌜ PartsRoom (record { count = count; unit = unit; width = width; stride = stride }) at (length (now buf)) k (length (now words)) ⌝ }
+    ensures { λ _. ⌜ Stores (now (words .entry)) (partPlaces count unit width stride at) k (now (buf .entry)) (now (buf .exit)) ⌝ }
+{
+    let mut i: usize = 0;
+    while i < count {
+        write_run(words, k + i * unit, unit, width, buf, at + i * stride);
+        i += 1;
+    }
+}
+
 // Stores the words from `k` on in parts from byte `at` on. Every byte that no word takes stays.
 pub fn write_parts(words: &[u32], k: usize, p: Parts, buf: &mut [u8], at: usize)
     requires { ⌜ PartsRoom p at (length (now buf)) k (length (now words)) ⌝ }
@@ -98,18 +120,27 @@ pub fn write_parts(words: &[u32], k: usize, p: Parts, buf: &mut [u8], at: usize)
         write_run(words, k, p.count * p.unit, p.width, buf, at);
         return;
     }
-    let mut i: usize = 0;
-    while i < p.count {
-        write_run(
-            words,
-            k + i * p.unit,
-            p.unit,
-            p.width,
-            buf,
-            at + i * p.stride,
-        );
-        i += 1;
+    if p.width == 4 {
+        if p.unit == 3 {
+            write_row(words, k, p.count, 3, 4, p.stride, buf, at);
+            return;
+        }
+        if p.unit == 1 {
+            write_row(words, k, p.count, 1, 4, p.stride, buf, at);
+            return;
+        }
+        write_row(words, k, p.count, p.unit, 4, p.stride, buf, at);
+        return;
     }
+    if p.unit == 3 {
+        write_row(words, k, p.count, 3, 2, p.stride, buf, at);
+        return;
+    }
+    if p.unit == 1 {
+        write_row(words, k, p.count, 1, 2, p.stride, buf, at);
+        return;
+    }
+    write_row(words, k, p.count, p.unit, 2, p.stride, buf, at);
 }
 
 // At most four words of four bytes.
@@ -160,7 +191,7 @@ fn read_two(buf: &[u8], at: usize, n: usize, words: &mut [u32], k: usize)
 }
 
 // Puts `n` words of `width` bytes each, from byte `at` on, into the words from `k` on.
-fn read_run(buf: &[u8], at: usize, n: usize, width: usize, words: &mut [u32], k: usize)
+pub fn read_run(buf: &[u8], at: usize, n: usize, width: usize, words: &mut [u32], k: usize)
     requires { ⌜ ((width ≡ 2) ⊎ (width ≡ 4)) × (at + n * width ≤ length (now buf)) × (k + n ≤ length (now words)) ⌝ }
     ensures { λ _. ⌜ Loads (now (buf .entry)) (runPlaces n width at) k (now (words .entry)) (now (words .exit)) ⌝ }
 {
@@ -175,6 +206,28 @@ fn read_run(buf: &[u8], at: usize, n: usize, width: usize, words: &mut [u32], k:
     read_four(buf, at, n, words, k);
 }
 
+// Puts the words of `count` runs of `unit` words, the first from byte `at` on and each a `stride` after the one before, into the words from
+// `k` on. Numbers and no `Parts`, as `write_row`.
+fn read_row(
+    buf: &[u8],
+    at: usize,
+    count: usize,
+    unit: usize,
+    width: usize,
+    stride: usize,
+    words: &mut [u32],
+    k: usize,
+)
+    requires { ⌜ PartsRoom (record { count = count; unit = unit; width = width; stride = stride }) at (length (now buf)) k (length (now words)) ⌝ }
+    ensures { λ _. ⌜ Loads (now (buf .entry)) (partPlaces count unit width stride at) k (now (words .entry)) (now (words .exit)) ⌝ }
+{
+    let mut i: usize = 0;
+    while i < count {
+        read_run(buf, at + i * stride, unit, width, words, k + i * unit);
+        i += 1;
+    }
+}
+
 // Puts the words of parts from byte `at` on into the words from `k` on. Every other word stays.
 pub fn read_parts(buf: &[u8], at: usize, p: Parts, words: &mut [u32], k: usize)
     requires { ⌜ PartsRoom p at (length (now buf)) k (length (now words)) ⌝ }
@@ -184,22 +237,47 @@ pub fn read_parts(buf: &[u8], at: usize, p: Parts, words: &mut [u32], k: usize)
         read_run(buf, at, p.count * p.unit, p.width, words, k);
         return;
     }
-    let mut i: usize = 0;
-    while i < p.count {
-        read_run(
-            buf,
-            at + i * p.stride,
-            p.unit,
-            p.width,
-            words,
-            k + i * p.unit,
-        );
-        i += 1;
+    if p.width == 4 {
+        if p.unit == 3 {
+            read_row(buf, at, p.count, 3, 4, p.stride, words, k);
+            return;
+        }
+        if p.unit == 1 {
+            read_row(buf, at, p.count, 1, 4, p.stride, words, k);
+            return;
+        }
+        read_row(buf, at, p.count, p.unit, 4, p.stride, words, k);
+        return;
     }
+    if p.unit == 3 {
+        read_row(buf, at, p.count, 3, 2, p.stride, words, k);
+        return;
+    }
+    if p.unit == 1 {
+        read_row(buf, at, p.count, 1, 2, p.stride, words, k);
+        return;
+    }
+    read_row(buf, at, p.count, p.unit, 2, p.stride, words, k);
 }
 
-// Whether `n` words from word `k` on fit into two bytes each.
-pub fn scan_two(words: &[u32], k: usize, n: usize) -> Scan
+// The largest of `most` and of `n` words from word `k` on.
+pub fn largest(words: &[u32], k: usize, n: usize, most: u32) -> u32
+    requires { ⌜ k + n ≤ length (now words) ⌝ }
+    ensures { λ r. ⌜ (most ≤ r) × ((i : ℕ) → i < n → getD (now (words .entry)) (k + i) 0 ≤ r) ⌝ }
+{
+    let mut r = most;
+    let mut i: usize = 0;
+    while i < n {
+        if r < words[k + i] {
+            r = words[k + i];
+        }
+        i += 1;
+    }
+    r
+}
+
+// The first of `n` words from word `k` on that does not fit into two bytes.
+fn first_past(words: &[u32], k: usize, n: usize) -> Scan
     requires { ⌜ k + n ≤ length (now words) ⌝ }
     ensures { λ r. ⌜ Tests (now (words .entry)) (runPlaces n 2 0) k (saidScan r) ⌝ }
 {
@@ -211,4 +289,15 @@ pub fn scan_two(words: &[u32], k: usize, n: usize) -> Scan
         i += 1;
     }
     Scan::Fine
+}
+
+// Whether `n` words from word `k` on fit into two bytes each: by the largest of them, and one by one only where that does not fit.
+pub fn scan_two(words: &[u32], k: usize, n: usize) -> Scan
+    requires { ⌜ k + n ≤ length (now words) ⌝ }
+    ensures { λ r. ⌜ Tests (now (words .entry)) (runPlaces n 2 0) k (saidScan r) ⌝ }
+{
+    if largest(words, k, n, 0) <= 65535 {
+        return Scan::Fine;
+    }
+    first_past(words, k, n)
 }

@@ -13,6 +13,7 @@ use Rattle.wgsl.specs.Place.{Shape, parts, field, whole, spanOf, Place, placesO
 use Rattle.wgsl.specs.Shapes.{shapeWords}
 use Rattle.wgsl.specs.Types.{structKind}
 use Rattle.runs.specs.Run.{runPlaces, partPlaces}
+use Rattle.runs.specs.declared.Parts.{Parts}
 use Rattle.layout_values.specs.declared.value.Value.{Value}
 use Rattle.layout_values.specs.Value.{valueAt, wordsIn}
 use Rattle.walk_trees.specs.Slot.{packedAs, partWidth, Counted, Referring, memberAt, slotAt, SlotAsks}
@@ -38,6 +39,14 @@ pub record Runs (table : List (List ℕ)) (l : Value) (x : Shape) : Type 0 where
   pub places-are : (at : ℕ) → placesOf x at ≡ partPlaces (l .count) (l .unit) (l .narrow) (l .stride) at
   pub span-is : spanOf x ≡ l .count * l .stride
   pub words-are : shapeWords x ≡ l .count * l .unit
+
+-- parts that are runs, of the shape x
+pub record RunsOf (p : Parts) (x : Shape) : Type 0 where
+  pub width : (p .width ≡ 2) ⊎ (p .width ≡ 4)
+  pub fits : p .unit * p .width ≤ p .stride
+  pub places-are : (at : ℕ) → placesOf x at ≡ partPlaces (p .count) (p .unit) (p .width) (p .stride) at
+  pub span-is : spanOf x ≡ p .count * p .stride
+  pub words-are : shapeWords x ≡ p .count * p .unit
 
 -- each part is the shape y of another entry
 pub record Elements (table : List (List ℕ)) (l : Value) (y : Shape) : Type 0 where

@@ -2,6 +2,7 @@
 use file::fields::member_at;
 use file::kinds::ARRAY;
 use file::kinds::RUNTIME;
+use file::kinds::STRUCT;
 use layout_members::given_align;
 use layout_members::given_size;
 use layout_values::value::Row;
@@ -10,11 +11,15 @@ use layout_values::value::value_at;
 use layout_values::value::words_of;
 use numbers::power::up_power;
 use numbers::wide::wide;
+use runs::Parts;
 ghost use mathlib.Core.Path.{_≡_};
-ghost use Prim.Native.Nat.{_+_, _*_, _<_, _≤_};
+ghost use mathlib.Core.List.{List};
+ghost use Prim.Native.Nat.{ℕ, _+_, _*_, _<_, _≤_};
 ghost use lib.ListN.{length};
+ghost use Rattle.wgsl.specs.Place.{Shape, parts};
 ghost use Rattle.wgsl.specs.Round.{IsPower, up, limit};
 ghost use Rattle.walk_trees.specs.Slot.{packedAs, partWidth, touching, runAt, Counted, Referring, RunAsks, slotAt, SlotAsks, slotIn, SlotsAsk};
+ghost use Rattle.walk_trees.specs.Tree.{Many, RunsOf};
 
 // Where a member lies in its struct.
 pub struct Slot {
@@ -76,6 +81,60 @@ pub fn run_at(table: &[Row], e: usize) -> u32
         return touch(l.stride, l.unit, part_width(table, l));
     }
     packed(l)
+}
+
+// No parts.
+fn no_parts() -> Parts
+    ensures { λ r. ⌜ r .width ≡ 0 ⌝ }
+{
+    Parts {
+        count: 0,
+        unit: 0,
+        width: 0,
+        stride: 0,
+    }
+}
+
+// The parts of an entry whose elements have the value `x`, no struct, as one row: where these are runs and fill the `stride` of `l`, so that
+// the columns of matrices in an array touch each other as those of one do. Else no parts.
+fn row_of(table: &[Row], l: Value, x: Value) -> Parts
+    requires { ⌜ ((ms : List ℕ) × (y : Shape) × Many ms (now table) x y) ⌝ }
+    ensures { λ r. ⌜ ((r .width ≡ 0 → ⊥) → (ms : List ℕ) (y : Shape) → Many ms (now (table .entry)) x y → RunsOf r (parts (l .count) (l .stride) y)) ⌝ }
+{
+    let count = wide(x.count);
+    let stride = wide(x.stride);
+    if wide(l.stride) != count * stride {
+        return no_parts();
+    }
+    Parts {
+        count: wide(l.count) * count,
+        unit: wide(x.unit),
+        width: wide(part_width(table, x)),
+        stride,
+    }
+}
+
+// The parts of an entry with the value `l`, no struct, as runs: its own, or those of its elements as one row. Else no parts, and of these
+// the width is 0.
+pub fn parts_of(table: &[Row], l: Value) -> Parts
+    requires { ⌜ ((ms : List ℕ) × (x : Shape) × Many ms (now table) l x) ⌝ }
+    ensures runs { λ r. ⌜ ((r .width ≡ 0 → ⊥) → (ms : List ℕ) (x : Shape) → Many ms (now (table .entry)) l x → RunsOf r x) ⌝ }
+    ensures none { λ r. ⌜ (r .width ≡ 0 → partWidth (now (table .entry)) l ≡ 0) ⌝ }
+{
+    let width = part_width(table, l);
+    if width != 0 {
+        return Parts {
+            count: wide(l.count),
+            unit: wide(l.unit),
+            width: wide(width),
+            stride: wide(l.stride),
+        };
+    }
+    let x = value_at(table, wide(l.reference));
+    if x.kind == STRUCT {
+        return no_parts();
+    }
+    row_of(table, l, x)
 }
 
 // A member of this alignment and size, where the one before it ended at `end`.

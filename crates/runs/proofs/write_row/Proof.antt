@@ -1,0 +1,78 @@
+-- Each turn of the loop stores one part of what is left.
+-- Assumes nothing.
+use Prim.Native.Nat.{_+_, _-_, _*_, _≤_}
+use mathlib.Core.Path.{_≡_, refl, sym, _∙_}
+use native.Mathlib.Omega.{arith}
+use borrow.Author.Needs.{needs}
+use denote.Ref.{now}
+use lib.ListN.{length}
+use Rattle.runs.specs.Fold.{overPlaces, storing}
+use Rattle.runs.specs.Run.{runPlaces, partPlaces}
+use Rattle.runs.proofs.OverPlaces.{over-all, over-next, over-none, run-length}
+use Rattle.runs.proofs.RunPlaces.{part-room}
+use Rattle.runs.proofs.write_row.Statement.{statement}
+use Rattle.runs.proofs.write_row.Tie as tie
+
+abbrev Inv-loop : tie.InvT-loop
+Inv-loop words k count unit width stride buf₀ at i₀ buf i =
+    (overPlaces (storing words) (partPlaces (count - i) unit width stride (at + i * stride)) (k + i * unit) buf
+    ≡ overPlaces (storing words) (partPlaces count unit width stride at) k buf₀)
+    × (i ≤ count) × (length buf ≡ length buf₀)
+
+abbrev μ-loop : tie.MeasureT-loop
+μ-loop words k count unit width stride buf₀ at i₀ buf i = count - i
+
+loop-holds : tie.Need-loop-holds Inv-loop μ-loop
+unfolding partPlaces
+loop-holds c =
+    let a = c .before .before .args in (
+      over-all (storing (now (a .words))) (λ q. runPlaces (a .unit) (a .width) q) (a .count)
+          (a .stride) (a .unit) (a .at) (a .k) (now (a .buf)),
+      omega arith,
+      refl,
+    )
+
+mul-write-run : tie.Need-mul-write-run Inv-loop μ-loop
+mul-write-run c =
+    omega (arith, part-room (c .before .loop .i) (c .before .before .before .before .pre) (omega arith))
+
+add-write-run : tie.Need-add-write-run Inv-loop μ-loop
+add-write-run c =
+    omega (arith, part-room (c .before .loop .i) (c .before .before .before .before .pre) (omega arith))
+
+mul-write-run-2 : tie.Need-mul-write-run-2 Inv-loop μ-loop
+mul-write-run-2 c =
+    omega (arith, part-room (c .before .before .loop .i) (c .before .before .before .before .before .pre) (omega arith))
+
+add-write-run-2 : tie.Need-add-write-run-2 Inv-loop μ-loop
+add-write-run-2 c =
+    omega (arith, part-room (c .before .before .loop .i) (c .before .before .before .before .before .pre) (omega arith))
+
+write-run-requires : tie.Need-write-run-requires Inv-loop μ-loop
+write-run-requires c κs =
+    let s = c .before .before .before .before .before in
+    let room = part-room (c .before .before .loop .i) (s .pre) (omega arith) in
+    (s .pre .width, omega arith, omega arith)
+
+loop-again : tie.Need-loop-again Inv-loop μ-loop
+unfolding partPlaces
+loop-again c =
+    let l = c .before .before .before .before .before .loop in
+    let a = c .before .before .before .before .before .before .before .before .args in
+    let next = over-next (storing (now (a .words))) (λ q. runPlaces (a .unit) (a .width) q) (a .count) (a .stride) (a .unit)
+    (a .at) (a .k) (l .buf) (l .i) (λ q. run-length (a .unit) (a .width) q) (omega arith) in
+    (rw (c .before .before .write-run .ensures) (next ∙ l .inv .0), omega arith, omega arith)
+
+returns : tie.Need-returns Inv-loop μ-loop
+unfolding partPlaces
+returns c =
+    let l = c .before .loop in
+    let a = c .before .before .before .before .args in
+    sym (over-none (storing (now (a .words))) (λ q. runPlaces (a .unit) (a .width) q) (a .count)
+    (a .stride) (a .at + l .i * a .stride) (a .k + l .i * a .unit) (l .buf) (l .i) (omega arith)) ∙ l .inv .0
+
+pub write-row-spec : {M : Type 1} → statement M
+write-row-spec =
+    tie.close (tie.spec
+    Inv-loop μ-loop loop-holds mul-write-run add-write-run mul-write-run-2 add-write-run-2 write-run-requires
+    (λ c. search needs) (λ c. search needs) loop-again (λ c. search needs) returns)
