@@ -24,6 +24,7 @@ use walk_decide::closed_rest;
 use walk_decide::elements_in;
 use walk_decide::open_rest;
 use walk_decide::rest_of;
+use walk_pieces::no_pieces;
 ghost use mathlib.Core.Path.{_≡_};
 ghost use mathlib.Core.Bool.{false};
 ghost use Prim.Native.Nat.{ℕ, _≤_};
@@ -54,8 +55,9 @@ fn clean_whole(
         changed: 0,
         first: extent,
     };
-    let fixed = sweep_entry(members, table, e, 0, buf, s);
-    let all = sweep_many(members, table, x.value, x.offset, buf, fixed);
+    let mut pieces = no_pieces();
+    let fixed = sweep_entry(members, table, e, 0, buf, s, &mut pieces);
+    let all = sweep_many(members, table, x.value, x.offset, buf, fixed, &mut pieces);
     let r = sweep_to(buf, all, extent);
     Gaps {
         changed: r.changed as u32,

@@ -1,6 +1,6 @@
 -- Laws of sweeping (specs/Sweep).
 --
--- In order: what a sweep keeps; one byte; bytes that are zero already; byte by byte; runs; whatever the word's number.
+-- In order: what a sweep keeps; one byte; bytes that are zero already; byte by byte; runs; whatever the word's number; pieces in turn.
 -- Assumes nothing.
 use Prim.Native.Nat.{ℕ, zero, suc, _+_, _-_, _*_, _<_, _≤_}
 use mathlib.Core.Bool.{Bool, true, false, cond}
@@ -18,7 +18,10 @@ use Rattle.runs.specs.Fold.{overPlaces}
 use Rattle.runs.specs.Run.{runPlaces}
 use Rattle.runs.specs.Ask.{PartsRoom}
 use Rattle.runs.specs.declared.Parts.{Parts}
-use Rattle.gaps_sweep.specs.Sweep.{Swept, sweptByte, sweptBytes, sweptTo, goingOn, passed, sweeping, nonzeros, Countable}
+use Rattle.walk_pieces.specs.declared.Piece.{Piece}
+use Rattle.walk_pieces.specs.Piece.{pieceOf, piecesPlaces, PiecesRoom}
+use Rattle.walk_pieces.proofs.Pass.{Passed, pass-start, PieceRoom, piece-room, pass-next, pass-all}
+use Rattle.gaps_sweep.specs.Sweep.{Swept, sweptByte, sweptBytes, sweptTo, goingOn, passed, sweeping, Sweeps, nonzeros, Countable}
 
 -- ---- what a sweep keeps
 
@@ -84,11 +87,14 @@ pub keeps-passed : (at bytes : ℕ) (s : Swept) → Keeps s (passed at bytes s)
 unfolding passed goingOn
 keeps-passed at bytes s = record { long = keeps-to at s .long; total = keeps-to at s .total; first-low = keeps-to at s .first-low }
 
-pub keeps-over : (ps : List Place) (k : ℕ) (s : Swept) → Keeps s (overPlaces sweeping ps k s)
+keeps-over : (ps : List Place) (k : ℕ) (s : Swept) → Keeps s (overPlaces sweeping ps k s)
 unfolding overPlaces sweeping
 keeps-over [] k s = keeps-itself s
 keeps-over (p ∷ ps) k s =
     keeps-both (keeps-passed (p .at) (p .width) s) (keeps-over ps (suc k) (passed (p .at) (p .width) s))
+
+pub sweep-keeps : (ps : List Place) {s r : Swept} → Sweeps ps s r → Keeps s r
+sweep-keeps ps {s} done = rw done (keeps-over ps 0 s)
 
 -- Nothing has changed at the start.
 pub start-countable : (b : List ℕ) (from first : ℕ) → Countable (record { bytes = b; from = from; changed = 0; first = first })
@@ -211,3 +217,43 @@ pub any-number : (ps : List Place) (j k : ℕ) (s : Swept) → overPlaces sweepi
 unfolding overPlaces sweeping
 any-number [] j k s = refl
 any-number (p ∷ ps) j k s = any-number ps (suc j) (suc k) (passed (p .at) (p .width) s)
+
+-- ---- pieces in turn
+
+-- j pieces are swept, which led from s₀ to s, with as many bytes and a counter that still fits
+pub record PiecesSwept (c : ℕ) (l : List ℕ) (at : ℕ) (s₀ : Swept) (j : ℕ) (s : Swept) : Type 0 where
+  pub next : ℕ
+  pub pass : Passed sweeping c l at 0 s₀ j next s
+  pub long : length (s .bytes) ≡ length (s₀ .bytes)
+  pub countable : Countable s
+
+pub pieces-start : (c : ℕ) (l : List ℕ) (at : ℕ) {s₀ : Swept} → Countable s₀ → PiecesSwept c l at s₀ 0 s₀
+pieces-start c l at {s₀} h = record { next = 0; pass = pass-start sweeping c l at 0 s₀; long = refl; countable = h }
+
+module _ {c : ℕ} {l : List ℕ} {at : ℕ} {s₀ : Swept} {j : ℕ} {s : Swept} (now : PiecesSwept c l at s₀ j s) where
+  pub piece-ready : {p : Piece} {unit k words : ℕ} → PiecesRoom c l unit at (length (s₀ .bytes)) k words → j < c → p ≡ pieceOf l j → PieceRoom p at (length (s .bytes)) (now .next) unit
+  piece-ready {unit} room h is =
+      let first : PiecesRoom c l unit at (length (s₀ .bytes)) 0 unit =
+      record {
+        few = room .few;
+        unit-is = room .unit-is;
+        end = room .end;
+        inside = room .inside;
+        bytes-there = room .bytes-there;
+        words-there = omega arith;
+      } in
+      rw (now .long) (piece-room (now .pass) first h is)
+
+  pub pieces-next : {p : Piece} {s′ : Swept} → j < c → p ≡ pieceOf l j → Sweeps (runPlaces (p .words) (p .width) (at + p .start)) s s′ → PiecesSwept c l at s₀ (j + 1) s′
+  pieces-next {p} h is done =
+      let run = runPlaces (p .words) (p .width) (at + p .start) in
+      let keeps = sweep-keeps run done in
+      record {
+        next = now .next + p .words;
+        pass = pass-next (now .pass) h is (done ∙ any-number run 0 (now .next) s);
+        long = keeps .long ∙ now .long;
+        countable = keeps-countable keeps (now .countable);
+      }
+
+  pub pieces-none : c ≤ j → Sweeps (piecesPlaces c l at) s₀ s
+  pieces-none h = pass-all (now .pass) h

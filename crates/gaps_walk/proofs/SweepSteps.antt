@@ -1,13 +1,13 @@
 -- The steps of sweeps by the table (crates/walk_trees, proofs/TreeSteps): whatever the number of a word, with as many bytes, and a counter that
 -- still fits.
 --
--- In order: what a sweep keeps; parts in turn; members in turn.
+-- In order: parts in turn; members in turn.
 -- Assumes nothing.
 use Prim.Native.Nat.{ℕ, _+_, _-_, _*_, _<_, _≤_}
 use mathlib.Core.List.{List}
 use mathlib.Core.Path.{_≡_, refl, _∙_}
 use lib.ListN.{length}
-use Rattle.wgsl.specs.Place.{Shape, parts, Place, placesOf}
+use Rattle.wgsl.specs.Place.{Shape, parts, placesOf}
 use Rattle.wgsl.specs.Shapes.{shapeWords}
 use Rattle.wgsl.specs.Types.{structKind}
 use Rattle.layout_values.specs.Value.{valueAt}
@@ -17,12 +17,7 @@ use Rattle.walk_trees.specs.Tree.{Tree, Room, EachRoom, MemberRoom}
 use Rattle.walk_trees.proofs.Room.{each-room, type-tree}
 use Rattle.walk_trees.proofs.TreeSteps.{Turn, turn-start, turn-next, turn-none, Walk, walk-start, walk-first, walk-room, walk-next, walk-none}
 use Rattle.gaps_sweep.specs.Sweep.{Swept, sweeping, Sweeps, Countable}
-use Rattle.gaps_sweep.proofs.Sweep.{Keeps, keeps-over, keeps-countable, any-number}
-
--- ---- what a sweep keeps
-
-sweep-keeps : (ps : List Place) {s s′ : Swept} → Sweeps ps s s′ → Keeps s s′
-sweep-keeps ps {s} done = rw done (keeps-over ps 0 s)
+use Rattle.gaps_sweep.proofs.Sweep.{sweep-keeps, keeps-countable, any-number}
 
 -- ---- parts in turn
 

@@ -1,28 +1,29 @@
-// Sweeping by the table: an entry part by part, a struct member by member. Entry numbers fall.
+// Sweeping by the table: an entry part by part, a struct member by member; the elements of an array by their pieces, where they are few.
+// Entry numbers fall. The list of pieces is lent down the walk, so that it is on the stack once.
 use file::kinds::STRUCT;
 use gaps_sweep::gap::Sweep;
 use gaps_sweep::parts::sweep_parts;
 use gaps_sweep::parts::sweep_run;
-use gaps_sweep::spots::sweep_each;
+use gaps_sweep::pieces::sweep_each;
 use layout_values::value::Row;
 use layout_values::value::Value;
 use layout_values::value::value_at;
 use layout_values::value::words_of;
 use numbers::wide::wide;
-use runs::Parts;
+use walk_pieces::MOST;
+use walk_pieces::Pieces;
+use walk_pieces::pieces_of;
 use walk_trees::Series;
 use walk_trees::packed;
-use walk_trees::part_width;
+use walk_trees::parts_of;
 use walk_trees::slot_after;
-use words_spots::no_spots;
-use words_spots::spots_of;
 ghost use mathlib.Core.Path.{_≡_};
 ghost use Prim.Native.Nat.{ℕ};
 ghost use lib.ListN.{length};
-ghost use Rattle.wgsl.specs.Place.{Shape, parts, placesOf};
+ghost use Rattle.wgsl.specs.Place.{Shape, placesOf};
 ghost use Rattle.wgsl.specs.Types.{structKind};
 ghost use Rattle.layout_values.specs.Value.{valueAt};
-ghost use Rattle.walk_trees.specs.Tree.{Many, Tree, Room, EachRoom};
+ghost use Rattle.walk_trees.specs.Tree.{Many, Tree, Room};
 ghost use Rattle.gaps_sweep.specs.Sweep.{sweptOf, Sweeps, Countable};
 
 // Sweeps the gaps before the words of entry `e`, which begins at byte `at`. What has none is passed at once.
@@ -33,28 +34,23 @@ pub fn sweep_entry(
     at: usize,
     buf: &mut [u8],
     s: Sweep,
+    pieces: &mut Pieces,
 ) -> Sweep
-    requires { ⌜ ((x : Shape) × (k : ℕ) × (words : ℕ) × Tree (now members) (now table) e x × Room x at (length (now buf)) k words) × Countable (sweptOf (now buf) s) ⌝ }
-    ensures { λ r. ⌜ ((x : Shape) → Tree (now (members .entry)) (now (table .entry)) e x → Sweeps (placesOf x at) (sweptOf (now (buf .entry)) s) (sweptOf (now (buf .exit)) r)) ⌝ }
+    requires { ⌜ ((x : Shape) × (k : ℕ) × (words : ℕ) × Tree (now members) (now table) e x × Room x at (length (now buf)) k words) × Countable (sweptOf (now buf) s) × (length (now pieces) ≡ 96) ⌝ }
+    ensures swept { λ r. ⌜ ((x : Shape) → Tree (now (members .entry)) (now (table .entry)) e x → Sweeps (placesOf x at) (sweptOf (now (buf .entry)) s) (sweptOf (now (buf .exit)) r)) ⌝ }
+    ensures long { λ _. ⌜ length (now (pieces .exit)) ≡ 96 ⌝ }
 {
     let l = value_at(table, e);
-    let words = wide(words_of(l));
     if packed(l) == 4 {
-        return sweep_run(buf, s, at, words, 4);
+        return sweep_run(buf, s, at, wide(words_of(l)), 4);
     }
     if l.kind == STRUCT {
-        // one of them, so that no stride is taken; with a second caller its spots take no stack in `sweep_many`
-        let p = Series {
-            count: 1,
-            unit: words,
-            stride: 0,
-        };
-        return sweep_structs(members, table, e, p, at, buf, s);
+        return sweep_struct(members, table, e, l, at, buf, s, pieces);
     }
-    sweep_many(members, table, l, at, buf, s)
+    sweep_many(members, table, l, at, buf, s, pieces)
 }
 
-// The same of parts as the value `l` says: runs at once, others each by its entry.
+// The same of parts as the value `l` says: runs at once, others by their pieces or each by its entry.
 pub fn sweep_many(
     members: &[u8],
     table: &[Row],
@@ -62,64 +58,33 @@ pub fn sweep_many(
     at: usize,
     buf: &mut [u8],
     s: Sweep,
+    pieces: &mut Pieces,
 ) -> Sweep
-    requires { ⌜ ((x : Shape) × (k : ℕ) × (words : ℕ) × Many (now members) (now table) l x × Room x at (length (now buf)) k words) × Countable (sweptOf (now buf) s) ⌝ }
-    ensures { λ r. ⌜ ((x : Shape) → Many (now (members .entry)) (now (table .entry)) l x → Sweeps (placesOf x at) (sweptOf (now (buf .entry)) s) (sweptOf (now (buf .exit)) r)) ⌝ }
+    requires { ⌜ ((x : Shape) × (k : ℕ) × (words : ℕ) × Many (now members) (now table) l x × Room x at (length (now buf)) k words) × Countable (sweptOf (now buf) s) × (length (now pieces) ≡ 96) ⌝ }
+    ensures swept { λ r. ⌜ ((x : Shape) → Many (now (members .entry)) (now (table .entry)) l x → Sweeps (placesOf x at) (sweptOf (now (buf .entry)) s) (sweptOf (now (buf .exit)) r)) ⌝ }
+    ensures long { λ _. ⌜ length (now (pieces .exit)) ≡ 96 ⌝ }
 {
+    let p = parts_of(table, l);
+    if p.width != 0 {
+        return sweep_parts(buf, s, at, p);
+    }
     let count = wide(l.count);
     let unit = wide(l.unit);
     let stride = wide(l.stride);
-    let width = part_width(table, l);
-    if width != 0 {
-        let p = Parts {
-            count,
-            unit,
-            width: wide(width),
-            stride,
-        };
-        return sweep_parts(buf, s, at, p);
-    }
     let element = wide(l.reference);
-    let below = value_at(table, element);
-    if below.kind == STRUCT {
-        let p = Series {
+    let few = pieces_of(members, table, element, count, pieces);
+    if few <= MOST {
+        let q = Series {
             count,
             unit,
             stride,
         };
-        return sweep_structs(members, table, element, p, at, buf, s);
+        return sweep_each(buf, s, at, q, pieces, few);
     }
     let mut r = s;
     let mut i: usize = 0;
     while i < count {
-        r = sweep_entry(members, table, element, at + i * stride, buf, r);
-        i += 1;
-    }
-    r
-}
-
-// The structs of `p`, the first at byte `at`. Small ones by their spots.
-fn sweep_structs(
-    members: &[u8],
-    table: &[Row],
-    e: usize,
-    p: Series,
-    at: usize,
-    buf: &mut [u8],
-    s: Sweep,
-) -> Sweep
-    requires { ⌜ ((y : Shape) × (k : ℕ) × (words : ℕ) × Tree (now members) (now table) e y × (valueAt (now table) e .kind ≡ structKind) × EachRoom y (p .count) (p .unit) (p .stride) at (length (now buf)) k words) × Countable (sweptOf (now buf) s) ⌝ }
-    ensures { λ r. ⌜ ((y : Shape) → Tree (now (members .entry)) (now (table .entry)) e y → Sweeps (placesOf (parts (p .count) (p .stride) y) at) (sweptOf (now (buf .entry)) s) (sweptOf (now (buf .exit)) r)) ⌝ }
-{
-    let mut spots = no_spots();
-    let few = spots_of(members, table, e, p.count, &mut spots);
-    if 0 < few {
-        return sweep_each(buf, s, at, p, &spots, few);
-    }
-    let mut r = s;
-    let mut i: usize = 0;
-    while i < p.count {
-        r = sweep_struct(members, table, e, at + i * p.stride, buf, r);
+        r = sweep_entry(members, table, element, at + i * stride, buf, r, pieces);
         i += 1;
     }
     r
@@ -130,14 +95,16 @@ fn sweep_struct(
     members: &[u8],
     table: &[Row],
     e: usize,
+    l: Value,
     at: usize,
     buf: &mut [u8],
     s: Sweep,
+    pieces: &mut Pieces,
 ) -> Sweep
-    requires { ⌜ ((x : Shape) × (k : ℕ) × (words : ℕ) × Tree (now members) (now table) e x × (valueAt (now table) e .kind ≡ structKind) × Room x at (length (now buf)) k words) × Countable (sweptOf (now buf) s) ⌝ }
-    ensures { λ r. ⌜ ((x : Shape) → Tree (now (members .entry)) (now (table .entry)) e x → Sweeps (placesOf x at) (sweptOf (now (buf .entry)) s) (sweptOf (now (buf .exit)) r)) ⌝ }
+    requires { ⌜ ((x : Shape) × (k : ℕ) × (words : ℕ) × Tree (now members) (now table) e x × (l ≡ valueAt (now table) e) × (l .kind ≡ structKind) × Room x at (length (now buf)) k words) × Countable (sweptOf (now buf) s) × (length (now pieces) ≡ 96) ⌝ }
+    ensures swept { λ r. ⌜ ((x : Shape) → Tree (now (members .entry)) (now (table .entry)) e x → Sweeps (placesOf x at) (sweptOf (now (buf .entry)) s) (sweptOf (now (buf .exit)) r)) ⌝ }
+    ensures long { λ _. ⌜ length (now (pieces .exit)) ≡ 96 ⌝ }
 {
-    let l = value_at(table, e);
     let length = wide(l.stride);
     let mut m = wide(l.reference) * length;
     let mut left = wide(l.count);
@@ -145,7 +112,7 @@ fn sweep_struct(
     let mut r = s;
     while 0 < left {
         let p = slot_after(members, table, m, end);
-        r = sweep_entry(members, table, p.ty, at + p.start, buf, r);
+        r = sweep_entry(members, table, p.ty, at + p.start, buf, r, pieces);
         end = p.end;
         m += length;
         left -= 1;

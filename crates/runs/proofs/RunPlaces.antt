@@ -105,11 +105,11 @@ pub test-past : (ws : List ℕ) (p : Place) (k : ℕ) → 256 ^ p .width ≤ get
 unfolding testing canHold _>>_ refuse
 test-past ws p k h = rw (le-ltb _ _ h)
 
--- Words of which each fits into two bytes pass.
-pub halves-pass : (ws : List ℕ) (n at k : ℕ) → ((i : ℕ) → i < n → getD ws (k + i) 0 ≤ 65535) → overPlaces (testing ws) (runPlaces n 2 at) k (good tt) ≡ good tt
+-- Words pass of which each fits.
+pub run-passes : (ws : List ℕ) (n width at k : ℕ) → ((i : ℕ) → i < n → getD ws (k + i) 0 < 256 ^ width) → overPlaces (testing ws) (runPlaces n width at) k (good tt) ≡ good tt
 unfolding overPlaces runPlaces repeated
-halves-pass ws zero at k h = refl
-halves-pass ws (suc n) at k h =
-    let first : getD ws k 0 ≤ 65535 = rw add-zero at (h 0 (omega arith)) in
-    rw (overPlaces, test-fits ws (record { at = at; width = 2 }) k (omega arith))
-    (halves-pass ws n (at + 2) (suc k) (λ i l. rw (suc-add, ← add-suc) (h (suc i) (omega arith))))
+run-passes ws zero width at k h = refl
+run-passes ws (suc n) width at k h =
+    let first : getD ws k 0 < 256 ^ width = rw add-zero at (h 0 (omega arith)) in
+    rw (overPlaces, test-fits ws (record { at = at; width = width }) k first)
+    (run-passes ws n width (at + width) (suc k) (λ i l. rw (suc-add, ← add-suc) (h (suc i) (omega arith))))

@@ -292,7 +292,7 @@ fn first_past(words: &[u32], k: usize, n: usize) -> Scan
 }
 
 // Whether `n` words from word `k` on fit into two bytes each: by the largest of them, and one by one only where that does not fit.
-pub fn scan_two(words: &[u32], k: usize, n: usize) -> Scan
+fn scan_two(words: &[u32], k: usize, n: usize) -> Scan
     requires { ⌜ k + n ≤ length (now words) ⌝ }
     ensures { λ r. ⌜ Tests (now (words .entry)) (runPlaces n 2 0) k (saidScan r) ⌝ }
 {
@@ -300,4 +300,15 @@ pub fn scan_two(words: &[u32], k: usize, n: usize) -> Scan
         return Scan::Fine;
     }
     first_past(words, k, n)
+}
+
+// Whether `n` words from word `k` on fit into `width` bytes each.
+pub fn scan_run(words: &[u32], k: usize, n: usize, width: usize) -> Scan
+    requires { ⌜ ((width ≡ 2) ⊎ (width ≡ 4)) × (k + n ≤ length (now words)) ⌝ }
+    ensures { λ r. ⌜ Tests (now (words .entry)) (runPlaces n width 0) k (saidScan r) ⌝ }
+{
+    if width == 2 {
+        return scan_two(words, k, n);
+    }
+    Scan::Fine
 }

@@ -108,9 +108,9 @@ module _ (c : ℕ) (l : List ℕ) (at n width : ℕ) (w : (width ≡ 2) ⊎ (wid
       let long-two : length two ≡ length one = length-set one (3 * c + 1) n in
       run-new n w
       (λ i h.
-          getD-set-other two (3 * c + 2) i width 0 (omega arith)
-          ∙ getD-set-other one (3 * c + 1) i n 0 (omega arith)
-          ∙ getD-set-other l (3 * c) i at 0 (omega arith))
+      getD-set-other two (3 * c + 2) i width 0 (omega arith)
+      ∙ getD-set-other one (3 * c + 1) i n 0 (omega arith)
+      ∙ getD-set-other l (3 * c) i at 0 (omega arith))
       (getD-set-other two (3 * c + 2) (3 * c) width 0 (omega arith)
       ∙ getD-set-other one (3 * c + 1) (3 * c) n 0 (omega arith)
       ∙ getD-set-same l (3 * c) at 0 (omega arith))
@@ -165,8 +165,8 @@ unfolding repeated
 added-part g count i stride at first second h =
     added-then first second (omega arith) h
     (λ q.
-        let p : q + (at + i * stride) ≡ q + at + i * stride = omega arith in
-        rw (p, repeated-append i 1 stride g (q + at), append-nil))
+    let p : q + (at + i * stride) ≡ q + at + i * stride = omega arith in
+    rw (p, repeated-append i 1 stride g (q + at), append-nil))
 
 -- all of them
 pub added-parts : {c r : ℕ} {l m : List ℕ} (g : ℕ → List Place) (count i stride at : ℕ) → Added c l (λ q. repeated i stride g (q + at)) (at + count * stride) r m → i ≡ count → Added c l (λ q. repeated count stride g (q + at)) (at + count * stride) r m

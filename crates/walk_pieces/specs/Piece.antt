@@ -14,6 +14,7 @@ use Rattle.wgsl.specs.Round.{limit}
 use Rattle.wgsl.specs.Place.{Shape, spanOf, Place, placesOf}
 use Rattle.runs.specs.Run.{runPlaces}
 use Rattle.runs.specs.declared.Parts.{Parts}
+use Rattle.walk_pieces.specs.declared.Piece.{Piece}
 
 -- ---- a piece
 
@@ -25,6 +26,9 @@ pieceWords l j = getD l (3 * j + 1) 0
 
 abbrev pub pieceWidth : List ℕ → ℕ → ℕ
 pieceWidth l j = getD l (3 * j + 2) 0
+
+abbrev pub pieceOf : List ℕ → ℕ → Piece
+pieceOf l j = record { start = pieceStart l j; words = pieceWords l j; width = pieceWidth l j }
 
 -- the places of piece j, of a type that begins at `at`
 unfoldable pub piecePlaces : List ℕ → ℕ → ℕ → List Place
@@ -93,7 +97,7 @@ pub record Pieced (y : Shape) (c : ℕ) (l : List ℕ) : Type 0 where
 
 -- the words of c pieces, `unit` of them from word `k` on, and their bytes from byte `at` on are there
 pub record PiecesRoom (c : ℕ) (l : List ℕ) (unit at bytes k words : ℕ) : Type 0 where
-  pub long : 3 * c ≤ length l
+  pub few : c ≤ mostPieces
   pub unit-is : (q : ℕ) → length (piecesPlaces c l q) ≡ unit
   pub end : ℕ
   pub inside : Inside c l end

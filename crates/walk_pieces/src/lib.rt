@@ -18,16 +18,38 @@ ghost use Rattle.wgsl.specs.Types.{structKind};
 ghost use Rattle.runs.specs.Run.{runPlaces, partPlaces};
 ghost use Rattle.layout_values.specs.Value.{valueAt};
 ghost use Rattle.walk_trees.specs.Tree.{Many, Tree};
-ghost use Rattle.walk_pieces.specs.Piece.{mostPieces, Asks, Touching, Gathered, Pieced, RunAsks, PartsAsk, PiecesAsk};
+ghost use Rattle.walk_pieces.specs.Piece.{pieceOf, mostPieces, Asks, Touching, Gathered, Pieced, RunAsks, PartsAsk, PiecesAsk};
 
 // So many pieces at most.
 pub const MOST: usize = 32;
 
-// Room for so many, before any is found.
-pub fn no_pieces() -> [u32; 96]
+// A list of them, three numbers each. By its own type, which is a pointer where it is lent, and a slice is two numbers in memory.
+pub type Pieces = [u32; 96];
+
+// The list before any is found.
+pub fn no_pieces() -> Pieces
     ensures { λ r. ⌜ 96 ≡ length r ⌝ }
 {
     [0u32; 96]
+}
+
+// A piece: where it begins in its type, how many words it has, and the bytes of each.
+pub struct Piece {
+    pub start: usize,
+    pub words: usize,
+    pub width: usize,
+}
+
+// Piece `j`.
+pub fn piece_at(pieces: &Pieces, j: usize) -> Piece
+    requires { ⌜ j < mostPieces ⌝ }
+    ensures { λ r. ⌜ r ≡ pieceOf (now (pieces .entry)) j ⌝ }
+{
+    Piece {
+        start: wide(pieces[3 * j]),
+        words: wide(pieces[3 * j + 1]),
+        width: wide(pieces[3 * j + 2]),
+    }
 }
 
 // Whether a run that begins at `at`, of words of `width` bytes, touches the last of `k` pieces, which has such words too.
@@ -168,10 +190,21 @@ fn add_struct(
     few
 }
 
-// The pieces of entry `e`, into `pieces`; answers how many, more than `MOST` where there are too many.
-pub fn pieces_of(members: &[u8], table: &[Row], e: usize, pieces: &mut [u32]) -> usize
+// The pieces of entry `e`, into `pieces`; answers how many. More than `MOST` where there are too many, or where there are too few elements
+// of the entry for its pieces to be worth finding.
+pub fn pieces_of(
+    members: &[u8],
+    table: &[Row],
+    e: usize,
+    elements: usize,
+    pieces: &mut Pieces,
+) -> usize
     requires { ⌜ ((x : Shape) × Tree (now members) (now table) e x × (spanOf x ≤ limit)) × (length (now pieces) ≡ 96) ⌝ }
-    ensures { λ r. ⌜ (r ≤ mostPieces → (x : Shape) → Tree (now (members .entry)) (now (table .entry)) e x → Pieced x r (now (pieces .exit))) ⌝ }
+    ensures found { λ r. ⌜ (r ≤ mostPieces → (x : Shape) → Tree (now (members .entry)) (now (table .entry)) e x → Pieced x r (now (pieces .exit))) ⌝ }
+    ensures long { λ _. ⌜ length (now (pieces .exit)) ≡ 96 ⌝ }
 {
+    if elements < 4 {
+        return MOST + 1;
+    }
     add_entry(members, table, e, 0, pieces, 0)
 }

@@ -1,15 +1,16 @@
 -- What a tree says of its value and of its parts (specs/Tree, `Valued` and `Many`).
 --
--- In order: its value; parts that are runs or entries (`Entries`), and members; how deep a walk goes.
+-- In order: its value; parts that are runs or entries (`Entries`) or none, and members; how deep a walk goes.
 -- Assumes nothing.
 use Prim.Native.Nat.{ℕ, _+_, _*_, _<_}
 use mathlib.Core.Bool.{Bool, true, false, cond}
-use mathlib.Core.List.{List}
-use mathlib.Core.Path.{_≡_, refl}
+use mathlib.Core.List.{List, []}
+use mathlib.Core.Path.{_≡_, refl, _∙_}
 use native.Mathlib.Omega.{arith}
 use borrow.Author.Tests.{eqb-true}
 use lib.Dec.{eqb}
-use Rattle.wgsl.specs.Place.{Shape, parts}
+use Rattle.wgsl.specs.Place.{Shape, parts, repeated, placesOf}
+use Rattle.runs.specs.Run.{partPlaces}
 use Rattle.wgsl.specs.Types.{structKind}
 use Rattle.layout_values.specs.declared.value.Value.{Value}
 use Rattle.layout_values.specs.Value.{valueAt}
@@ -47,6 +48,12 @@ pub record Entries (ms : List ℕ) (table : List (List ℕ)) (r : Value) (x : Sh
 pub many-each : {ms : List ℕ} {table : List (List ℕ)} {r : Value} {x : Shape} → Many ms table r x → partWidth table r ≡ 0 → Entries ms table r x
 many-each (runs R) h = absurd (run-width R h)
 many-each (each {y = y} E t) h = record { part = y; is = refl; elements = E; tree = t }
+
+-- no parts have no places
+pub many-none : {ms : List ℕ} {table : List (List ℕ)} {r : Value} {x : Shape} → Many ms table r x → r .count ≡ 0 → (at : ℕ) → placesOf x at ≡ []
+unfolding placesOf partPlaces repeated
+many-none (runs R) none at = R .places-are at ∙ rw none refl
+many-none (each E t) none at = rw none refl
 
 -- ---- how deep a walk goes
 

@@ -53,6 +53,7 @@ pub record Each (ms : List ℕ) (table : List (List ℕ)) (r : Value) (element c
   pub y : Shape
   pub tree : Tree ms table element y
   pub room : EachRoom y count unit stride at bytes k ws
+  pub low : spanOf y ≤ stride
   pub deep : depth table r ≡ 5 * element + 5
   pub any : (x : Shape) → Many ms table r x → (z : Shape) × Tree ms table element z × (x ≡ parts count stride z)
 
@@ -64,6 +65,7 @@ each-entry {table} {r} m w room e c u s =
       y = m₀ .part;
       tree = m₀ .tree;
       room = parts-room (m₀ .elements) (rw (m₀ .is) at room);
+      low = m₀ .elements .fits;
       deep = depth-each table r w;
       any = λ x m′. (many-each m′ w .part, many-each m′ w .tree, many-each m′ w .is);
     })

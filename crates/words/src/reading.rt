@@ -20,6 +20,7 @@ use walk_decide::closed_rest;
 use walk_decide::elements_in;
 use walk_decide::open_rest;
 use walk_decide::rest_of;
+use walk_pieces::no_pieces;
 use words_read::read_entry;
 use words_read::read_many;
 ghost use mathlib.Core.Path.{_≡_};
@@ -40,8 +41,18 @@ fn load(members: &[u8], table: &[Row], e: usize, x: Rest, buf: &[u8], words: &mu
     requires { ⌜ ((t : Ty) × (n : ℕ) × Whole (now members) (now table) e x t n × (wordCount n t ≤ length (now words)) × (extentOf n t ≤ length (now buf))) ⌝ }
     ensures { λ _. ⌜ WholeLoaded (now (members .entry)) (now (table .entry)) e x (now (buf .entry)) (now (words .entry)) (now (words .exit)) ⌝ }
 {
-    read_entry(members, table, e, 0, buf, 0, words);
-    read_many(members, table, x.value, x.offset, buf, x.fixed, words);
+    let mut pieces = no_pieces();
+    read_entry(members, table, e, 0, buf, 0, words, &mut pieces);
+    read_many(
+        members,
+        table,
+        x.value,
+        x.offset,
+        buf,
+        x.fixed,
+        words,
+        &mut pieces,
+    );
 }
 
 // 15 and 14 for a type of fixed size.

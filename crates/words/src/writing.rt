@@ -11,6 +11,7 @@ use layout_values::value::opens;
 use layout_values::value::words_of;
 use numbers::wide::wide;
 use runs::Scan;
+use runs::write_run;
 use said::answer::Number;
 use said::refusal::Refusal;
 use walk_decide::Allowed;
@@ -23,6 +24,7 @@ use walk_decide::extent_for;
 use walk_decide::fit;
 use walk_decide::open_rest;
 use walk_decide::rest_of;
+use walk_pieces::no_pieces;
 use walk_trees::run_at;
 use words_test::scan_entry;
 use words_test::scan_many;
@@ -56,30 +58,19 @@ fn zero(buf: &mut [u8], n: usize)
     }
 }
 
-// The first `n` bytes become zero, unless the words of entry `e` will cover them all.
-fn clear(table: &[Row], e: usize, buf: &mut [u8], n: usize)
-    requires { ⌜ RunAsks (now table) e × (n ≤ length (now buf)) ⌝ }
-    ensures covered { λ _. ⌜ ((runAt (now (table .entry)) e ≡ 0 → ⊥) → now (buf .exit) ≡ now (buf .entry)) ⌝ }
-    ensures cleared { λ _. ⌜ (runAt (now (table .entry)) e ≡ 0 → now (buf .exit) ≡ replicate n 0 ++ drop n (now (buf .entry))) ⌝ }
-{
-    if run_at(table, e) != 0 {
-        return;
-    }
-    zero(buf, n);
-}
-
 // Tests the words of an entry: the fixed part, then the tail.
 fn scan(members: &[u8], table: &[Row], e: usize, x: Rest, words: &[u32]) -> Scan
     requires { ⌜ ((t : Ty) × (n : ℕ) × Whole (now members) (now table) e x t n × (length (now words) ≡ wordCount n t)) ⌝ }
     ensures { λ r. ⌜ Tested (now (members .entry)) (now (table .entry)) e x (now (words .entry)) (saidScan r) ⌝ }
 {
-    match scan_entry(members, table, e, words, 0) {
+    let mut pieces = no_pieces();
+    match scan_entry(members, table, e, words, 0, &mut pieces) {
         Scan::Bad(k) => Scan::Bad(k),
-        Scan::Fine => scan_many(members, table, x.value, words, x.fixed),
+        Scan::Fine => scan_many(members, table, x.value, words, x.fixed, &mut pieces),
     }
 }
 
-// Stores the words of an entry of so many bytes: the fixed part, then the tail.
+// Stores the words of an entry of so many bytes: at once where they cover it; else over zeros, the fixed part, then the tail.
 fn store(
     members: &[u8],
     table: &[Row],
@@ -92,9 +83,24 @@ fn store(
     requires { ⌜ ((t : Ty) × (n : ℕ) × Whole (now members) (now table) e x t n × (length (now words) ≡ wordCount n t) × (extent ≡ extentOf n t) × (extent ≤ length (now buf))) ⌝ }
     ensures { λ _. ⌜ WholeStored (now (members .entry)) (now (table .entry)) e x extent (now (words .entry)) (now (buf .entry)) (now (buf .exit)) ⌝ }
 {
-    clear(table, e, buf, extent);
-    write_entry(members, table, e, 0, words, 0, buf);
-    write_many(members, table, x.value, x.offset, words, x.fixed, buf);
+    let width = run_at(table, e);
+    if width != 0 {
+        write_run(words, 0, words.len(), wide(width), buf, 0);
+        return;
+    }
+    zero(buf, extent);
+    let mut pieces = no_pieces();
+    write_entry(members, table, e, 0, words, 0, buf, &mut pieces);
+    write_many(
+        members,
+        table,
+        x.value,
+        x.offset,
+        words,
+        x.fixed,
+        buf,
+        &mut pieces,
+    );
 }
 
 // The words are right in number, and the bytes are there.

@@ -1,26 +1,30 @@
-// Reading words by the table: an entry part by part, a struct member by member. Entry numbers fall.
+// Reading words by the table: an entry part by part, a struct member by member; the elements of an array by their pieces, where they are few.
+// Entry numbers fall. The list of pieces is lent down the walk, so that it is on the stack once.
 use file::kinds::STRUCT;
 use layout_values::value::Row;
 use layout_values::value::Value;
 use layout_values::value::value_at;
 use numbers::wide::wide;
-use runs::Parts;
 use runs::read_few;
 use runs::read_parts;
+use walk_pieces::MOST;
+use walk_pieces::Pieces;
+use walk_pieces::pieces_of;
 use walk_trees::Series;
 use walk_trees::Slot;
 use walk_trees::packed;
-use walk_trees::part_width;
+use walk_trees::parts_of;
 use walk_trees::slot_after;
+use words_pieces::reading::read_each;
 ghost use mathlib.Core.Path.{_≡_};
 ghost use Prim.Native.Nat.{_+_};
 ghost use lib.ListN.{length};
-ghost use Rattle.wgsl.specs.Place.{Shape, parts, placesOf};
+ghost use Rattle.wgsl.specs.Place.{Shape, placesOf};
 ghost use Rattle.wgsl.specs.Types.{structKind};
 ghost use Rattle.runs.specs.Fold.{Loads};
 ghost use Rattle.layout_values.specs.Value.{valueAt};
 ghost use Rattle.walk_trees.specs.Slot.{slotAt};
-ghost use Rattle.walk_trees.specs.Tree.{Many, Tree, Room, EachRoom, MemberRoom, OfMember};
+ghost use Rattle.walk_trees.specs.Tree.{Many, Tree, Room, MemberRoom, OfMember};
 
 // Reads entry `e`, which begins at byte `at`, into the words from `k` on.
 pub fn read_entry(
@@ -31,19 +35,21 @@ pub fn read_entry(
     buf: &[u8],
     k: usize,
     words: &mut [u32],
+    pieces: &mut Pieces,
 )
-    requires { ⌜ ((x : Shape) × Tree (now members) (now table) e x × Room x at (length (now buf)) k (length (now words))) ⌝ }
-    ensures { λ _. ⌜ ((x : Shape) → Tree (now (members .entry)) (now (table .entry)) e x → Loads (now (buf .entry)) (placesOf x at) k (now (words .entry)) (now (words .exit))) ⌝ }
+    requires { ⌜ ((x : Shape) × Tree (now members) (now table) e x × Room x at (length (now buf)) k (length (now words))) × (length (now pieces) ≡ 96) ⌝ }
+    ensures filled { λ _. ⌜ ((x : Shape) → Tree (now (members .entry)) (now (table .entry)) e x → Loads (now (buf .entry)) (placesOf x at) k (now (words .entry)) (now (words .exit))) ⌝ }
+    ensures long { λ _. ⌜ length (now (pieces .exit)) ≡ 96 ⌝ }
 {
     let r = value_at(table, e);
     if r.kind == STRUCT {
-        read_struct(members, table, e, at, buf, k, words);
+        read_struct(members, table, e, r, at, buf, k, words, pieces);
         return;
     }
-    read_many(members, table, r, at, buf, k, words);
+    read_many(members, table, r, at, buf, k, words, pieces);
 }
 
-// Reads parts as the value `r` says: runs at once, others each by its entry.
+// Reads parts as the value `r` says: runs at once, others by their pieces or each by its entry.
 pub fn read_many(
     members: &[u8],
     table: &[Row],
@@ -52,33 +58,33 @@ pub fn read_many(
     buf: &[u8],
     k: usize,
     words: &mut [u32],
+    pieces: &mut Pieces,
 )
-    requires { ⌜ ((x : Shape) × Many (now members) (now table) r x × Room x at (length (now buf)) k (length (now words))) ⌝ }
-    ensures { λ _. ⌜ ((x : Shape) → Many (now (members .entry)) (now (table .entry)) r x → Loads (now (buf .entry)) (placesOf x at) k (now (words .entry)) (now (words .exit))) ⌝ }
+    requires { ⌜ ((x : Shape) × Many (now members) (now table) r x × Room x at (length (now buf)) k (length (now words))) × (length (now pieces) ≡ 96) ⌝ }
+    ensures filled { λ _. ⌜ ((x : Shape) → Many (now (members .entry)) (now (table .entry)) r x → Loads (now (buf .entry)) (placesOf x at) k (now (words .entry)) (now (words .exit))) ⌝ }
+    ensures long { λ _. ⌜ length (now (pieces .exit)) ≡ 96 ⌝ }
 {
-    let count = wide(r.count);
-    let unit = wide(r.unit);
-    let stride = wide(r.stride);
-    let width = part_width(table, r);
-    if width != 0 {
-        let p = Parts {
-            count,
-            unit,
-            width: wide(width),
-            stride,
-        };
+    // the tail of what is not open
+    if r.count == 0 {
+        return;
+    }
+    let p = parts_of(table, r);
+    if p.width != 0 {
         read_parts(buf, at, p, words, k);
         return;
     }
+    let count = wide(r.count);
+    let unit = wide(r.unit);
+    let stride = wide(r.stride);
     let element = wide(r.reference);
-    let below = value_at(table, element);
-    if below.kind == STRUCT {
-        let p = Series {
+    let few = pieces_of(members, table, element, count, pieces);
+    if few <= MOST {
+        let q = Series {
             count,
             unit,
             stride,
         };
-        read_structs(members, table, element, p, at, buf, k, words);
+        read_each(pieces, few, q, at, buf, k, words);
         return;
     }
     let mut i: usize = 0;
@@ -91,35 +97,7 @@ pub fn read_many(
             buf,
             k + i * unit,
             words,
-        );
-        i += 1;
-    }
-}
-
-// Reads the structs of `p`, each by its members.
-fn read_structs(
-    members: &[u8],
-    table: &[Row],
-    e: usize,
-    p: Series,
-    at: usize,
-    buf: &[u8],
-    k: usize,
-    words: &mut [u32],
-)
-    requires { ⌜ ((y : Shape) × Tree (now members) (now table) e y × (valueAt (now table) e .kind ≡ structKind) × EachRoom y (p .count) (p .unit) (p .stride) at (length (now buf)) k (length (now words))) ⌝ }
-    ensures { λ _. ⌜ ((y : Shape) → Tree (now (members .entry)) (now (table .entry)) e y → Loads (now (buf .entry)) (placesOf (parts (p .count) (p .stride) y) at) k (now (words .entry)) (now (words .exit))) ⌝ }
-{
-    let mut i: usize = 0;
-    while i < p.count {
-        read_struct(
-            members,
-            table,
-            e,
-            at + i * p.stride,
-            buf,
-            k + i * p.unit,
-            words,
+            pieces,
         );
         i += 1;
     }
@@ -130,22 +108,24 @@ fn read_struct(
     members: &[u8],
     table: &[Row],
     e: usize,
+    r: Value,
     at: usize,
     buf: &[u8],
     k: usize,
     words: &mut [u32],
+    pieces: &mut Pieces,
 )
-    requires { ⌜ ((x : Shape) × Tree (now members) (now table) e x × (valueAt (now table) e .kind ≡ structKind) × Room x at (length (now buf)) k (length (now words))) ⌝ }
-    ensures { λ _. ⌜ ((x : Shape) → Tree (now (members .entry)) (now (table .entry)) e x → Loads (now (buf .entry)) (placesOf x at) k (now (words .entry)) (now (words .exit))) ⌝ }
+    requires { ⌜ ((x : Shape) × Tree (now members) (now table) e x × (r ≡ valueAt (now table) e) × (r .kind ≡ structKind) × Room x at (length (now buf)) k (length (now words))) × (length (now pieces) ≡ 96) ⌝ }
+    ensures filled { λ _. ⌜ ((x : Shape) → Tree (now (members .entry)) (now (table .entry)) e x → Loads (now (buf .entry)) (placesOf x at) k (now (words .entry)) (now (words .exit))) ⌝ }
+    ensures long { λ _. ⌜ length (now (pieces .exit)) ≡ 96 ⌝ }
 {
-    let r = value_at(table, e);
     let length = wide(r.stride);
     let mut m = wide(r.reference) * length;
     let mut left = wide(r.count);
     let mut end: usize = 0;
     let mut next = k;
     while 0 < left {
-        let p = read_member(members, table, m, end, at, buf, next, words);
+        let p = read_member(members, table, m, end, at, buf, next, words, pieces);
         end = p.end;
         next += p.words;
         m += length;
@@ -163,10 +143,12 @@ fn read_member(
     buf: &[u8],
     k: usize,
     words: &mut [u32],
+    pieces: &mut Pieces,
 ) -> Slot
-    requires { ⌜ ((y : Shape) × MemberRoom (now members) (now table) m end y at (length (now buf)) k (length (now words))) ⌝ }
+    requires { ⌜ ((y : Shape) × MemberRoom (now members) (now table) m end y at (length (now buf)) k (length (now words))) × (length (now pieces) ≡ 96) ⌝ }
     ensures placed { λ r. ⌜ r ≡ slotAt (now (members .entry)) (now (table .entry)) m end ⌝ }
     ensures filled { λ _. ⌜ OfMember (now (members .entry)) (now (table .entry)) m end at (λ ps. Loads (now (buf .entry)) ps k (now (words .entry)) (now (words .exit))) ⌝ }
+    ensures long { λ _. ⌜ length (now (pieces .exit)) ≡ 96 ⌝ }
 {
     let p = slot_after(members, table, m, end);
     let r = value_at(table, p.ty);
@@ -177,6 +159,6 @@ fn read_member(
             return p;
         }
     }
-    read_entry(members, table, p.ty, at + p.start, buf, k, words);
+    read_entry(members, table, p.ty, at + p.start, buf, k, words, pieces);
     p
 }

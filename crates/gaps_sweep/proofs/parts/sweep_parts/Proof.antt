@@ -1,7 +1,7 @@
 -- Where parts touch they are one run. Else each turn of the loop does one part of what is left.
 -- Assumes nothing.
 use Prim.Native.Nat.{_+_, _-_, _*_, _≤_}
-use mathlib.Core.Path.{_≡_, refl, ap, sym, _∙_}
+use mathlib.Core.Path.{_≡_, refl, sym, _∙_}
 use native.Mathlib.Nat.{mul-assoc}
 use native.Mathlib.Omega.{arith}
 use borrow.Author.Needs.{needs}
@@ -11,8 +11,8 @@ use Rattle.runs.specs.Fold.{overPlaces}
 use Rattle.runs.specs.Run.{runPlaces, partPlaces}
 use Rattle.runs.proofs.OverPlaces.{over-all, over-next, over-none, run-length, parts-touch}
 use Rattle.runs.proofs.RunPlaces.{part-room}
-use Rattle.gaps_sweep.specs.Sweep.{Swept, sweptOf, sweeping, Countable}
-use Rattle.gaps_sweep.proofs.Sweep.{keeps-over, keeps-countable, any-number, parts-count}
+use Rattle.gaps_sweep.specs.Sweep.{sweptOf, sweeping, Countable}
+use Rattle.gaps_sweep.proofs.Sweep.{sweep-keeps, keeps-countable, any-number, parts-count}
 use Rattle.gaps_sweep.proofs.parts.sweep_parts.Statement.{statement}
 use Rattle.gaps_sweep.proofs.parts.sweep_parts.Tie as tie
 
@@ -94,11 +94,11 @@ loop-again c =
     let part = runPlaces (p .unit) (p .width) (a .at + l .i * p .stride) in
     let next = over-next sweeping (λ q. runPlaces (p .unit) (p .width) q) (p .count) (p .stride) (p .unit) (a .at) 0 here (l .i)
     (λ q. run-length (p .unit) (p .width) q) (then2 .if2 .taken) in
-    let keeps = keeps-over part 0 here in (
+    let keeps = sweep-keeps part done in (
       rw (done, any-number part 0 (0 + l .i * p .unit) here) (next ∙ l .inv .0),
       omega (arith, then2 .if2 .taken),
-      ap (λ (s : Swept). length (s .bytes)) done ∙ keeps .long ∙ l .inv .2,
-      rw done (keeps-countable keeps (l .inv .3)),
+      keeps .long ∙ l .inv .2,
+      keeps-countable keeps (l .inv .3),
     )
 
 returns-2 : tie.Need-returns-2 Inv-loop μ-loop

@@ -58,8 +58,8 @@ module _ (t : ℕ) where
       let after-add-parts = c .before .before in
       let then1 = after-add-parts .before .before in
       λ x m few.
-          let R = runs then1 m in
-          added-as (after-add-parts .add-parts .ensures few) (omega (arith, R .span-is)) (λ q. sym (R .places-are _))
+      let R = runs then1 m in
+      added-as (after-add-parts .add-parts .ensures few) (omega (arith, R .span-is)) (λ q. sym (R .places-are _))
 
   -- what is no run is an entry for each part
   entries : (c : add-many-lts.After-wide3 (add-many-calls t) (add-many-at t) add-many.Post add-many-Inv-loop add-many-μ-loop) {x : Shape} →
@@ -113,12 +113,16 @@ module _ (t : ℕ) where
       let none = else1 .before .before .parts-of .ensures .1 (else1 .if1 .left) in
       let deep = depth-each (now (start .args .table)) (start .args .r) none in (
         omega (arith, start .pre .0, deep, after-wide3 .wide3 .ensures .0),
-        (E .part, E .tree, record {
-          long = at-loop .loop .inv .2 ∙ asks .long;
-          few = else2 .if2 .left;
-          inside = at-loop .loop .inv .0 (E .part) (E .tree) (E .fits) (else2 .if2 .left) .inside limit (low after-wide3) (asks .inside);
-          low = omega (arith, low after-wide3, ends in-loop (spanOf (E .part)) (E .fits));
-        }),
+        (
+          E .part,
+          E .tree,
+          record {
+            long = at-loop .loop .inv .2 ∙ asks .long;
+            few = else2 .if2 .left;
+            inside = at-loop .loop .inv .0 (E .part) (E .tree) (E .fits) (else2 .if2 .left) .inside limit (low after-wide3) (asks .inside);
+            low = omega (arith, low after-wide3, ends in-loop (spanOf (E .part)) (E .fits));
+          },
+        ),
       )
 
   pub add-many-add-i : add-many-lts.Need-add-i (add-many-calls t) (add-many-at t) add-many.Post add-many-Inv-loop add-many-μ-loop
@@ -135,8 +139,7 @@ module _ (t : ℕ) where
       let else2 = c .before .before .before .before in
       let in-loop = else2 .before in
       let at-loop = in-loop .before in
-      let start = at-loop .before .before .before .before .before .before .before .before .before in
-      (
+      let start = at-loop .before .before .before .before .before .before .before .before .before in (
         λ y u f few.
             added-part (λ b. placesOf y b) _ (at-loop .loop .i) _ (start .args .at) (at-loop .loop .inv .0 y u f (else2 .if2 .left)) (call .ensures y u few)
             (ends in-loop (spanOf y) f),

@@ -99,12 +99,16 @@ module _ (t : ℕ) where
       let f = member-first (here else1) (in-loop .loop-test .taken) in
       let ty = member-type _ _ _ _ (after-slot-after .slot-after .ensures) in (
         omega (arith, start .pre .0, f .member .lower, ty),
-        (f .y, subst (λ (e : ℕ). Tree (now (start .args .members)) (now (start .args .table)) e (f .y)) (sym ty) (f .tree), record {
-          long = at-loop .loop .inv .1 ∙ asks .long;
-          few = else1 .if1 .left;
-          inside = here else1 .added .inside limit (asks .low) (asks .inside);
-          low = low after-slot-after;
-        }),
+        (
+          f .y,
+          subst (λ (e : ℕ). Tree (now (start .args .members)) (now (start .args .table)) e (f .y)) (sym ty) (f .tree),
+          record {
+            long = at-loop .loop .inv .1 ∙ asks .long;
+            few = else1 .if1 .left;
+            inside = here else1 .added .inside limit (asks .low) (asks .inside);
+            low = low after-slot-after;
+          },
+        ),
       )
 
   pub add-struct-add-m : add-struct-lts.Need-add-m (add-struct-calls t) (add-struct-at t) add-struct.Post add-struct-Inv-loop add-struct-μ-loop

@@ -1,0 +1,175 @@
+-- What `write_many` needs. Its loop goes turn by turn (`Turn`, crates/walk_trees, proofs/TreeSteps).
+-- Assumes nothing.
+use Prim.Native.Nat.{ℕ, _+_, _-_, _*_}
+use mathlib.Core.Path.{_≡_, refl, _∙_}
+use native.Mathlib.Omega.{arith}
+use denote.Ref.{now}
+use lib.ListN.{length}
+use Rattle.wgsl.specs.Place.{Shape}
+use Rattle.runs.specs.Fold.{overPlaces, storing}
+use Rattle.walk_trees.specs.Tree.{Many, Room, RunsOf}
+use Rattle.walk_trees.proofs.Many.{many-none}
+use Rattle.walk_trees.proofs.Rows.{runs-room}
+use Rattle.walk_trees.proofs.Room.{each-entry, each-room, Each}
+use Rattle.walk_trees.proofs.TreeSteps.{Turn, turn-start, turn-next, turn-none}
+use Rattle.walk_pieces.proofs.Pass.{pieced-each, pieced-parts}
+use Rattle.words_write.proofs.write_entry.Reads as write-entry
+use Rattle.words_write.proofs.write_many.Reads as write-many
+use Rattle.words_write.proofs.+write_entry+write_many+write_member+write_struct.Lts-write_many as write-many-lts
+use Rattle.numbers.proofs.wide.wide.Reads as wide-reads
+use Rattle.runs.proofs.write_parts.Reads as write-parts-reads
+use Rattle.walk_pieces.proofs.pieces_of.Reads as pieces-of-reads
+use Rattle.walk_trees.proofs.parts_of.Reads as parts-of-reads
+use Rattle.words_pieces.proofs.writing.write_each.Reads as write-each-reads
+use Rattle.words_write.proofs.+write_entry+write_many+write_member+write_struct.Proof.Cycle.{write-entry-below, write-many-at}
+
+abbrev pub write-many-Inv-loop : write-many-lts.InvT-loop
+write-many-Inv-loop members table at words k buf₀ pieces₀ count unit stride element few i₀ buf pieces i =
+    Turn (storing words) members table element count unit stride at k buf₀ i buf × (length buf ≡ length buf₀) × (length pieces ≡ 96)
+
+abbrev pub write-many-μ-loop : write-many-lts.MeasureT-loop
+write-many-μ-loop members table at words k buf₀ pieces₀ count unit stride element few i₀ buf pieces i = count - i
+
+abbrev pub write-many-calls : ℕ → write-many-lts.Claims
+write-many-calls t = (parts-of-reads.Asked, parts-of-reads.Learnt, write-parts-reads.Asked, write-parts-reads.Learnt, wide-reads.Asked, wide-reads.Learnt, pieces-of-reads.Asked, pieces-of-reads.Learnt, write-each-reads.Asked, write-each-reads.Learnt, write-entry-below t, write-entry.Post)
+
+module _ (t : ℕ) where
+  pub write-many-returns : write-many-lts.Need-returns (write-many-calls t) (write-many-at t) write-many.Post write-many-Inv-loop write-many-μ-loop
+  unfolding overPlaces
+  write-many-returns c =
+      let start = c .before .before .before .before .before in
+      (λ x m. rw (many-none m (c .if1 .taken) (start .args .at)) refl, start .pre .1 .1)
+
+  pub write-many-parts-of-requires : write-many-lts.Need-parts-of-requires (write-many-calls t) (write-many-at t) write-many.Post write-many-Inv-loop write-many-μ-loop
+  write-many-parts-of-requires c κs =
+      let start = c .before .before .before .before .before in
+      (now (start .args .members), start .pre .1 .0 .0, start .pre .1 .0 .1)
+
+  -- the parts are runs
+  runs : (c : write-many-lts.Then2 (write-many-calls t) (write-many-at t) write-many.Post write-many-Inv-loop write-many-μ-loop) {x : Shape} →
+      let after-parts-of = c .before .before in
+      let start = after-parts-of .before .before .before .before .before .before in
+      Many (now (start .args .members)) (now (start .args .table)) (start .args .r) x → RunsOf (after-parts-of .parts-of .result) x
+  runs c m = c .before .before .parts-of .ensures .0 (c .if2 .taken) _ _ m
+
+  pub write-many-write-parts-requires : write-many-lts.Need-write-parts-requires (write-many-calls t) (write-many-at t) write-many.Post write-many-Inv-loop write-many-μ-loop
+  write-many-write-parts-requires c κs =
+      let then2 = c .before in
+      let start = then2 .before .before .before .before .before .before .before .before in
+      runs-room (runs then2 (start .pre .1 .0 .1)) (start .pre .1 .0 .2)
+
+  pub write-many-same-length : write-many-lts.Need-same-length (write-many-calls t) (write-many-at t) write-many.Post write-many-Inv-loop write-many-μ-loop
+  write-many-same-length c = c .before .before .write-parts .kept .1 .1 .1 .0
+
+  pub write-many-returns-2 : write-many-lts.Need-returns-2 (write-many-calls t) (write-many-at t) write-many.Post write-many-Inv-loop write-many-μ-loop
+  write-many-returns-2 c =
+      let after-parts = c .before .before in
+      let then2 = after-parts .before .before in
+      let start = then2 .before .before .before .before .before .before .before .before in
+      (λ x m. rw (runs then2 m .places-are (start .args .at)) (after-parts .write-parts .ensures), start .pre .1 .1)
+
+  -- what is no run is an entry for each part
+  each : (c : write-many-lts.After-wide4 (write-many-calls t) (write-many-at t) write-many.Post write-many-Inv-loop write-many-μ-loop) →
+      let after-wide3 = c .before in
+      let after-wide2 = after-wide3 .before in
+      let after-wide = after-wide2 .before in
+      let a = after-wide .before .before .before .before .before .before .before .before .before .args in
+      Each (now (a .members)) (now (a .table)) (a .r) (c .wide4 .result) (after-wide .wide .result) (after-wide2 .wide2 .result) (after-wide3 .wide3 .result) (a .at) (length (now (a .buf))) (a .k) (length (now (a .words)))
+  each c =
+      let after-wide3 = c .before in
+      let after-wide2 = after-wide3 .before in
+      let after-wide = after-wide2 .before in
+      let else2 = after-wide .before in
+      let pre = else2 .before .before .before .before .before .before .before .before .pre .1 .0 in
+      each-entry (pre .1) (else2 .before .before .parts-of .ensures .1 (else2 .if2 .left)) (pre .2) (c .wide4 .ensures .0) (after-wide .wide .ensures .0) (after-wide2 .wide2 .ensures .0) (after-wide3 .wide3 .ensures .0)
+
+  pub write-many-pieces-of-requires : write-many-lts.Need-pieces-of-requires (write-many-calls t) (write-many-at t) write-many.Post write-many-Inv-loop write-many-μ-loop
+  write-many-pieces-of-requires c κs =
+      let after-wide4 = c .before in
+      let start = after-wide4 .before .before .before .before .before .before .before .before .before .before .before .before in
+      let e = each after-wide4 in
+      ((e .y, e .tree, omega (arith, e .low, after-wide4 .before .wide3 .ensures .1)), start .pre .1 .1)
+
+  pub write-many-write-each-requires : write-many-lts.Need-write-each-requires (write-many-calls t) (write-many-at t) write-many.Post write-many-Inv-loop write-many-μ-loop
+  write-many-write-each-requires c κs =
+      let then3 = c .before .before in
+      let after-wide4 = then3 .before .before .before in
+      let e = each after-wide4 in
+      pieced-each (then3 .before .pieces-of .ensures .0 (then3 .if3 .taken) (e .y) (e .tree)) (e .room)
+
+  pub write-many-same-length-2 : write-many-lts.Need-same-length-2 (write-many-calls t) (write-many-at t) write-many.Post write-many-Inv-loop write-many-μ-loop
+  write-many-same-length-2 c = c .before .before .write-each .kept .1 .1 .1 .1 .1 .1 .0
+
+  pub write-many-returns-3 : write-many-lts.Need-returns-3 (write-many-calls t) (write-many-at t) write-many.Post write-many-Inv-loop write-many-μ-loop
+  write-many-returns-3 c =
+      let call = c .before .before .write-each .ensures in
+      let then3 = c .before .before .before .before .before in
+      let after-wide4 = then3 .before .before .before in
+      let found = then3 .before .pieces-of .ensures in
+      let e = each after-wide4 in (
+        λ x m. let z = e .any x m in rw (z .2, ← pieced-parts (found .0 (then3 .if3 .taken) (z .0) (z .1)) _ _ _) call,
+        found .1,
+      )
+
+  pub write-many-loop-holds : write-many-lts.Need-loop-holds (write-many-calls t) (write-many-at t) write-many.Post write-many-Inv-loop write-many-μ-loop
+  write-many-loop-holds c = (turn-start _ _ _ _ _ _ _ _ _ _, refl, c .before .pieces-of .ensures .1)
+
+  -- room for the part whose turn it is
+  turn : (c : write-many-lts.In-loop (write-many-calls t) (write-many-at t) write-many.Post write-many-Inv-loop write-many-μ-loop) →
+      let after-wide4 = c .before .before .before .before .before in
+      let a = after-wide4 .before .before .before .before .before .before .before .before .before .before .before .before .args in
+      Room (each after-wide4 .y) (a .at + c .before .loop .i * after-wide4 .before .wide3 .result) (length (now (a .buf))) (a .k + c .before .loop .i * after-wide4 .before .before .wide2 .result) (length (now (a .words)))
+  turn c = each-room (each (c .before .before .before .before .before) .room) (c .loop-test .taken)
+
+  pub write-many-mul-write-entry : write-many-lts.Need-mul-write-entry (write-many-calls t) (write-many-at t) write-many.Post write-many-Inv-loop write-many-μ-loop
+  write-many-mul-write-entry c = omega (arith, turn c .bytes-there, c .before .before .before .before .before .before .before .before .before .before .before .before .before .before .before .before .before .good .1 .1 .1 .1 .1 .1 .0 .0)
+
+  pub write-many-add-write-entry : write-many-lts.Need-add-write-entry (write-many-calls t) (write-many-at t) write-many.Post write-many-Inv-loop write-many-μ-loop
+  write-many-add-write-entry c = omega (arith, turn c .bytes-there, c .before .before .before .before .before .before .before .before .before .before .before .before .before .before .before .before .before .good .1 .1 .1 .1 .1 .1 .0 .0)
+
+  pub write-many-mul-write-entry-2 : write-many-lts.Need-mul-write-entry-2 (write-many-calls t) (write-many-at t) write-many.Post write-many-Inv-loop write-many-μ-loop
+  write-many-mul-write-entry-2 c = omega (arith, turn c .words-there, c .before .before .before .before .before .before .before .before .before .before .before .before .before .before .before .before .before .good .1 .1 .1 .1 .0 .0)
+
+  pub write-many-add-write-entry-2 : write-many-lts.Need-add-write-entry-2 (write-many-calls t) (write-many-at t) write-many.Post write-many-Inv-loop write-many-μ-loop
+  write-many-add-write-entry-2 c = omega (arith, turn c .words-there, c .before .before .before .before .before .before .before .before .before .before .before .before .before .before .before .before .before .good .1 .1 .1 .1 .0 .0)
+
+  pub write-many-write-entry-requires : write-many-lts.Need-write-entry-requires (write-many-calls t) (write-many-at t) write-many.Post write-many-Inv-loop write-many-μ-loop
+  write-many-write-entry-requires c κs =
+      let in-loop = c .before .before in
+      let at-loop = in-loop .before in
+      let after-wide4 = at-loop .before .before .before .before in
+      let start = after-wide4 .before .before .before .before .before .before .before .before .before .before .before .before in
+      let e = each after-wide4 in
+      let l = at-loop .loop .inv in
+      (omega (arith, start .pre .0, e .deep), ((e .y, e .tree, rw (l .1) (turn in-loop)), l .2))
+
+  pub write-many-add-i : write-many-lts.Need-add-i (write-many-calls t) (write-many-at t) write-many.Post write-many-Inv-loop write-many-μ-loop
+  write-many-add-i c =
+      let in-loop = c .before .before .before .before .before in
+      let after-wide4 = in-loop .before .before .before .before .before in
+      omega (arith, in-loop .loop-test .taken, after-wide4 .before .before .before .wide .ensures .1)
+
+  pub write-many-loop-less : write-many-lts.Need-loop-less (write-many-calls t) (write-many-at t) write-many.Post write-many-Inv-loop write-many-μ-loop
+  write-many-loop-less c = omega (arith, c .before .before .before .before .before .loop-test .taken)
+
+  pub write-many-loop-again : write-many-lts.Need-loop-again (write-many-calls t) (write-many-at t) write-many.Post write-many-Inv-loop write-many-μ-loop
+  write-many-loop-again c =
+      let call = c .before .before .write-entry in
+      let in-loop = c .before .before .before .before .before in
+      let at-loop = in-loop .before in
+      let e = each (at-loop .before .before .before .before) in (
+        turn-next (at-loop .loop .inv .0) (e .tree) (e .room .unit-is) (in-loop .loop-test .taken) (call .ensures .0),
+        call .kept .1 .1 .1 .1 .1 .1 .0 ∙ at-loop .loop .inv .1,
+        call .ensures .1,
+      )
+
+  pub write-many-same-length-3 : write-many-lts.Need-same-length-3 (write-many-calls t) (write-many-at t) write-many.Post write-many-Inv-loop write-many-μ-loop
+  write-many-same-length-3 c = c .before .loop .inv .1
+
+  pub write-many-returns-4 : write-many-lts.Need-returns-4 (write-many-calls t) (write-many-at t) write-many.Post write-many-Inv-loop write-many-μ-loop
+  write-many-returns-4 c =
+      let at-loop = c .before in
+      let e = each (at-loop .before .before .before .before) in (
+        λ x m. let z = e .any x m in rw (z .2) (turn-none (at-loop .loop .inv .0) (c .loop-test .left) (z .0) (z .1)),
+        at-loop .loop .inv .2,
+      )
