@@ -16,14 +16,16 @@ use Rattle.wgsl.specs.Place.{Shape, one, parts, field, whole, spanOf, Place, wo
 use Rattle.wgsl.specs.Types.{structKind}
 use Rattle.runs.specs.Fold.{overPlaces, testing}
 use Rattle.runs.specs.Run.{runPlaces, partPlaces}
-use Rattle.runs.proofs.OverPlaces.{widths, tested-widths, tested-refused, tested-moved}
+use Rattle.wgsl.proofs.Count.{places-words, repeated-length}
+use Rattle.runs.specs.declared.Parts.{Parts}
+use Rattle.runs.proofs.OverPlaces.{over-append, repeated-append, widths, tested-widths, tested-refused, tested-moved}
 use Rattle.runs.specs.declared.Scan.{Scan}
 use Rattle.runs.specs.declared.Scan.the-variants.{Fine, Bad}
 use Rattle.runs.specs.Ask.{saidScan}
 use Rattle.layout_values.specs.declared.value.Value.{Value}
 use Rattle.layout_values.specs.Value.{valueAt, wordsIn}
 use Rattle.walk_trees.specs.Slot.{partWidth, memberAt, slotAt}
-use Rattle.walk_trees.specs.Tree.{Runs, Many, runs, each, Tree, WordRoom, AllWide, Wide, MemberRoom}
+use Rattle.walk_trees.specs.Tree.{Runs, RunsOf, Many, runs, each, Tree, WordRoom, AllWide, Wide, MemberRoom}
 use Rattle.walk_trees.proofs.Many.{tree-valued, many-runs}
 use Rattle.walk_trees.proofs.Room.{Each, each-entry}
 use Rattle.walk_trees.proofs.TreeSteps.{Turn, turn-start, turn-next, turn-none, Walk, walk-start, walk-first, walk-room, walk-words, walk-next, walk-none}
@@ -119,15 +121,10 @@ module _ {ms : List ℕ} {table : List (List ℕ)} {ws : List ℕ} (k : ℕ) (lo
 
 -- ---- parts
 
-module _ {ms : List ℕ} {table : List (List ℕ)} {r : Value} where
-  pub runs-room : {x : Shape} {k n : ℕ} → Many ms table r x → WordRoom x k n → (partWidth table r ≡ 0 → ⊥) → k + r .count * r .unit ≤ n
-  runs-room m room w = omega (arith, room .words-there, many-runs m w .words-are)
-
-  pub says-two : (ws : List ℕ) (k : ℕ) (s : Scan) {n : ℕ} → r .narrow ≡ 2 → (partWidth table r ≡ 0 → ⊥) → n ≡ r .count * r .unit → saidScan s ≡ overPlaces (testing ws) (runPlaces n 2 0) k (good tt) → Says ws k (λ x. Many ms table r x) s
-  says-two ws k s two w e said x m =
-      said
-      ∙ rw (e, many-runs m w .places-are 0, two)
-      (sym (tested-moved ws (r .count) (r .unit) 2 (r .stride) 0 k (good tt)))
+-- Parts that are runs, as one run.
+pub says-run : {ms : List ℕ} {table : List (List ℕ)} {r : Value} (ws : List ℕ) (k : ℕ) (s : Scan) {p : Parts} → ((x : Shape) → Many ms table r x → RunsOf p x) → saidScan s ≡ overPlaces (testing ws) (runPlaces (p .count * p .unit) (p .width) 0) k (good tt) → Says ws k (λ x. Many ms table r x) s
+says-run ws k s {p} are said x m =
+    said ∙ rw (are x m .places-are 0) (sym (tested-moved ws (p .count) (p .unit) (p .width) (p .stride) 0 k (good tt)))
 
 -- the layout's parts are entries, and their words are there
 pub each-there : {ms : List ℕ} {table : List (List ℕ)} {r : Value} {x : Shape} {element count unit k ws : ℕ} → Many ms table r x → partWidth table r ≡ 0 → WordRoom x k ws → element ≡ r .reference → count ≡ r .count → unit ≡ r .unit → Each ms table r element count unit (r .stride) 0 (spanOf x) k ws
@@ -141,6 +138,27 @@ pub record Turns (ms : List ℕ) (table : List (List ℕ)) (ws : List ℕ) (elem
 pub turns-start : (ms : List ℕ) (table : List (List ℕ)) (ws : List ℕ) (element count unit k : ℕ) → Turns ms table ws element count unit k 0
 turns-start ms table ws element count unit k =
     record { turn = λ stride. turn-start (testing ws) ms table element count unit stride 0 k (good tt) }
+
+-- Elements that fit are passed.
+pub turns-fitting : {ms : List ℕ} {table : List (List ℕ)} {r : Value} {element count unit bytes k n : ℕ} (all : Each ms table r element count unit (r .stride) 0 bytes k n) {ws : List ℕ} {i : ℕ} → i ≤ count → ((y : Shape) → Tree ms table element y → (stride : ℕ) → good tt ≡ overPlaces (testing ws) (placesOf (parts i stride y) 0) k (good tt)) → Turns ms table ws element count unit k i
+unfolding placesOf
+turns-fitting {element = element} {count = count} {unit = unit} {k = k} all {ws} {i} h fit =
+    record {
+      turn = λ stride.
+          record {
+            within = h;
+            same = λ y t.
+                let e : count ≡ i + (count - i) = omega arith in
+                let words : (p : ℕ) → length (placesOf y p) ≡ unit = λ p. places-words y p ∙ tree-valued t .words-are ∙ sym (tree-valued (all .tree) .words-are) ∙ all .room .unit-is in
+                let first = repeated i stride (λ p. placesOf y p) 0 in
+                let rest = repeated (count - i) stride (λ p. placesOf y p) (0 + i * stride) in
+                sym
+                (ap (λ (m : ℕ). overPlaces (testing ws) (repeated m stride (λ p. placesOf y p) 0) k (good tt)) e
+                ∙ ap (λ (ps : List Place). overPlaces (testing ws) ps k (good tt)) (repeated-append i (count - i) stride (λ p. placesOf y p) 0)
+                ∙ over-append (testing ws) first rest k (good tt)
+                ∙ rw (repeated-length i stride (λ p. placesOf y p) 0 unit words, ← fit y t stride) refl);
+          };
+    }
 
 module _ {ms : List ℕ} {table : List (List ℕ)} {r : Value} {element count unit bytes k n : ℕ} (all : Each ms table r element count unit (r .stride) 0 bytes k n) {ws : List ℕ} {i : ℕ} (now : Turns ms table ws element count unit k i) where
   turns-said : (s : Scan) → i < count → Says ws (k + i * unit) (λ x. Tree ms table element x) s → (stride : ℕ) → Turn (testing ws) ms table element count unit stride 0 k (good tt) (i + 1) (saidScan s)

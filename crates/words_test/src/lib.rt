@@ -128,12 +128,10 @@ fn scan_struct(
     while 0 < left {
         let ty = wide(half(members, m));
         let l = value_at(table, ty);
-        if l.narrow == 2 {
-            match scan_entry(members, table, ty, words, next, pieces) {
-                Scan::Fine => {}
-                Scan::Bad(q) => {
-                    return Scan::Bad(q);
-                }
+        match scan_member(members, table, ty, l, words, next, pieces) {
+            Scan::Fine => {}
+            Scan::Bad(q) => {
+                return Scan::Bad(q);
             }
         }
         next += wide(words_of(l));
@@ -141,4 +139,24 @@ fn scan_struct(
         left -= 1;
     }
     Scan::Fine
+}
+
+// Tests a member of the entry `ty`, with the value `l`.
+fn scan_member(
+    members: &[u8],
+    table: &[Row],
+    ty: usize,
+    l: Value,
+    words: &[u32],
+    k: usize,
+    pieces: &mut Pieces,
+) -> Scan
+    requires { ⌜ ((x : Shape) × Tree (now members) (now table) ty x × (l ≡ valueAt (now table) ty) × WordRoom x k (length (now words))) × (length (now pieces) ≡ 96) ⌝ }
+    ensures said { λ r. ⌜ ((x : Shape) → Tree (now (members .entry)) (now (table .entry)) ty x → Tests (now (words .entry)) (placesOf x 0) k (saidScan r)) ⌝ }
+    ensures long { λ _. ⌜ length (now (pieces .exit)) ≡ 96 ⌝ }
+{
+    if l.narrow != 2 {
+        return Scan::Fine;
+    }
+    scan_entry(members, table, ty, words, k, pieces)
 }
