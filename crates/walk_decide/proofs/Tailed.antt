@@ -63,8 +63,8 @@ module _ {f : List ℕ} {ts : List Ty} {ms : List ℕ} {table : List (List ℕ)}
         tree = trees basis e t there storable;
         covered =
             λ h n.
-            let (count, width, at, extent) = whole-run basis e t there storable h n in
-            record { width = width; count = count; places-are = at 0; extent-is = extent };
+            let (count, at, extent, width) = whole-run basis e t there storable h n in
+            record { two-or-four = width; count = count; places-are = at 0; extent-is = extent };
       }
 
   -- ---- an open entry whose runtime array is found

@@ -2,10 +2,10 @@
 --
 -- In order: a storable type's shape; a type of fixed size; an open type; words and room; storing, testing and loading both parts.
 -- Assumes nothing.
-use Prim.Native.Nat.{ℕ, _+_, _≤_}
+use Prim.Native.Nat.{ℕ, _+_, _*_, _≤_}
 use mathlib.Core.Bool.{true, _||_}
 use mathlib.Core.List.{List, _++_, append-nil}
-use mathlib.Core.Logic.{inr}
+use mathlib.Core.Logic.{_⊎_, inr}
 use mathlib.Core.Path.{_≡_, refl, ap, sym, _∙_}
 use native.Mathlib.Omega.{arith}
 use native.Mathlib.Nat.{zero-add}
@@ -25,8 +25,8 @@ use Rattle.layout_values.specs.declared.value.Value.{Value}
 use Rattle.layout_values.specs.Value.{wordsIn}
 use Rattle.layout_values.proofs.WordsIn.{value-words, words-fixed}
 use Rattle.runs.specs.Fold.{overPlaces, storing, loading, testing}
-use Rattle.runs.specs.Run.{partPlaces}
-use Rattle.runs.proofs.OverPlaces.{over-append, stored-words, loaded-words, tested-words, tested-refused}
+use Rattle.runs.specs.Run.{runPlaces, partPlaces}
+use Rattle.runs.proofs.OverPlaces.{over-append, run-length, stored-words, loaded-words, tested-words, tested-refused}
 use Rattle.runs.proofs.Covered.{covers}
 use Rattle.walk_trees.specs.Slot.{partWidth, runAt}
 use Rattle.walk_trees.specs.Tree.{Runs, runs, Room}
@@ -142,16 +142,24 @@ module _ {ms : List ℕ} {table : List (List ℕ)} {e : ℕ} {x : Rest} {t : Ty}
       ∙ ap (λ (d : List ℕ). overPlaces (storing ws) (places n t) 0 d) e
       ∙ stored-words ws (places n t) 0 _ (omega arith)
 
-  pub stored-covered : (ws b c : List ℕ) → length ws ≡ wordCount n t → extentOf n t ≤ length b → (runAt table e ≡ 0 → ⊥) → c ≡ b → overPlaces (storing ws) (placesOf (w .rest) (x .offset)) (x .fixed) (overPlaces (storing ws) (placesOf (shapeOf 0 t) 0) 0 c) ≡ written n t ws b
+  -- Words that cover the bytes, stored as one run over what was there.
+  pub stored-covered : (ws b : List ℕ) → length ws ≡ wordCount n t → extentOf n t ≤ length b → (runAt table e ≡ 0 → ⊥) → overPlaces (storing ws) (runPlaces (length ws) (runAt table e) 0) 0 b ≡ written n t ws b
   unfolding written wordCount
-  stored-covered ws b c l z h e =
+  stored-covered ws b l z h =
       let v = w .covered h in
-      sym (both-parts (storing ws) c)
-      ∙ ap (λ (d : List ℕ). overPlaces (storing ws) (places n t) 0 d) e
-      ∙ ap (λ (ps : List Place). overPlaces (storing ws) ps 0 b) (v .places-are)
-      ∙ sym (covers ws (v .count) (v .width) (extentOf n t) 0 b (v .extent-is) z)
+      let count : length ws ≡ v .count = l ∙ ap length (v .places-are) ∙ run-length (v .count) (runAt table e) 0 in
+      ap (λ (m : ℕ). overPlaces (storing ws) (runPlaces m (runAt table e) 0) 0 b) count
+      ∙ sym (covers ws (v .count) (runAt table e) (extentOf n t) 0 b (v .extent-is) z)
       ∙ ap (λ (ps : List Place). overPlaces (storing ws) ps 0 (replicate (extentOf n t) 0 ++ drop (extentOf n t) b)) (sym (v .places-are))
       ∙ stored-words ws (places n t) 0 _ (omega arith)
+
+  -- There is room for that run.
+  pub covered-room : {bytes : ℕ} (ws : List ℕ) → length ws ≡ wordCount n t → extentOf n t ≤ bytes → (runAt table e ≡ 0 → ⊥) → ((runAt table e ≡ 2) ⊎ (runAt table e ≡ 4)) × (0 + length ws ≤ length ws) × (0 + length ws * runAt table e ≤ bytes)
+  unfolding wordCount
+  covered-room ws l z h =
+      let v = w .covered h in
+      let count : length ws ≡ v .count = l ∙ ap length (v .places-are) ∙ run-length (v .count) (runAt table e) 0 in
+      (v .two-or-four, omega arith, rw count (omega (arith, v .extent-is)))
 
   -- Both parts loaded are the words read, and then the later words.
   pub loaded-whole : (b ws : List ℕ) → wordCount n t ≤ length ws → overPlaces (loading b) (placesOf (w .rest) (x .offset)) (x .fixed) (overPlaces (loading b) (placesOf (shapeOf 0 t) 0) 0 ws) ≡ wordsRead (places n t) b ++ drop (wordCount n t) ws

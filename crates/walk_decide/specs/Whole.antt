@@ -3,6 +3,7 @@
 -- In order: an entry of the table; an open entry; an entry with n elements.
 -- Definitions only. Assumes nothing.
 use Prim.Native.Nat.{ℕ, _+_, _*_, _<_, _≤_}
+use mathlib.Core.Logic.{_⊎_}
 use mathlib.Core.Path.{_≡_}
 use mathlib.Core.Bool.{true}
 use mathlib.Core.List.{List, _++_}
@@ -21,9 +22,9 @@ use Rattle.walk_decide.specs.Decide.{restFrom, Findable}
 
 -- ---- an entry of the table
 
--- a run over all the bytes of the type with n elements
-pub record Covered (t : Ty) (n : ℕ) : Type 0 where
-  pub width : ℕ
+-- a run of words of this width over all the bytes of the type with n elements
+pub record Covered (t : Ty) (n width : ℕ) : Type 0 where
+  pub two-or-four : (width ≡ 2) ⊎ (width ≡ 4)
   pub count : ℕ
   pub places-are : places n t ≡ runPlaces count width 0
   pub extent-is : extentOf n t ≡ count * width
@@ -36,7 +37,7 @@ pub record Ready (ms : List ℕ) (table : List (List ℕ)) (e : ℕ) (l : Value)
   pub counted : Counted l
   pub run-asks : RunAsks table e
   pub tree : Tree ms table e (shapeOf 0 t)
-  pub covered : (runAt table e ≡ 0 → ⊥) → (n : ℕ) → Covered t n
+  pub covered : (runAt table e ≡ 0 → ⊥) → (n : ℕ) → Covered t n (runAt table e)
 
 -- ---- an open entry
 
@@ -68,4 +69,4 @@ pub record Whole (ms : List ℕ) (table : List (List ℕ)) (e : ℕ) (x : Rest) 
   pub fixed-is : wordCount 0 t ≡ x .fixed
   pub fixed-inside : spanOf (shapeOf 0 t) ≤ extentOf n t
   pub rest-inside : x .offset + spanOf rest ≤ extentOf n t
-  pub covered : (runAt table e ≡ 0 → ⊥) → Covered t n
+  pub covered : (runAt table e ≡ 0 → ⊥) → Covered t n (runAt table e)

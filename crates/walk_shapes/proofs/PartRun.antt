@@ -196,7 +196,7 @@ touch-told stride unit width h = go (eqb stride (unit * width)) refl h
     go false q h = absurd (omega arith)
 
 -- Where its elements touch each other, its words lie one after the other, and take its bytes.
-pub runtime-all : (t : Ty) → Kept (runtime t) → (w : ℕ) → w ≡ touching (present (strideOf t)) (fixedWords t) (packedOf t) → 0 < w → (n : ℕ) → ((at : ℕ) → placesOf (shapeOf n (runtime t)) at ≡ runPlaces (n * fixedWords t) w at) × (extentOf n (runtime t) ≡ n * fixedWords t * w)
+pub runtime-all : (t : Ty) → Kept (runtime t) → (w : ℕ) → w ≡ touching (present (strideOf t)) (fixedWords t) (packedOf t) → 0 < w → (n : ℕ) → ((at : ℕ) → placesOf (shapeOf n (runtime t)) at ≡ runPlaces (n * fixedWords t) w at) × (extentOf n (runtime t) ≡ n * fixedWords t * w) × (w ≡ narrowOf t)
 unfolding partsIn partsOf narrowOf partRun
 runtime-all t k w e pos n =
     let x = touch-told (present (strideOf t)) (fixedWords t) (packedOf t) (rw (← e) pos) in
@@ -208,4 +208,5 @@ runtime-all t k w e pos n =
           parts-places n (runtime t) k some-width at
           ∙ rw (stride, ← narrow) (parts-touch n (fixedWords t) w at),
       sym (kept-laid k n .span) ∙ parts-span n (runtime t) some-width ∙ rw stride (sym (mul-assoc n (fixedWords t) w)),
+      narrow,
     )

@@ -5,6 +5,7 @@
 use Prim.Native.Nat.{ℕ, _*_, _<_}
 use mathlib.Core.Bool.{true}
 use mathlib.Core.List.{List}
+use mathlib.Core.Logic.{_⊎_}
 use mathlib.Core.Option.{some}
 use mathlib.Core.Path.{_≡_, _∙_}
 use native.Mathlib.Omega.{arith}
@@ -23,7 +24,8 @@ use Rattle.walk_trees.specs.Slot.{partWidth, touching, runAt, RunAsks}
 use Rattle.walk_shapes.specs.Basis.{Basis}
 use Rattle.walk_shapes.proofs.Basis.{basis-inside, basis-layout}
 use Rattle.walk_shapes.proofs.Kept.{Kept}
-use Rattle.walk_shapes.proofs.PartRun.{packedOf, packed-value, packed-all, partRun, runtime-all}
+use Rattle.walk_shapes.proofs.PartRun.{packedOf, packed-value, packed-narrow, packed-all, partRun, runtime-all}
+use Rattle.walk_shapes.proofs.Widths.{narrow-width}
 use Rattle.walk_shapes.proofs.Over.{over-at, element-counted, value-referring}
 use Rattle.walk_shapes.proofs.Says.{kind-is, says-at, kept-at}
 
@@ -48,24 +50,25 @@ module _ {f : List ℕ} {ts : List Ty} {ms : List ℕ} {table : List (List ℕ)}
       run-ten e (kind-is basis e (runtime u) there) ∙ touching-same (s .stride-is) (s .unit-is) (s .width-is)
 
   -- Where the run of an entry is told, its words lie one after the other, over all the bytes of the type with n elements.
-  pub whole-run : (e : ℕ) (t : Ty) → getElem? ts e ≡ some t → isStorable t ≡ true → (runAt table e ≡ 0 → ⊥) → (n : ℕ) → (count : ℕ) × (width : ℕ) × ((at : ℕ) → placesOf (shapeOf n t) at ≡ runPlaces count width at) × (extentOf n t ≡ count * width)
-  unfolding kindOf
+  pub whole-run : (e : ℕ) (t : Ty) → getElem? ts e ≡ some t → isStorable t ≡ true → (runAt table e ≡ 0 → ⊥) → (n : ℕ) → (count : ℕ) × ((at : ℕ) → placesOf (shapeOf n t) at ≡ runPlaces count (runAt table e) at) × (extentOf n t ≡ count * runAt table e) × ((runAt table e ≡ 2) ⊎ (runAt table e ≡ 4))
+  unfolding kindOf narrowOf
   whole-run e t there h run n = go t there (kept-at basis e t there h)
     where
-      closed : (t : Ty) → getElem? ts e ≡ some t → Kept t → (kindOf t ≡ 10 → ⊥) → (count : ℕ) × (width : ℕ) × ((at : ℕ) → placesOf (shapeOf n t) at ≡ runPlaces count width at) × (extentOf n t ≡ count * width)
+      closed : (t : Ty) → getElem? ts e ≡ some t → Kept t → (kindOf t ≡ 10 → ⊥) → (count : ℕ) × ((at : ℕ) → placesOf (shapeOf n t) at ≡ runPlaces count (runAt table e) at) × (extentOf n t ≡ count * runAt table e) × ((runAt table e ≡ 2) ⊎ (runAt table e ≡ 4))
       closed t there k kind =
           let pos : 0 < packedOf t = pos-of-ne-zero (λ q. run (packed-run e t there kind ∙ q)) in
           let a = packed-all t k pos n in
-          (fixedWords t, narrowOf t, a .0, a .1)
+          let width : runAt table e ≡ narrowOf t = packed-run e t there kind ∙ packed-narrow t pos in
+          rw width (fixedWords t, a .0, a .1, narrow-width t (k .plain))
 
-      go : (t : Ty) → getElem? ts e ≡ some t → Kept t → (count : ℕ) × (width : ℕ) × ((at : ℕ) → placesOf (shapeOf n t) at ≡ runPlaces count width at) × (extentOf n t ≡ count * width)
+      go : (t : Ty) → getElem? ts e ≡ some t → Kept t → (count : ℕ) × ((at : ℕ) → placesOf (shapeOf n t) at ≡ runPlaces count (runAt table e) at) × (extentOf n t ≡ count * runAt table e) × ((runAt table e ≡ 2) ⊎ (runAt table e ≡ 4))
       go (scalar s) there k = closed (scalar s) there k (no-scalar-kind s 10 (omega arith) (omega arith))
       go (vector c s) there k = closed (vector c s) there k (λ q. omega arith)
       go (matrix c r s) there k = closed (matrix c r s) there k (λ q. omega arith)
       go (array c u) there k = closed (array c u) there k (λ q. omega arith)
       go (runtime u) there k =
           let a = runtime-all u k (runAt table e) (runtime-run e u there k) (pos-of-ne-zero run) n in
-          (n * fixedWords u, runAt table e, a .0, a .1)
+          (n * fixedWords u, a .0, a .1, rw (a .2) (narrow-width (runtime u) (k .plain)))
       go (atomic s) there k = closed (atomic s) there k (λ q. omega arith)
       go (struct j ns) there k = closed (struct j ns) there k (λ q. omega arith)
 

@@ -1,30 +1,26 @@
 -- Writing (crates/wgsl, specs/Call) by what the code finds: the laws of crates/walk_decide (proofs/Calls), over the numbers of a layout.
 --
--- In order: once the entry is decided; both parts stored; a type of fixed size; an open type.
+-- In order: once the entry is decided; a type of fixed size; an open type.
 -- Assumes nothing.
 use Prim.Native.Nat.{ℕ, _+_, _*_, _<_, _≤_}
-use mathlib.Core.Bool.{Bool, true, false}
-use mathlib.Core.List.{List, _++_}
-use mathlib.Core.Path.{_≡_, refl, sym, _∙_}
-use borrow.Author.Tests.{eqb-true, eqb-false}
-use lib.Dec.{eqb}
-use lib.ListN.{length, drop, replicate}
+use mathlib.Core.Bool.{true, false}
+use mathlib.Core.List.{List}
+use mathlib.Core.Path.{_≡_, sym, _∙_}
+use lib.ListN.{length}
 use Rattle.wgsl.specs.Types.{Ty, isOpen}
 use Rattle.wgsl.specs.Said.{good, refused}
-use Rattle.wgsl.specs.Place.{extentOf, shapeOf, placesOf, wordCount, written}
+use Rattle.wgsl.specs.Place.{extentOf, wordCount}
 use Rattle.wgsl.specs.Call.{entryFor, writeCall, writeType, writeElements, writeWords}
 use Rattle.wgsl.proofs.Said.{then-is, then-refused}
 use Rattle.wgsl.proofs.Opened.{opened-extent}
 use Rattle.wgsl.proofs.Tail.{closed-extent}
 use Rattle.layout_values.specs.declared.value.Value.{Value}
 use Rattle.layout_values.specs.Value.{wordsIn}
-use Rattle.runs.specs.Fold.{overPlaces, storing}
-use Rattle.walk_trees.specs.Slot.{runAt}
 use Rattle.walk_decide.specs.declared.Rest.{Rest}
 use Rattle.walk_decide.specs.declared.Fits.the-variants.{Is, No}
 use Rattle.walk_decide.specs.Decide.{elementsOf, extentFor}
-use Rattle.walk_decide.specs.Whole.{Ready, TailedBy, Whole}
-use Rattle.walk_decide.proofs.Whole.{ready-words, stored-cleared, stored-covered}
+use Rattle.walk_decide.specs.Whole.{Ready, TailedBy}
+use Rattle.walk_decide.proofs.Whole.{ready-words}
 use Rattle.walk_decide.proofs.ReadyBounds.{size-is, tailed-open, tailed-words}
 use Rattle.walk_decide.proofs.CallSteps.{closed-wrong, closed-right, open-wrong, open-right, extent-short, extent-there, held-short, held-there}
 
@@ -38,15 +34,6 @@ module _ (f : List ℕ) (e : ℕ) (ws b : List ℕ) where
   pub write-allowed : {t : Ty} → entryFor true f e b ≡ good t → writeCall f e ws b ≡ writeType t ws b
   unfolding writeCall writeType
   write-allowed h = then-is _ h
-
--- ---- both parts, stored over zeros or over what they cover
-
-pub stored-either : {ms : List ℕ} {table : List (List ℕ)} {e : ℕ} {x : Rest} {t : Ty} {n : ℕ} (w : Whole ms table e x t n) (ws b c : List ℕ) (z : ℕ) → length ws ≡ wordCount n t → z ≡ extentOf n t → z ≤ length b → ((runAt table e ≡ 0 → ⊥) → c ≡ b) → (runAt table e ≡ 0 → c ≡ replicate z 0 ++ drop z b) → overPlaces (storing ws) (placesOf (w .rest) (x .offset)) (x .fixed) (overPlaces (storing ws) (placesOf (shapeOf 0 t) 0) 0 c) ≡ written n t ws b
-stored-either {table = table} {e = e} {x = x} {t = t} {n = n} w ws b c z l is room kept cleared = go (eqb (runAt table e) 0) refl
-  where
-    go : (p : Bool) → eqb (runAt table e) 0 ≡ p → overPlaces (storing ws) (placesOf (w .rest) (x .offset)) (x .fixed) (overPlaces (storing ws) (placesOf (shapeOf 0 t) 0) 0 c) ≡ written n t ws b
-    go true q = stored-cleared w ws b c l (rw (← is) (cleared (eqb-true _ _ q)))
-    go false q = stored-covered w ws b c l (rw (← is) room) (eqb-false _ _ q) (kept (eqb-false _ _ q))
 
 -- ---- a type of fixed size
 

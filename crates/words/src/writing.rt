@@ -24,6 +24,7 @@ use walk_decide::extent_for;
 use walk_decide::fit;
 use walk_decide::open_rest;
 use walk_decide::rest_of;
+use walk_pieces::Pieces;
 use walk_pieces::no_pieces;
 use walk_trees::run_at;
 use words_test::scan_entry;
@@ -59,14 +60,21 @@ fn zero(buf: &mut [u8], n: usize)
 }
 
 // Tests the words of an entry: the fixed part, then the tail.
-fn scan(members: &[u8], table: &[Row], e: usize, x: Rest, words: &[u32]) -> Scan
-    requires { ⌜ ((t : Ty) × (n : ℕ) × Whole (now members) (now table) e x t n × (length (now words) ≡ wordCount n t)) ⌝ }
-    ensures { λ r. ⌜ Tested (now (members .entry)) (now (table .entry)) e x (now (words .entry)) (saidScan r) ⌝ }
+fn scan(
+    members: &[u8],
+    table: &[Row],
+    e: usize,
+    x: Rest,
+    words: &[u32],
+    pieces: &mut Pieces,
+) -> Scan
+    requires { ⌜ ((t : Ty) × (n : ℕ) × Whole (now members) (now table) e x t n × (length (now words) ≡ wordCount n t)) × (length (now pieces) ≡ 96) ⌝ }
+    ensures said { λ r. ⌜ Tested (now (members .entry)) (now (table .entry)) e x (now (words .entry)) (saidScan r) ⌝ }
+    ensures long { λ _. ⌜ length (now (pieces .exit)) ≡ 96 ⌝ }
 {
-    let mut pieces = no_pieces();
-    match scan_entry(members, table, e, words, 0, &mut pieces) {
+    match scan_entry(members, table, e, words, 0, pieces) {
         Scan::Bad(k) => Scan::Bad(k),
-        Scan::Fine => scan_many(members, table, x.value, words, x.fixed, &mut pieces),
+        Scan::Fine => scan_many(members, table, x.value, words, x.fixed, pieces),
     }
 }
 
@@ -79,8 +87,9 @@ fn store(
     extent: usize,
     words: &[u32],
     buf: &mut [u8],
+    pieces: &mut Pieces,
 )
-    requires { ⌜ ((t : Ty) × (n : ℕ) × Whole (now members) (now table) e x t n × (length (now words) ≡ wordCount n t) × (extent ≡ extentOf n t) × (extent ≤ length (now buf))) ⌝ }
+    requires { ⌜ ((t : Ty) × (n : ℕ) × Whole (now members) (now table) e x t n × (length (now words) ≡ wordCount n t) × (extent ≡ extentOf n t) × (extent ≤ length (now buf))) × (length (now pieces) ≡ 96) ⌝ }
     ensures { λ _. ⌜ WholeStored (now (members .entry)) (now (table .entry)) e x extent (now (words .entry)) (now (buf .entry)) (now (buf .exit)) ⌝ }
 {
     let width = run_at(table, e);
@@ -89,8 +98,7 @@ fn store(
         return;
     }
     zero(buf, extent);
-    let mut pieces = no_pieces();
-    write_entry(members, table, e, 0, words, 0, buf, &mut pieces);
+    write_entry(members, table, e, 0, words, 0, buf, pieces);
     write_many(
         members,
         table,
@@ -99,7 +107,7 @@ fn store(
         words,
         x.fixed,
         buf,
-        &mut pieces,
+        pieces,
     );
 }
 
@@ -116,10 +124,11 @@ fn write_whole(
     requires { ⌜ ((t : Ty) × (n : ℕ) × Whole (now members) (now table) e x t n × (length (now words) ≡ wordCount n t) × (extent ≡ extentOf n t) × (extent ≤ length (now buf))) ⌝ }
     ensures { λ r. ⌜ WholeWritten (now (members .entry)) (now (table .entry)) e x extent (now (words .entry)) r (now (buf .entry)) (now (buf .exit)) ⌝ }
 {
-    match fit(scan(members, table, e, x, words)) {
+    let mut pieces = no_pieces();
+    match fit(scan(members, table, e, x, words, &mut pieces)) {
         Allowed::Refused(r) => Number::Refused(r),
         Allowed::Yes => {
-            store(members, table, e, x, wide(extent), words, buf);
+            store(members, table, e, x, wide(extent), words, buf, &mut pieces);
             Number::Is(extent)
         }
     }

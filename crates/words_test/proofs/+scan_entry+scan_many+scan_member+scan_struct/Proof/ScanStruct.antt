@@ -1,12 +1,13 @@
 -- What `scan_struct` needs (proofs/TestSteps).
 -- Assumes nothing.
 use Prim.Native.Nat.{ℕ, _≤_}
-use mathlib.Core.Path.{_≡_, refl, _∙_}
+use mathlib.Core.Path.{_≡_, refl, ap, _∙_}
 use native.Mathlib.Nat.{mul-le-mul}
 use native.Mathlib.Omega.{arith}
 use denote.Ref.{now}
 use lib.ListN.{length}
 use Rattle.wgsl.specs.Number.{load}
+use Rattle.layout_values.specs.declared.value.Value.{Value}
 use Rattle.layout_values.specs.Value.{valueAt, wordsIn}
 use Rattle.walk_trees.proofs.Many.{tree-valued}
 use Rattle.walk_trees.proofs.TreeSteps.{walk-first}
@@ -72,7 +73,7 @@ module _ (t : ℕ) where
       let h = in-loop .loop-test .taken in
       let read = type-read after-wide4 in (
         omega (arith, start .pre .0, scanned-lower w h read),
-        ((walk-first (w .walk) h .y, scanned-tree w h read, after-value-at .value-at .ensures, scanned-there w h read), in-loop .before .loop .inv .1),
+        ((walk-first (w .walk) h .y, scanned-tree w h read, ap (λ (l : Value). l .narrow) (after-value-at .value-at .ensures), scanned-there w h read), in-loop .before .loop .inv .1),
       )
 
   -- from one member entry to the next
