@@ -3,7 +3,7 @@
  * A layout file describes types as numbered entries; every call takes one, as bytes, and asks something of it, but for the four on bit
  * fields of a number and the one that converts a literal. Nothing is kept between calls, nothing is allocated, and any bytes and any
  * numbers may be passed: what cannot be answered is refused with a number. Threads may call at the same time. No call takes more than
- * LEPUGASO_STACK bytes of stack: 132 KiB to write, read or clean types that nest 256 deep, 64 KiB to view, set (also on site) or use bit
+ * LEPUGASO_STACK bytes of stack: 160 KiB to write, read or clean types that nest 256 deep, 64 KiB to view, set (also on site) or use bit
  * fields along such a path, 36 KiB to ask anything else.
  *
  * For x86-64 Linux. Link liblepugaso.a, which needs nothing but memcpy, memmove and memset, or liblepugaso.so.

@@ -10,6 +10,7 @@ use layout_values::value::Value;
 use layout_values::value::value_at;
 use layout_values::value::words_of;
 use numbers::wide::wide;
+use runs::Parts;
 use walk_pieces::MOST;
 use walk_pieces::Pieces;
 use walk_pieces::pieces_of;
@@ -64,7 +65,7 @@ pub fn sweep_many(
     ensures swept { λ r. ⌜ ((x : Shape) → Many (now (members .entry)) (now (table .entry)) l x → Sweeps (placesOf x at) (sweptOf (now (buf .entry)) s) (sweptOf (now (buf .exit)) r)) ⌝ }
     ensures long { λ _. ⌜ length (now (pieces .exit)) ≡ 96 ⌝ }
 {
-    let p = parts_of(table, l);
+    let p: Parts = parts_of(table, l);
     if p.width != 0 {
         return sweep_parts(buf, s, at, p);
     }

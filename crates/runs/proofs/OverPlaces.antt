@@ -11,11 +11,10 @@ use mathlib.Core.List.{List, [], _∷_, _++_, map, map-append, append-assoc}
 use mathlib.Core.Path.{_≡_, refl, sym, _∙_}
 use native.Mathlib.Nat.{add-zero, zero-mul, suc-mul, mul-one}
 use native.Mathlib.Omega.{arith}
-use lib.ListN.{length, getD, drop, replicate, length-set, replicate-append-replicate}
+use lib.ListN.{length, getD, drop, replicate, replicate-append-replicate}
 use lib.Seq.{sets, sets-eq, drop-cons}
 use Rattle.wgsl.specs.Said.{Said, good, refused, _>>_, refuse}
 use Rattle.wgsl.specs.Place.{Place, repeated, storeWords, wordsRead, canHold, checkWords}
-use Rattle.wgsl.proofs.Number.{length-store}
 use Rattle.wgsl.proofs.Count.{repeated-length}
 use Rattle.wgsl.proofs.Word.{length-wordsRead}
 use Rattle.runs.specs.Fold.{overPlaces, storing, loading, testing}
@@ -98,12 +97,6 @@ rows-touch n count unit width stride at = repeated-touch n count stride (λ p. r
 
 -- ---- storing
 
-pub length-storing : (ws : List ℕ) (ps : List Place) (k : ℕ) (b : List ℕ) → length (overPlaces (storing ws) ps k b) ≡ length b
-unfolding overPlaces storing
-length-storing ws [] k b = refl
-length-storing ws (p ∷ ps) k b =
-    length-storing ws ps (suc k) (storing ws p k b) ∙ length-store (p .width) b (p .at) (getD ws k 0)
-
 pub stored-words : (ws : List ℕ) (ps : List Place) (k : ℕ) (b : List ℕ) → k + length ps ≤ length ws → overPlaces (storing ws) ps k b ≡ storeWords ps (drop k ws) b
 unfolding overPlaces storing storeWords
 stored-words ws [] k b h = refl
@@ -111,11 +104,6 @@ stored-words ws (p ∷ ps) k b h =
     rw (drop-cons ws k 0 (omega arith)) (stored-words ws ps (suc k) (storing ws p k b) (omega arith))
 
 -- ---- loading
-
-pub length-loading : (b : List ℕ) (ps : List Place) (k : ℕ) (ws : List ℕ) → length (overPlaces (loading b) ps k ws) ≡ length ws
-unfolding overPlaces loading
-length-loading b [] k ws = refl
-length-loading b (p ∷ ps) k ws = length-loading b ps (suc k) (loading b p k ws) ∙ length-set ws k _
 
 -- The words read go over those that stand from k on.
 pub loaded-sets : (b : List ℕ) (ps : List Place) (k : ℕ) (ws : List ℕ) → overPlaces (loading b) ps k ws ≡ sets ws k (wordsRead ps b)

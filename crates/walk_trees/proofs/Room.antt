@@ -1,14 +1,14 @@
 -- Room for the words and the bytes of a tree (specs/Tree, `Room`, `EachRoom` and `MemberRoom`).
 --
--- In order: one entry; parts, and each of them (`Each`); a member at its place.
+-- In order: parts, and each of them (`Each`); a member at its place.
 -- Assumes nothing.
 use Prim.Native.Nat.{ℕ, _+_, _*_, _<_, _≤_}
-use mathlib.Core.List.{List, append-nil}
+use mathlib.Core.List.{List}
 use mathlib.Core.Path.{_≡_, refl, ap, sym, _∙_}
 use native.Mathlib.Nat.{mul-le-mul-right}
 use native.Mathlib.Omega.{arith}
 use lib.ListN.{length}
-use Rattle.wgsl.specs.Place.{Shape, parts, spanOf, repeated, placesOf}
+use Rattle.wgsl.specs.Place.{Shape, parts, spanOf, placesOf}
 use Rattle.wgsl.specs.Shapes.{shapeWords}
 use Rattle.runs.specs.Run.{runPlaces}
 use Rattle.layout_values.specs.declared.value.Value.{Value}
@@ -17,19 +17,6 @@ use Rattle.layout_values.specs.Value.{valueAt, wordsIn}
 use Rattle.walk_trees.specs.Slot.{packedAs, partWidth, memberAt, slotAt}
 use Rattle.walk_trees.specs.Tree.{Elements, Many, Tree, Room, EachRoom, MemberRoom}
 use Rattle.walk_trees.proofs.Many.{tree-valued, many-each, depth, depth-each}
-
--- One entry is one part.
-pub one-room : {ms : List ℕ} {table : List (List ℕ)} {e : ℕ} {x : Shape} {at bytes k ws : ℕ} → Tree ms table e x → Room x at bytes k ws → EachRoom x 1 (wordsIn (valueAt table e)) 0 at bytes k ws
-one-room t room =
-    record {
-      unit-is = tree-valued t .words-are;
-      bytes-there = λ i h. omega (arith, room .bytes-there);
-      words-there = omega (arith, room .words-there, tree-valued t .words-are);
-    }
-
-pub one-places : (y : Shape) (at : ℕ) → placesOf (parts 1 0 y) at ≡ placesOf y at
-unfolding placesOf repeated
-one-places y at = append-nil (placesOf y at)
 
 -- Room for parts is room for each.
 pub parts-room : {table : List (List ℕ)} {r : Value} {y : Shape} {at bytes k ws : ℕ} → Elements table r y → Room (parts (r .count) (r .stride) y) at bytes k ws → EachRoom y (r .count) (r .unit) (r .stride) at bytes k ws

@@ -1,11 +1,10 @@
 -- Parts that are runs (specs/Tree, `RunsOf`): an entry's own, and those of its elements as one row.
 -- Assumes nothing.
-use Prim.Native.Nat.{ℕ, _*_, _≤_}
+use Prim.Native.Nat.{ℕ, _*_}
 use mathlib.Core.List.{List}
-use mathlib.Core.Logic.{_⊎_}
-use mathlib.Core.Path.{_≡_, refl, ap, sym, _∙_}
+use mathlib.Core.Path.{_≡_, ap, sym, _∙_}
 use native.Mathlib.Nat.{mul-assoc}
-use Rattle.wgsl.specs.Place.{Shape, parts, spanOf, placesOf, repeated}
+use Rattle.wgsl.specs.Place.{Shape, parts, spanOf, placesOf}
 use Rattle.wgsl.specs.Shapes.{shapeWords}
 use Rattle.runs.specs.declared.Parts.{Parts}
 use Rattle.runs.specs.Run.{partPlaces}

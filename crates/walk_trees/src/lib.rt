@@ -29,7 +29,7 @@ pub struct Slot {
     pub words: usize,
 }
 
-// Structs of an array: `count` of them, of `unit` words each, a `stride` from one to the next.
+// Elements of an array: `count` of them, of `unit` words each, a `stride` from one to the next.
 pub struct Series {
     pub count: usize,
     pub unit: usize,
@@ -48,7 +48,7 @@ pub fn packed(l: Value) -> u32
 }
 
 // The same of the words of each part of an entry that is no struct.
-pub fn part_width(table: &[Row], l: Value) -> u32
+fn part_width(table: &[Row], l: Value) -> u32
     requires { ⌜ Referring (now table) l ⌝ }
     ensures { λ r. ⌜ r ≡ partWidth (now (table .entry)) l ⌝ }
 {

@@ -26,7 +26,7 @@ use Rattle.layout_values.specs.declared.value.Value.{Value}
 use Rattle.layout_values.specs.Value.{valueAt, wordsIn}
 use Rattle.walk_trees.specs.Slot.{partWidth, memberAt, slotAt}
 use Rattle.walk_trees.specs.Tree.{Runs, RunsOf, Many, runs, each, Tree, WordRoom, AllWide, Wide, MemberRoom}
-use Rattle.walk_trees.proofs.Many.{tree-valued, many-runs}
+use Rattle.walk_trees.proofs.Many.{tree-valued}
 use Rattle.walk_trees.proofs.Room.{Each, each-entry}
 use Rattle.walk_trees.proofs.TreeSteps.{Turn, turn-start, turn-next, turn-none, Walk, walk-start, walk-first, walk-room, walk-words, walk-next, walk-none}
 

@@ -2,11 +2,10 @@
 -- Assumes nothing.
 use Prim.Native.Nat.{_+_, _-_, _*_, _<_, _≤_}
 use mathlib.Core.Logic.{_⊎_, ⊎-elim}
-use mathlib.Core.Path.{_≡_, refl, sym, _∙_}
+use mathlib.Core.Path.{_≡_, refl, _∙_}
 use native.Mathlib.Nat.{mul-assoc}
 use native.Mathlib.Omega.{arith}
 use borrow.Author.Needs.{needs}
-use denote.Ref.{now}
 use lib.ListN.{length}
 use Rattle.wgsl.specs.Place.{repeated}
 use Rattle.wgsl.specs.Round.{limit}

@@ -1,7 +1,6 @@
 -- Its own parts where they are runs, else those of its elements (proofs/Rows).
 -- Assumes nothing.
-use mathlib.Core.Path.{_≡_, refl, sym, _∙_}
-use native.Mathlib.Omega.{arith}
+use mathlib.Core.Path.{refl, sym, _∙_}
 use borrow.Author.Needs.{needs}
 use Rattle.walk_trees.proofs.Many.{tree-valued, tree-many, many-referring, many-runs, many-each}
 use Rattle.walk_trees.proofs.Rows.{own-runs}

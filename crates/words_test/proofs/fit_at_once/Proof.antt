@@ -2,7 +2,6 @@
 -- Assumes nothing.
 use mathlib.Core.Path.{refl}
 use native.Mathlib.Omega.{arith}
-use borrow.Author.Needs.{needs}
 use Rattle.wgsl.specs.Place.{repeated, placesOf}
 use Rattle.runs.specs.Fold.{overPlaces}
 use Rattle.walk_pieces.proofs.Pass.{pieced-each, pieced-parts}

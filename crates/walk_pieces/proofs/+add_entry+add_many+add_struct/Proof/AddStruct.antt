@@ -9,7 +9,6 @@ use lib.ListN.{length}
 use Rattle.wgsl.specs.Place.{Shape, spanOf}
 use Rattle.wgsl.specs.Round.{limit}
 use Rattle.walk_trees.specs.declared.Slot.{Slot}
-use Rattle.walk_trees.specs.Slot.{slotAt}
 use Rattle.walk_trees.specs.Tree.{Tree}
 use Rattle.walk_trees.proofs.Many.{tree-valued}
 use Rattle.walk_pieces.specs.Piece.{mostPieces}

@@ -1,7 +1,7 @@
 -- What `read_member` needs.
 -- Assumes nothing.
 use Prim.Native.Nat.{ℕ}
-use mathlib.Core.Path.{_≡_, sym, _∙_}
+use mathlib.Core.Path.{sym, _∙_}
 use native.Mathlib.Omega.{arith}
 use Rattle.walk_trees.proofs.Room.{type-is, type-inside, type-tree, member-room, run-places, run-room}
 use Rattle.words_read.proofs.read_entry.Reads as read-entry

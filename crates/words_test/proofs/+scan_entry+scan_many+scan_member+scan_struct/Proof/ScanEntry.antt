@@ -1,7 +1,7 @@
 -- What `scan_entry` needs (proofs/TestSteps).
 -- Assumes nothing.
 use Prim.Native.Nat.{ℕ}
-use mathlib.Core.Path.{_≡_, ap, _∙_}
+use mathlib.Core.Path.{ap, _∙_}
 use native.Mathlib.Omega.{arith}
 use Rattle.layout_values.specs.declared.value.Value.{Value}
 use Rattle.walk_trees.proofs.Many.{tree-valued, tree-many, depth-below}
