@@ -128,10 +128,12 @@ fn scan_struct(
     while 0 < left {
         let ty = wide(half(members, m));
         let l = value_at(table, ty);
-        match scan_member(members, table, ty, l.narrow, words, next, pieces) {
-            Scan::Fine => {}
-            Scan::Bad(q) => {
-                return Scan::Bad(q);
+        if l.narrow == 2 {
+            match scan_entry(members, table, ty, words, next, pieces) {
+                Scan::Fine => {}
+                Scan::Bad(q) => {
+                    return Scan::Bad(q);
+                }
             }
         }
         next += wide(words_of(l));
@@ -139,24 +141,4 @@ fn scan_struct(
         left -= 1;
     }
     Scan::Fine
-}
-
-// Tests a member of the entry `ty`, whose narrowest word has so many bytes.
-fn scan_member(
-    members: &[u8],
-    table: &[Row],
-    ty: usize,
-    narrow: u32,
-    words: &[u32],
-    k: usize,
-    pieces: &mut Pieces,
-) -> Scan
-    requires { ⌜ ((x : Shape) × Tree (now members) (now table) ty x × (narrow ≡ valueAt (now table) ty .narrow) × WordRoom x k (length (now words))) × (length (now pieces) ≡ 96) ⌝ }
-    ensures said { λ r. ⌜ ((x : Shape) → Tree (now (members .entry)) (now (table .entry)) ty x → Tests (now (words .entry)) (placesOf x 0) k (saidScan r)) ⌝ }
-    ensures long { λ _. ⌜ length (now (pieces .exit)) ≡ 96 ⌝ }
-{
-    if narrow != 2 {
-        return Scan::Fine;
-    }
-    scan_entry(members, table, ty, words, k, pieces)
 }

@@ -1,7 +1,7 @@
 -- What `scan_entry` needs (proofs/TestSteps).
 -- Assumes nothing.
 use Prim.Native.Nat.{ℕ}
-use mathlib.Core.Path.{ap, _∙_}
+use mathlib.Core.Path.{_≡_, ap, _∙_}
 use native.Mathlib.Omega.{arith}
 use Rattle.layout_values.specs.declared.value.Value.{Value}
 use Rattle.walk_trees.proofs.Many.{tree-valued, tree-many, depth-below}
@@ -9,9 +9,9 @@ use Rattle.words_test.proofs.TestSteps.{entry-fine}
 use Rattle.words_test.proofs.scan_entry.Reads as scan-entry
 use Rattle.words_test.proofs.scan_many.Reads as scan-many
 use Rattle.words_test.proofs.scan_struct.Reads as scan-struct
-use Rattle.words_test.proofs.+scan_entry+scan_many+scan_member+scan_struct.Lts-scan_entry as scan-entry-lts
+use Rattle.words_test.proofs.+scan_entry+scan_many+scan_struct.Lts-scan_entry as scan-entry-lts
 use Rattle.layout_values.proofs.value.value_at.Reads as value-at-reads
-use Rattle.words_test.proofs.+scan_entry+scan_many+scan_member+scan_struct.Proof.Cycle.{scan-entry-at, scan-many-below, scan-struct-below}
+use Rattle.words_test.proofs.+scan_entry+scan_many+scan_struct.Proof.Cycle.{scan-entry-at, scan-many-below, scan-struct-below}
 
 abbrev pub scan-entry-calls : ℕ → scan-entry-lts.Claims
 scan-entry-calls t = (value-at-reads.Asked, value-at-reads.Learnt, scan-struct-below t, scan-struct.Post, scan-many-below t, scan-many.Post)

@@ -11,12 +11,12 @@ use Rattle.walk_trees.proofs.Room.{Each, each-room}
 use Rattle.words_test.proofs.TestSteps.{many-fine, says-run, each-there, Turns, turns-fitting, turns-fine, turns-bad, turns-none}
 use Rattle.words_test.proofs.scan_entry.Reads as scan-entry
 use Rattle.words_test.proofs.scan_many.Reads as scan-many
-use Rattle.words_test.proofs.+scan_entry+scan_many+scan_member+scan_struct.Lts-scan_many as scan-many-lts
+use Rattle.words_test.proofs.+scan_entry+scan_many+scan_struct.Lts-scan_many as scan-many-lts
 use Rattle.numbers.proofs.wide.wide.Reads as wide-reads
 use Rattle.runs.proofs.scan_run.Reads as scan-run-reads
 use Rattle.walk_trees.proofs.parts_of.Reads as parts-of-reads
 use Rattle.words_test.proofs.fit_at_once.Reads as fit-at-once-reads
-use Rattle.words_test.proofs.+scan_entry+scan_many+scan_member+scan_struct.Proof.Cycle.{scan-entry-below, scan-many-at}
+use Rattle.words_test.proofs.+scan_entry+scan_many+scan_struct.Proof.Cycle.{scan-entry-below, scan-many-at}
 
 abbrev pub scan-many-Inv-loop : scan-many-lts.InvT-loop
 scan-many-Inv-loop members table words k pieces₀ count unit element i₀ pieces i =
@@ -114,7 +114,8 @@ module _ (t : ℕ) where
   pub scan-many-returns-3 : scan-many-lts.Need-returns-3 (scan-many-calls t) (scan-many-at t) scan-many.Post scan-many-Inv-loop scan-many-μ-loop
   scan-many-returns-3 c =
       let call = c .before .before .before in
-      let in-loop = call .before .before in (
+      let in-loop = call .before .before in
+      (
         turns-bad (each (in-loop .before .before .before .before)) (in-loop .before .loop .inv .0) (in-loop .loop-test .taken) (rw (c .before .p .given .1) at (call .scan-entry .ensures .0)),
         call .scan-entry .ensures .1,
       )

@@ -8,8 +8,6 @@ use Rattle.words_test.proofs.scan_entry.Reads as scan-entry
 use Rattle.words_test.proofs.scan_entry.Kinds as scan-entry-kinds
 use Rattle.words_test.proofs.scan_many.Reads as scan-many
 use Rattle.words_test.proofs.scan_many.Kinds as scan-many-kinds
-use Rattle.words_test.proofs.scan_member.Reads as scan-member
-use Rattle.words_test.proofs.scan_member.Kinds as scan-member-kinds
 use Rattle.words_test.proofs.scan_struct.Reads as scan-struct
 use Rattle.words_test.proofs.scan_struct.Kinds as scan-struct-kinds
 
@@ -18,9 +16,6 @@ abbrev pub μ-scan-entry : Measures 4 scan-entry-kinds.ps ℕ
 
 abbrev pub μ-scan-many : Measures 4 scan-many-kinds.ps ℕ
 μ-scan-many κs a = depth (a .1 .0 .now) (a .1 .1 .0)
-
-abbrev pub μ-scan-member : Measures 4 scan-member-kinds.ps ℕ
-μ-scan-member κs a = 5 * a .1 .1 .0 + 5
 
 abbrev pub μ-scan-struct : Measures 4 scan-struct-kinds.ps ℕ
 μ-scan-struct κs a = 5 * a .1 .1 .0 + 3
@@ -36,12 +31,6 @@ scan-many-at t = and 4 scan-many-kinds.ps (is 4 scan-many-kinds.ps μ-scan-many 
 
 abbrev pub scan-many-below : ℕ → In 4 scan-many-kinds.ps
 scan-many-below t = and 4 scan-many-kinds.ps (falls 4 scan-many-kinds.ps _<_ μ-scan-many t) scan-many.Pre
-
-abbrev pub scan-member-at : ℕ → In 4 scan-member-kinds.ps
-scan-member-at t = and 4 scan-member-kinds.ps (is 4 scan-member-kinds.ps μ-scan-member t) scan-member.Pre
-
-abbrev pub scan-member-below : ℕ → In 4 scan-member-kinds.ps
-scan-member-below t = and 4 scan-member-kinds.ps (falls 4 scan-member-kinds.ps _<_ μ-scan-member t) scan-member.Pre
 
 abbrev pub scan-struct-at : ℕ → In 4 scan-struct-kinds.ps
 scan-struct-at t = and 4 scan-struct-kinds.ps (is 4 scan-struct-kinds.ps μ-scan-struct t) scan-struct.Pre
