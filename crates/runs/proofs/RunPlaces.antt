@@ -46,6 +46,24 @@ run-more f i width at k s t e =
     let last = word width (at + i * width) in
     rw (e, run-append i 1 width at, over-append f (runPlaces i width at) last k s, run-length i width at)
 
+-- Two, three and four words.
+module _ {S : Type 0} (f : Place → ℕ → S → S) (at k : ℕ) (s : S) where
+  abbrev four : ℕ → Place
+  four p = record { at = p; width = 4 }
+
+  pub run-one : f (four at) k s ≡ overPlaces f (runPlaces 1 4 at) k s
+  unfolding runPlaces repeated overPlaces
+  run-one = refl
+
+  pub run-two : f (four (at + 4)) (k + 1) (f (four at) k s) ≡ overPlaces f (runPlaces 2 4 at) k s
+  run-two = run-more f 1 4 at k s _ run-one
+
+  pub run-three : f (four (at + 8)) (k + 2) (f (four (at + 4)) (k + 1) (f (four at) k s)) ≡ overPlaces f (runPlaces 3 4 at) k s
+  run-three = run-more f 2 4 at k s _ run-two
+
+  pub run-four : f (four (at + 12)) (k + 3) (f (four (at + 8)) (k + 2) (f (four (at + 4)) (k + 1) (f (four at) k s))) ≡ overPlaces f (runPlaces 4 4 at) k s
+  run-four = run-more f 3 4 at k s _ run-three
+
 -- ---- widths and room
 
 pub width-four : {width : ℕ} → (width ≡ 2) ⊎ (width ≡ 4) → (width ≡ 2 → ⊥) → width ≡ 4

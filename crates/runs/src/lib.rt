@@ -7,7 +7,8 @@ use numbers::bytes::u32_at;
 ghost use mathlib.Core.Path.{_≡_};
 ghost use mathlib.Core.Logic.{_⊎_};
 ghost use Prim.Native.Nat.{ℕ, _+_, _*_, _<_, _≤_};
-ghost use lib.ListN.{length, getD};
+ghost use lib.ListN.{length, getD, set};
+ghost use Rattle.wgsl.specs.Number.{store};
 ghost use Rattle.runs.specs.Fold.{Stores, Loads, Tests};
 ghost use Rattle.runs.specs.Run.{runPlaces, partPlaces};
 ghost use Rattle.runs.specs.Ask.{PartsRoom, saidScan};
@@ -26,6 +27,32 @@ pub enum Scan {
     Bad(usize),
 }
 
+// Two, three and four numbers of four bytes, one after the other. They are handed on as numbers, so that all are read before the first is
+// stored: the compiler, which cannot know that a store changes no word, then moves them together.
+fn put_two(buf: &mut [u8], at: usize, a: u32, b: u32)
+    requires { ⌜ at + 8 ≤ length (now buf) ⌝ }
+    ensures { λ _. ⌜ now (buf .exit) ≡ store 4 (store 4 (now (buf .entry)) at a) (at + 4) b ⌝ }
+{
+    store_u32(buf, at, a);
+    store_u32(buf, at + 4, b);
+}
+
+fn put_three(buf: &mut [u8], at: usize, a: u32, b: u32, c: u32)
+    requires { ⌜ at + 12 ≤ length (now buf) ⌝ }
+    ensures { λ _. ⌜ now (buf .exit) ≡ store 4 (store 4 (store 4 (now (buf .entry)) at a) (at + 4) b) (at + 8) c ⌝ }
+{
+    put_two(buf, at, a, b);
+    store_u32(buf, at + 8, c);
+}
+
+fn put_four(buf: &mut [u8], at: usize, a: u32, b: u32, c: u32, d: u32)
+    requires { ⌜ at + 16 ≤ length (now buf) ⌝ }
+    ensures { λ _. ⌜ now (buf .exit) ≡ store 4 (store 4 (store 4 (store 4 (now (buf .entry)) at a) (at + 4) b) (at + 8) c) (at + 12) d ⌝ }
+{
+    put_three(buf, at, a, b, c);
+    store_u32(buf, at + 12, d);
+}
+
 // At most four words of four bytes: a vector or a column. Too short for a loop that is worth its start.
 pub fn write_few(words: &[u32], k: usize, n: usize, buf: &mut [u8], at: usize)
     requires { ⌜ (n ≤ 4) × (k + n ≤ length (now words)) × (at + n * 4 ≤ length (now buf)) ⌝ }
@@ -34,19 +61,22 @@ pub fn write_few(words: &[u32], k: usize, n: usize, buf: &mut [u8], at: usize)
     if n == 0 {
         return;
     }
-    store_u32(buf, at, words[k]);
+    let a = words[k];
     if n == 1 {
+        store_u32(buf, at, a);
         return;
     }
-    store_u32(buf, at + 4, words[k + 1]);
+    let b = words[k + 1];
     if n == 2 {
+        put_two(buf, at, a, b);
         return;
     }
-    store_u32(buf, at + 8, words[k + 2]);
+    let c = words[k + 2];
     if n == 3 {
+        put_three(buf, at, a, b, c);
         return;
     }
-    store_u32(buf, at + 12, words[k + 3]);
+    put_four(buf, at, a, b, c, words[k + 3]);
 }
 
 // Stores `n` words, from word `k` on, in the bytes from `at` on, four each. Every other byte stays.
@@ -143,6 +173,31 @@ pub fn write_parts(words: &[u32], k: usize, p: Parts, buf: &mut [u8], at: usize)
     write_row(words, k, p.count, p.unit, 2, p.stride, buf, at);
 }
 
+// Two, three and four words, one after the other; numbers, as `put_two`.
+fn take_two(words: &mut [u32], k: usize, a: u32, b: u32)
+    requires { ⌜ k + 2 ≤ length (now words) ⌝ }
+    ensures { λ _. ⌜ now (words .exit) ≡ set (set (now (words .entry)) k a) (k + 1) b ⌝ }
+{
+    words[k] = a;
+    words[k + 1] = b;
+}
+
+fn take_three(words: &mut [u32], k: usize, a: u32, b: u32, c: u32)
+    requires { ⌜ k + 3 ≤ length (now words) ⌝ }
+    ensures { λ _. ⌜ now (words .exit) ≡ set (set (set (now (words .entry)) k a) (k + 1) b) (k + 2) c ⌝ }
+{
+    take_two(words, k, a, b);
+    words[k + 2] = c;
+}
+
+fn take_four(words: &mut [u32], k: usize, a: u32, b: u32, c: u32, d: u32)
+    requires { ⌜ k + 4 ≤ length (now words) ⌝ }
+    ensures { λ _. ⌜ now (words .exit) ≡ set (set (set (set (now (words .entry)) k a) (k + 1) b) (k + 2) c) (k + 3) d ⌝ }
+{
+    take_three(words, k, a, b, c);
+    words[k + 3] = d;
+}
+
 // At most four words of four bytes.
 pub fn read_few(buf: &[u8], at: usize, n: usize, words: &mut [u32], k: usize)
     requires { ⌜ (n ≤ 4) × (at + n * 4 ≤ length (now buf)) × (k + n ≤ length (now words)) ⌝ }
@@ -151,19 +206,22 @@ pub fn read_few(buf: &[u8], at: usize, n: usize, words: &mut [u32], k: usize)
     if n == 0 {
         return;
     }
-    words[k] = u32_at(buf, at);
+    let a = u32_at(buf, at);
     if n == 1 {
+        words[k] = a;
         return;
     }
-    words[k + 1] = u32_at(buf, at + 4);
+    let b = u32_at(buf, at + 4);
     if n == 2 {
+        take_two(words, k, a, b);
         return;
     }
-    words[k + 2] = u32_at(buf, at + 8);
+    let c = u32_at(buf, at + 8);
     if n == 3 {
+        take_three(words, k, a, b, c);
         return;
     }
-    words[k + 3] = u32_at(buf, at + 12);
+    take_four(words, k, a, b, c, u32_at(buf, at + 12));
 }
 
 // Puts `n` words of four bytes each, from byte `at` on, into the words from `k` on. Every other word stays.

@@ -1,106 +1,62 @@
--- After each store the words are what the places so far make of them.
+-- By how many there are (`run-one` to `run-four`, proofs/RunPlaces).
 -- Assumes nothing.
-use Prim.Native.Nat.{ℕ, _+_}
-use mathlib.Core.List.{List}
-use mathlib.Core.Path.{_≡_}
+use Prim.Native.Nat.{_+_}
+use mathlib.Core.Path.{_≡_, _∙_}
 use native.Mathlib.Omega.{arith}
-use borrow.Author.Needs.{needs}
 use denote.Ref.{now}
-use lib.ListN.{set, length-set}
+use Rattle.wgsl.specs.Place.{repeated}
 use Rattle.runs.specs.Fold.{overPlaces, loading}
 use Rattle.runs.specs.Run.{runPlaces}
-use Rattle.wgsl.specs.Place.{repeated}
-use Rattle.runs.proofs.RunPlaces.{run-more}
+use Rattle.runs.proofs.RunPlaces.{run-one, run-two, run-three, run-four}
+use borrow.Author.Needs.{needs}
 use Rattle.runs.proofs.read_few.Statement.{statement}
 use Rattle.runs.proofs.read_few.Tie as tie
-
--- what i places make of the words
-abbrev made : tie.Start → ℕ → List ℕ
-made c i = overPlaces (loading (now (c .args .buf))) (runPlaces i 4 (c .args .at)) (c .args .k) (now (c .args .words))
-
--- the words after each store
-abbrev one-words : tie.After-u32-at → List ℕ
-one-words c = set (now (c .before .before .before .before .args .words)) (c .before .before .before .before .args .k) (c .u32-at .result)
-
-one : (c : tie.After-u32-at) → one-words c ≡ made (c .before .before .before .before) 1
-unfolding loading overPlaces runPlaces repeated
-one c = rw (c .u32-at .ensures)
-
-abbrev two-words : tie.After-u32-at2 → List ℕ
-two-words c = set (one-words (c .before .before)) (c .before .before .before .before .before .before .args .k + 1) (c .u32-at2 .result)
-
-two : (c : tie.After-u32-at2) → two-words c ≡ made (c .before .before .before .before .before .before) 2
-unfolding loading
-two c =
-    let a = c .before .before .before .before .before .before .args in
-    rw (c .u32-at2 .ensures)
-    (run-more (loading (now (a .buf))) 1 4 (a .at) (a .k) (now (a .words))
-    (one-words (c .before .before)) (one (c .before .before)))
-
-abbrev three-words : tie.After-u32-at3 → List ℕ
-three-words c = set (two-words (c .before .before)) (c .before .before .before .before .before .before .before .before .args .k + 2) (c .u32-at3 .result)
-
-three : (c : tie.After-u32-at3) → three-words c ≡ made (c .before .before .before .before .before .before .before .before) 3
-unfolding loading
-three c =
-    let a = c .before .before .before .before .before .before .before .before .args in
-    rw (c .u32-at3 .ensures)
-    (run-more (loading (now (a .buf))) 2 4 (a .at) (a .k) (now (a .words))
-    (two-words (c .before .before)) (two (c .before .before)))
-
-abbrev four-words : tie.After-u32-at4 → List ℕ
-four-words c = set (three-words (c .before .before)) (c .before .before .before .before .before .before .before .before .before .before .args .k + 3) (c .u32-at4 .result)
-
-four : (c : tie.After-u32-at4) → four-words c ≡ made (c .before .before .before .before .before .before .before .before .before .before) 4
-unfolding loading
-four c =
-    let a = c .before .before .before .before .before .before .before .before .before .before .args in
-    rw (c .u32-at4 .ensures)
-    (run-more (loading (now (a .buf))) 3 4 (a .at) (a .k) (now (a .words))
-    (three-words (c .before .before)) (three (c .before .before)))
 
 returns : tie.Need-returns
 unfolding overPlaces runPlaces repeated
 returns c = let e : c .before .before .before .args .n ≡ 0 = omega arith in rw e
 
 returns-2 : tie.Need-returns-2
+unfolding loading
 returns-2 c =
     let a = c .before .before .before .before .before .args in
     let e : a .n ≡ 1 = omega arith in
-    rw e (one (c .before))
-
-slice-write-words-2 : tie.Need-slice-write-words-2
-slice-write-words-2 c = simp length-set (omega arith)
+    rw (e, c .before .u32-at .ensures) (run-one (loading (now (a .buf))) (a .at) (a .k) (now (a .words)))
 
 returns-3 : tie.Need-returns-3
+unfolding loading
 returns-3 c =
-    let a = c .before .before .before .before .before .before .before .args in
+    let a = c .before .before .before .before .before .before .before .before .before .before .before .args in
     let e : a .n ≡ 2 = omega arith in
-    rw e (two (c .before))
-
-slice-write-words-3 : tie.Need-slice-write-words-3
-slice-write-words-3 c = simp length-set (omega arith)
+    let second = c .before .before .before .before .before in
+    rw (e, c .before .before .take-two .ensures, second .u32-at2 .ensures, second .before .before .u32-at .ensures)
+    (run-two (loading (now (a .buf))) (a .at) (a .k) (now (a .words)))
 
 returns-4 : tie.Need-returns-4
+unfolding loading
 returns-4 c =
-    let a = c .before .before .before .before .before .before .before .before .before .args in
+    let a = c .before .before .before .before .before .before .before .before .before .before .before .before .before .args in
     let e : a .n ≡ 3 = omega arith in
-    rw e (three (c .before))
-
-slice-write-words-4 : tie.Need-slice-write-words-4
-slice-write-words-4 c = simp length-set (omega arith)
+    let third = c .before .before .before .before .before in
+    let second = third .before .before in
+    rw (e, c .before .before .take-three .ensures, third .u32-at3 .ensures, second .u32-at2 .ensures, second .before .before .u32-at .ensures)
+    (run-three (loading (now (a .buf))) (a .at) (a .k) (now (a .words)))
 
 returns-5 : tie.Need-returns-5
+unfolding loading
 returns-5 c =
-    let a = c .before .before .before .before .before .before .before .before .before .before .args in
+    let a = c .before .before .before .before .before .before .before .before .before .before .before .before .before .before .args in
     let e : a .n ≡ 4 = omega arith in
-    rw e (four (c))
+    let fourth = c .before .before .before in
+    let third = fourth .before .before .before in
+    let second = third .before .before in
+    rw (e, c .before .before .take-four .ensures, fourth .u32-at4 .ensures, third .u32-at3 .ensures, second .u32-at2 .ensures, second .before .before .u32-at .ensures)
+    (run-four (loading (now (a .buf))) (a .at) (a .k) (now (a .words)))
 
 pub read-few-spec : {M : Type 1} → statement M
 read-few-spec =
     tie.close (tie.spec
-    returns (λ c κs. search needs) (λ c. search needs) (λ c. search needs) (λ c. search needs) returns-2 (λ c. search
-    needs) (λ c κs. search needs) (λ c. search needs) (λ c. search needs) slice-write-words-2 (λ c. search needs)
-    returns-3 (λ c. search needs) (λ c κs. search needs) (λ c. search needs) (λ c. search needs) slice-write-words-3 (λ
-    c. search needs) returns-4 (λ c. search needs) (λ c κs. search needs) (λ c. search needs) (λ c. search needs)
-    slice-write-words-4 (λ c. search needs) returns-5)
+    returns (λ c κs. search needs) (λ c. search needs) (λ c. search needs) (λ c. search needs) returns-2
+    (λ c. search needs) (λ c κs. search needs) (λ c κs. search needs) (λ c. search needs) returns-3
+    (λ c. search needs) (λ c κs. search needs) (λ c κs. search needs) (λ c. search needs) returns-4
+    (λ c. search needs) (λ c κs. search needs) (λ c κs. search needs) (λ c. search needs) returns-5)

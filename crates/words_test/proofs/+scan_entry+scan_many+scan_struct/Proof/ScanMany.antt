@@ -114,8 +114,7 @@ module _ (t : ℕ) where
   pub scan-many-returns-3 : scan-many-lts.Need-returns-3 (scan-many-calls t) (scan-many-at t) scan-many.Post scan-many-Inv-loop scan-many-μ-loop
   scan-many-returns-3 c =
       let call = c .before .before .before in
-      let in-loop = call .before .before in
-      (
+      let in-loop = call .before .before in (
         turns-bad (each (in-loop .before .before .before .before)) (in-loop .before .loop .inv .0) (in-loop .loop-test .taken) (rw (c .before .p .given .1) at (call .scan-entry .ensures .0)),
         call .scan-entry .ensures .1,
       )
