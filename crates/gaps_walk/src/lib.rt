@@ -26,6 +26,7 @@ ghost use Rattle.wgsl.specs.Types.{structKind};
 ghost use Rattle.layout_values.specs.Value.{valueAt};
 ghost use Rattle.walk_trees.specs.Tree.{Many, Tree, Room};
 ghost use Rattle.gaps_sweep.specs.Sweep.{sweptOf, Sweeps, Countable};
+ghost use Rattle.walk_pieces.specs.Piece.{Listed};
 
 // Sweeps the gaps before the words of entry `e`, which begins at byte `at`. What has none is passed at once.
 pub fn sweep_entry(
@@ -37,9 +38,9 @@ pub fn sweep_entry(
     s: Sweep,
     pieces: &mut Pieces,
 ) -> Sweep
-    requires { ⌜ ((x : Shape) × (k : ℕ) × (words : ℕ) × Tree (now members) (now table) e x × Room x at (length (now buf)) k words) × Countable (sweptOf (now buf) s) × (length (now pieces) ≡ 96) ⌝ }
+    requires { ⌜ ((x : Shape) × (k : ℕ) × (words : ℕ) × Tree (now members) (now table) e x × Room x at (length (now buf)) k words) × Countable (sweptOf (now buf) s) × Listed (now pieces) ⌝ }
     ensures swept { λ r. ⌜ ((x : Shape) → Tree (now (members .entry)) (now (table .entry)) e x → Sweeps (placesOf x at) (sweptOf (now (buf .entry)) s) (sweptOf (now (buf .exit)) r)) ⌝ }
-    ensures long { λ _. ⌜ length (now (pieces .exit)) ≡ 96 ⌝ }
+    ensures long { λ _. ⌜ Listed (now (pieces .exit)) ⌝ }
 {
     let l = value_at(table, e);
     if packed(l) == 4 {
@@ -61,9 +62,9 @@ pub fn sweep_many(
     s: Sweep,
     pieces: &mut Pieces,
 ) -> Sweep
-    requires { ⌜ ((x : Shape) × (k : ℕ) × (words : ℕ) × Many (now members) (now table) l x × Room x at (length (now buf)) k words) × Countable (sweptOf (now buf) s) × (length (now pieces) ≡ 96) ⌝ }
+    requires { ⌜ ((x : Shape) × (k : ℕ) × (words : ℕ) × Many (now members) (now table) l x × Room x at (length (now buf)) k words) × Countable (sweptOf (now buf) s) × Listed (now pieces) ⌝ }
     ensures swept { λ r. ⌜ ((x : Shape) → Many (now (members .entry)) (now (table .entry)) l x → Sweeps (placesOf x at) (sweptOf (now (buf .entry)) s) (sweptOf (now (buf .exit)) r)) ⌝ }
-    ensures long { λ _. ⌜ length (now (pieces .exit)) ≡ 96 ⌝ }
+    ensures long { λ _. ⌜ Listed (now (pieces .exit)) ⌝ }
 {
     let p: Parts = parts_of(table, l);
     if p.width != 0 {
@@ -102,9 +103,9 @@ fn sweep_struct(
     s: Sweep,
     pieces: &mut Pieces,
 ) -> Sweep
-    requires { ⌜ ((x : Shape) × (k : ℕ) × (words : ℕ) × Tree (now members) (now table) e x × (l ≡ valueAt (now table) e) × (l .kind ≡ structKind) × Room x at (length (now buf)) k words) × Countable (sweptOf (now buf) s) × (length (now pieces) ≡ 96) ⌝ }
+    requires { ⌜ ((x : Shape) × (k : ℕ) × (words : ℕ) × Tree (now members) (now table) e x × (l ≡ valueAt (now table) e) × (l .kind ≡ structKind) × Room x at (length (now buf)) k words) × Countable (sweptOf (now buf) s) × Listed (now pieces) ⌝ }
     ensures swept { λ r. ⌜ ((x : Shape) → Tree (now (members .entry)) (now (table .entry)) e x → Sweeps (placesOf x at) (sweptOf (now (buf .entry)) s) (sweptOf (now (buf .exit)) r)) ⌝ }
-    ensures long { λ _. ⌜ length (now (pieces .exit)) ≡ 96 ⌝ }
+    ensures long { λ _. ⌜ Listed (now (pieces .exit)) ⌝ }
 {
     let length = wide(l.stride);
     let mut m = wide(l.reference) * length;

@@ -43,6 +43,9 @@ piecesPlaces (suc c) l at = piecesPlaces c l at ++ piecePlaces l c at
 abbrev pub mostPieces : ℕ
 mostPieces = 32
 
+abbrev pub Listed : List ℕ → Type 0
+Listed l = length l ≡ 3 * mostPieces
+
 -- ---- where they lie
 
 -- the first c pieces have words of two bytes or of four, and end at `end` or before
@@ -69,13 +72,13 @@ Gathered c l ps most r m = r ≤ mostPieces → Added c l ps most r m
 
 -- the list has room for all pieces; there are not too many yet, and the numbers of one that ends at `end` or before fit
 pub record Asks (c : ℕ) (l : List ℕ) (end : ℕ) : Type 0 where
-  pub long : length l ≡ 3 * mostPieces
+  pub long : Listed l
   pub few : c ≤ mostPieces
   pub inside : Inside c l limit
   pub low : end ≤ limit
 
--- what adding a run, parts that are runs, and a shape asks
-pub record RunAsks (c : ℕ) (l : List ℕ) (at n width : ℕ) : Type 0 where
+-- what adding the words of a run, parts that are runs, and a shape asks
+pub record WordsAsk (c : ℕ) (l : List ℕ) (at n width : ℕ) : Type 0 where
   pub width-is : (width ≡ 2) ⊎ (width ≡ 4)
   pub asks : Asks c l (at + n * width)
 

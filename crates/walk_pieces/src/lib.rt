@@ -18,7 +18,7 @@ ghost use Rattle.wgsl.specs.Types.{structKind};
 ghost use Rattle.runs.specs.Run.{runPlaces, partPlaces};
 ghost use Rattle.layout_values.specs.Value.{valueAt};
 ghost use Rattle.walk_trees.specs.Tree.{Many, Tree};
-ghost use Rattle.walk_pieces.specs.Piece.{pieceOf, mostPieces, Asks, Touching, Gathered, Pieced, RunAsks, PartsAsk, PiecesAsk};
+ghost use Rattle.walk_pieces.specs.Piece.{pieceOf, mostPieces, Asks, Touching, Gathered, Pieced, WordsAsk, PartsAsk, PiecesAsk, Listed};
 
 // So many pieces at most.
 pub const MOST: usize = 32;
@@ -70,7 +70,7 @@ fn touches(pieces: &[u32], k: usize, at: usize, width: u32) -> bool
 // Adds a run of `n` words of `width` bytes each, from byte `at` on, to `k` pieces; answers how many there are then, more than `MOST` where
 // it was one too many.
 fn add_run(pieces: &mut [u32], k: usize, at: usize, n: usize, width: u32) -> usize
-    requires { ⌜ RunAsks k (now pieces) at n width ⌝ }
+    requires { ⌜ WordsAsk k (now pieces) at n width ⌝ }
     ensures { λ r. ⌜ Gathered k (now (pieces .entry)) (λ q. runPlaces n width (q + at)) (at + n * width) r (now (pieces .exit)) ⌝ }
 {
     if touches(pieces, k, at, width) {
@@ -199,9 +199,9 @@ pub fn pieces_of(
     elements: usize,
     pieces: &mut Pieces,
 ) -> usize
-    requires { ⌜ ((x : Shape) × Tree (now members) (now table) e x × (spanOf x ≤ limit)) × (length (now pieces) ≡ 96) ⌝ }
+    requires { ⌜ ((x : Shape) × Tree (now members) (now table) e x × (spanOf x ≤ limit)) × Listed (now pieces) ⌝ }
     ensures found { λ r. ⌜ (r ≤ mostPieces → (x : Shape) → Tree (now (members .entry)) (now (table .entry)) e x → Pieced x r (now (pieces .exit))) ⌝ }
-    ensures long { λ _. ⌜ length (now (pieces .exit)) ≡ 96 ⌝ }
+    ensures long { λ _. ⌜ Listed (now (pieces .exit)) ⌝ }
 {
     if elements < 4 {
         return MOST + 1;

@@ -46,6 +46,7 @@ ghost use Rattle.walk_trees.specs.Slot.{runAt, RunAsks};
 ghost use Rattle.walk_decide.specs.Whole.{Ready, Tailed, TailedBy, Whole};
 ghost use Rattle.walk_decide.specs.Meant.{Meant};
 ghost use Rattle.words.specs.Promise.{Tested, WholeStored, WholeWritten, ClosedWritten, ElementsWritten, OpenWritten, MeantWritten};
+ghost use Rattle.walk_pieces.specs.Piece.{Listed};
 
 // "zero where no scalar lies": the first `n` bytes.
 fn zero(buf: &mut [u8], n: usize)
@@ -68,9 +69,9 @@ fn scan(
     words: &[u32],
     pieces: &mut Pieces,
 ) -> Scan
-    requires { ⌜ ((t : Ty) × (n : ℕ) × Whole (now members) (now table) e x t n × (length (now words) ≡ wordCount n t)) × (length (now pieces) ≡ 96) ⌝ }
+    requires { ⌜ ((t : Ty) × (n : ℕ) × Whole (now members) (now table) e x t n × (length (now words) ≡ wordCount n t)) × Listed (now pieces) ⌝ }
     ensures said { λ r. ⌜ Tested (now (members .entry)) (now (table .entry)) e x (now (words .entry)) (saidScan r) ⌝ }
-    ensures long { λ _. ⌜ length (now (pieces .exit)) ≡ 96 ⌝ }
+    ensures long { λ _. ⌜ Listed (now (pieces .exit)) ⌝ }
 {
     match scan_entry(members, table, e, words, 0, pieces) {
         Scan::Bad(k) => Scan::Bad(k),
@@ -89,7 +90,7 @@ fn store(
     buf: &mut [u8],
     pieces: &mut Pieces,
 )
-    requires { ⌜ ((t : Ty) × (n : ℕ) × Whole (now members) (now table) e x t n × (length (now words) ≡ wordCount n t) × (extent ≡ extentOf n t) × (extent ≤ length (now buf))) × (length (now pieces) ≡ 96) ⌝ }
+    requires { ⌜ ((t : Ty) × (n : ℕ) × Whole (now members) (now table) e x t n × (length (now words) ≡ wordCount n t) × (extent ≡ extentOf n t) × (extent ≤ length (now buf))) × Listed (now pieces) ⌝ }
     ensures { λ _. ⌜ WholeStored (now (members .entry)) (now (table .entry)) e x extent (now (words .entry)) (now (buf .entry)) (now (buf .exit)) ⌝ }
 {
     let width = run_at(table, e);

@@ -25,6 +25,7 @@ ghost use Rattle.runs.specs.Fold.{Loads};
 ghost use Rattle.layout_values.specs.Value.{valueAt};
 ghost use Rattle.walk_trees.specs.Slot.{slotAt};
 ghost use Rattle.walk_trees.specs.Tree.{Many, Tree, Room, MemberRoom, OfMember};
+ghost use Rattle.walk_pieces.specs.Piece.{Listed};
 
 // Reads entry `e`, which begins at byte `at`, into the words from `k` on.
 pub fn read_entry(
@@ -37,9 +38,9 @@ pub fn read_entry(
     words: &mut [u32],
     pieces: &mut Pieces,
 )
-    requires { ⌜ ((x : Shape) × Tree (now members) (now table) e x × Room x at (length (now buf)) k (length (now words))) × (length (now pieces) ≡ 96) ⌝ }
+    requires { ⌜ ((x : Shape) × Tree (now members) (now table) e x × Room x at (length (now buf)) k (length (now words))) × Listed (now pieces) ⌝ }
     ensures filled { λ _. ⌜ ((x : Shape) → Tree (now (members .entry)) (now (table .entry)) e x → Loads (now (buf .entry)) (placesOf x at) k (now (words .entry)) (now (words .exit))) ⌝ }
-    ensures long { λ _. ⌜ length (now (pieces .exit)) ≡ 96 ⌝ }
+    ensures long { λ _. ⌜ Listed (now (pieces .exit)) ⌝ }
 {
     let r = value_at(table, e);
     if r.kind == STRUCT {
@@ -60,9 +61,9 @@ pub fn read_many(
     words: &mut [u32],
     pieces: &mut Pieces,
 )
-    requires { ⌜ ((x : Shape) × Many (now members) (now table) r x × Room x at (length (now buf)) k (length (now words))) × (length (now pieces) ≡ 96) ⌝ }
+    requires { ⌜ ((x : Shape) × Many (now members) (now table) r x × Room x at (length (now buf)) k (length (now words))) × Listed (now pieces) ⌝ }
     ensures filled { λ _. ⌜ ((x : Shape) → Many (now (members .entry)) (now (table .entry)) r x → Loads (now (buf .entry)) (placesOf x at) k (now (words .entry)) (now (words .exit))) ⌝ }
-    ensures long { λ _. ⌜ length (now (pieces .exit)) ≡ 96 ⌝ }
+    ensures long { λ _. ⌜ Listed (now (pieces .exit)) ⌝ }
 {
     // the tail of what is not open
     if r.count == 0 {
@@ -115,9 +116,9 @@ fn read_struct(
     words: &mut [u32],
     pieces: &mut Pieces,
 )
-    requires { ⌜ ((x : Shape) × Tree (now members) (now table) e x × (r ≡ valueAt (now table) e) × (r .kind ≡ structKind) × Room x at (length (now buf)) k (length (now words))) × (length (now pieces) ≡ 96) ⌝ }
+    requires { ⌜ ((x : Shape) × Tree (now members) (now table) e x × (r ≡ valueAt (now table) e) × (r .kind ≡ structKind) × Room x at (length (now buf)) k (length (now words))) × Listed (now pieces) ⌝ }
     ensures filled { λ _. ⌜ ((x : Shape) → Tree (now (members .entry)) (now (table .entry)) e x → Loads (now (buf .entry)) (placesOf x at) k (now (words .entry)) (now (words .exit))) ⌝ }
-    ensures long { λ _. ⌜ length (now (pieces .exit)) ≡ 96 ⌝ }
+    ensures long { λ _. ⌜ Listed (now (pieces .exit)) ⌝ }
 {
     let length = wide(r.stride);
     let mut m = wide(r.reference) * length;
@@ -145,10 +146,10 @@ fn read_member(
     words: &mut [u32],
     pieces: &mut Pieces,
 ) -> Slot
-    requires { ⌜ ((y : Shape) × MemberRoom (now members) (now table) m end y at (length (now buf)) k (length (now words))) × (length (now pieces) ≡ 96) ⌝ }
+    requires { ⌜ ((y : Shape) × MemberRoom (now members) (now table) m end y at (length (now buf)) k (length (now words))) × Listed (now pieces) ⌝ }
     ensures placed { λ r. ⌜ r ≡ slotAt (now (members .entry)) (now (table .entry)) m end ⌝ }
     ensures filled { λ _. ⌜ OfMember (now (members .entry)) (now (table .entry)) m end at (λ ps. Loads (now (buf .entry)) ps k (now (words .entry)) (now (words .exit))) ⌝ }
-    ensures long { λ _. ⌜ length (now (pieces .exit)) ≡ 96 ⌝ }
+    ensures long { λ _. ⌜ Listed (now (pieces .exit)) ⌝ }
 {
     let p = slot_after(members, table, m, end);
     let r = value_at(table, p.ty);

@@ -25,6 +25,7 @@ ghost use Rattle.runs.specs.Fold.{Tests};
 ghost use Rattle.runs.specs.Ask.{saidScan};
 ghost use Rattle.layout_values.specs.Value.{valueAt};
 ghost use Rattle.walk_trees.specs.Tree.{Many, Tree, EachRoom, WordRoom};
+ghost use Rattle.walk_pieces.specs.Piece.{Listed};
 
 // Tests the words of entry `e`, from word `k` on. Only what holds an f16 is looked at.
 pub fn scan_entry(
@@ -35,9 +36,9 @@ pub fn scan_entry(
     k: usize,
     pieces: &mut Pieces,
 ) -> Scan
-    requires { ⌜ ((x : Shape) × Tree (now members) (now table) e x × WordRoom x k (length (now words))) × (length (now pieces) ≡ 96) ⌝ }
+    requires { ⌜ ((x : Shape) × Tree (now members) (now table) e x × WordRoom x k (length (now words))) × Listed (now pieces) ⌝ }
     ensures said { λ r. ⌜ ((x : Shape) → Tree (now (members .entry)) (now (table .entry)) e x → Tests (now (words .entry)) (placesOf x 0) k (saidScan r)) ⌝ }
-    ensures long { λ _. ⌜ length (now (pieces .exit)) ≡ 96 ⌝ }
+    ensures long { λ _. ⌜ Listed (now (pieces .exit)) ⌝ }
 {
     let r = value_at(table, e);
     if r.narrow != 2 {
@@ -60,9 +61,9 @@ fn fit_at_once(
     k: usize,
     pieces: &mut Pieces,
 ) -> usize
-    requires { ⌜ ((y : Shape) × (stride : ℕ) × (bytes : ℕ) × Tree (now members) (now table) e y × (spanOf y ≤ limit) × EachRoom y count unit stride 0 bytes k (length (now words))) × (length (now pieces) ≡ 96) ⌝ }
+    requires { ⌜ ((y : Shape) × (stride : ℕ) × (bytes : ℕ) × Tree (now members) (now table) e y × (spanOf y ≤ limit) × EachRoom y count unit stride 0 bytes k (length (now words))) × Listed (now pieces) ⌝ }
     ensures fitting { λ r. ⌜ (r ≤ count) × ((y : Shape) → Tree (now (members .entry)) (now (table .entry)) e y → (stride : ℕ) → Tests (now (words .entry)) (placesOf (parts r stride y) 0) k (good tt)) ⌝ }
-    ensures long { λ _. ⌜ length (now (pieces .exit)) ≡ 96 ⌝ }
+    ensures long { λ _. ⌜ Listed (now (pieces .exit)) ⌝ }
 {
     let few = pieces_of(members, table, e, count, pieces);
     if few <= MOST {
@@ -80,9 +81,9 @@ pub fn scan_many(
     k: usize,
     pieces: &mut Pieces,
 ) -> Scan
-    requires { ⌜ ((x : Shape) × Many (now members) (now table) r x × WordRoom x k (length (now words))) × (length (now pieces) ≡ 96) ⌝ }
+    requires { ⌜ ((x : Shape) × Many (now members) (now table) r x × WordRoom x k (length (now words))) × Listed (now pieces) ⌝ }
     ensures said { λ s. ⌜ ((x : Shape) → Many (now (members .entry)) (now (table .entry)) r x → Tests (now (words .entry)) (placesOf x 0) k (saidScan s)) ⌝ }
-    ensures long { λ _. ⌜ length (now (pieces .exit)) ≡ 96 ⌝ }
+    ensures long { λ _. ⌜ Listed (now (pieces .exit)) ⌝ }
 {
     if r.narrow != 2 {
         return Scan::Fine;
@@ -117,9 +118,9 @@ fn scan_struct(
     k: usize,
     pieces: &mut Pieces,
 ) -> Scan
-    requires { ⌜ ((x : Shape) × Tree (now members) (now table) e x × (r ≡ valueAt (now table) e) × (r .kind ≡ structKind) × WordRoom x k (length (now words))) × (length (now pieces) ≡ 96) ⌝ }
+    requires { ⌜ ((x : Shape) × Tree (now members) (now table) e x × (r ≡ valueAt (now table) e) × (r .kind ≡ structKind) × WordRoom x k (length (now words))) × Listed (now pieces) ⌝ }
     ensures said { λ r. ⌜ ((x : Shape) → Tree (now (members .entry)) (now (table .entry)) e x → Tests (now (words .entry)) (placesOf x 0) k (saidScan r)) ⌝ }
-    ensures long { λ _. ⌜ length (now (pieces .exit)) ≡ 96 ⌝ }
+    ensures long { λ _. ⌜ Listed (now (pieces .exit)) ⌝ }
 {
     let length = wide(r.stride);
     let mut m = wide(r.reference) * length;

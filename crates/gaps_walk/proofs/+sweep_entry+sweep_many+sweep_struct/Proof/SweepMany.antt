@@ -11,7 +11,7 @@ use Rattle.walk_trees.specs.Tree.{Many, Tree, RunsOf, Room}
 use Rattle.walk_trees.proofs.Many.{many-each}
 use Rattle.walk_trees.proofs.Room.{each-entry, each-room, Each}
 use Rattle.walk_trees.proofs.Rows.{runs-room}
-use Rattle.walk_pieces.specs.Piece.{Pieced}
+use Rattle.walk_pieces.specs.Piece.{Pieced, Listed}
 use Rattle.walk_pieces.proofs.Pass.{pieced-each, pieced-parts}
 use Rattle.gaps_sweep.specs.Sweep.{sweptOf}
 use Rattle.gaps_walk.proofs.SweepSteps.{PartsSwept, parts-start, part-ready, parts-next, parts-none}
@@ -27,7 +27,7 @@ use Rattle.gaps_walk.proofs.+sweep_entry+sweep_many+sweep_struct.Proof.
 
 abbrev pub sweep-many-Inv-loop : sweep-many-lts.InvT-loop
 sweep-many-Inv-loop members table at buf₀ pieces₀ count unit stride element few r₀ i₀ buf pieces r i =
-    PartsSwept members table element count unit stride at (sweptOf buf₀ r₀) i (sweptOf buf r) × (length pieces ≡ 96)
+    PartsSwept members table element count unit stride at (sweptOf buf₀ r₀) i (sweptOf buf r) × Listed pieces
 
 abbrev pub sweep-many-μ-loop : sweep-many-lts.MeasureT-loop
 sweep-many-μ-loop members table at buf₀ pieces₀ count unit stride element few r₀ i₀ buf pieces r i = count - i

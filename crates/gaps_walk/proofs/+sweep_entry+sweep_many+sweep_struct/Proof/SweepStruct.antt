@@ -15,10 +15,11 @@ use Rattle.gaps_walk.proofs.+sweep_entry+sweep_many+sweep_struct.Lts-sw
 use Rattle.numbers.proofs.wide.wide.Reads as wide-reads
 use Rattle.walk_trees.proofs.slot_after.Reads as slot-after-reads
 use Rattle.gaps_walk.proofs.+sweep_entry+sweep_many+sweep_struct.Proof.Cycle.{sweep-entry-below, sweep-struct-at}
+use Rattle.walk_pieces.specs.Piece.{Listed}
 
 abbrev pub sweep-struct-Inv-loop : sweep-struct-lts.InvT-loop
 sweep-struct-Inv-loop members table e at buf₀ pieces₀ step m₀ left₀ end₀ r₀ buf pieces m left end r =
-    MembersSwept members table e at (sweptOf buf₀ r₀) left m end (sweptOf buf r) × (length pieces ≡ 96)
+    MembersSwept members table e at (sweptOf buf₀ r₀) left m end (sweptOf buf r) × Listed pieces
 
 abbrev pub sweep-struct-μ-loop : sweep-struct-lts.MeasureT-loop
 sweep-struct-μ-loop members table e at buf₀ pieces₀ step m₀ left₀ end₀ r₀ buf pieces m left end r = left

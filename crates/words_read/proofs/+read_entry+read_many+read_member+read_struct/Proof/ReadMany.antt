@@ -22,10 +22,11 @@ use Rattle.walk_pieces.proofs.pieces_of.Reads as pieces-of-reads
 use Rattle.walk_trees.proofs.parts_of.Reads as parts-of-reads
 use Rattle.words_pieces.proofs.reading.read_each.Reads as read-each-reads
 use Rattle.words_read.proofs.+read_entry+read_many+read_member+read_struct.Proof.Cycle.{read-entry-below, read-many-at}
+use Rattle.walk_pieces.specs.Piece.{Listed}
 
 abbrev pub read-many-Inv-loop : read-many-lts.InvT-loop
 read-many-Inv-loop members table at buf k words₀ pieces₀ count unit stride element few i₀ words pieces i =
-    Turn (loading buf) members table element count unit stride at k words₀ i words × (length words ≡ length words₀) × (length pieces ≡ 96)
+    Turn (loading buf) members table element count unit stride at k words₀ i words × (length words ≡ length words₀) × Listed pieces
 
 abbrev pub read-many-μ-loop : read-many-lts.MeasureT-loop
 read-many-μ-loop members table at buf k words₀ pieces₀ count unit stride element few i₀ words pieces i = count - i

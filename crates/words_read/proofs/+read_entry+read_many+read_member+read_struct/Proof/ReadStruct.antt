@@ -12,10 +12,11 @@ use Rattle.words_read.proofs.read_struct.Reads as read-struct
 use Rattle.words_read.proofs.+read_entry+read_many+read_member+read_struct.Lts-read_struct as read-struct-lts
 use Rattle.numbers.proofs.wide.wide.Reads as wide-reads
 use Rattle.words_read.proofs.+read_entry+read_many+read_member+read_struct.Proof.Cycle.{read-member-below, read-struct-at}
+use Rattle.walk_pieces.specs.Piece.{Listed}
 
 abbrev pub read-struct-Inv-loop : read-struct-lts.InvT-loop
 read-struct-Inv-loop members table e at buf k words₀ pieces₀ step m₀ left₀ end₀ next₀ words pieces m left end next =
-    Walk (loading buf) members table e at (length buf) k (length words₀) words₀ left m end next words × (length words ≡ length words₀) × (length pieces ≡ 96)
+    Walk (loading buf) members table e at (length buf) k (length words₀) words₀ left m end next words × (length words ≡ length words₀) × Listed pieces
 
 abbrev pub read-struct-μ-loop : read-struct-lts.MeasureT-loop
 read-struct-μ-loop members table e at buf k words₀ pieces₀ step m₀ left₀ end₀ next₀ words pieces m left end next = left

@@ -17,10 +17,11 @@ use Rattle.runs.proofs.scan_run.Reads as scan-run-reads
 use Rattle.walk_trees.proofs.parts_of.Reads as parts-of-reads
 use Rattle.words_test.proofs.fit_at_once.Reads as fit-at-once-reads
 use Rattle.words_test.proofs.+scan_entry+scan_many+scan_struct.Proof.Cycle.{scan-entry-below, scan-many-at}
+use Rattle.walk_pieces.specs.Piece.{Listed}
 
 abbrev pub scan-many-Inv-loop : scan-many-lts.InvT-loop
 scan-many-Inv-loop members table words k pieces₀ count unit element i₀ pieces i =
-    Turns members table words element count unit k i × (i ≤ count) × (length pieces ≡ 96)
+    Turns members table words element count unit k i × (i ≤ count) × Listed pieces
 
 abbrev pub scan-many-μ-loop : scan-many-lts.MeasureT-loop
 scan-many-μ-loop members table words k pieces₀ count unit element i₀ pieces i = count - i

@@ -23,10 +23,11 @@ use Rattle.layout_values.proofs.value.value_at.Reads as value-at-reads
 use Rattle.layout_values.proofs.value.words_of.Reads as words-of-reads
 use Rattle.numbers.proofs.wide.wide.Reads as wide-reads
 use Rattle.words_test.proofs.+scan_entry+scan_many+scan_struct.Proof.Cycle.{scan-entry-below, scan-struct-at}
+use Rattle.walk_pieces.specs.Piece.{Listed}
 
 abbrev pub scan-struct-Inv-loop : scan-struct-lts.InvT-loop
 scan-struct-Inv-loop members table e words k pieces₀ step m₀ left₀ next₀ pieces m left next =
-    Scanned members table words e k left m next × (length pieces ≡ 96)
+    Scanned members table words e k left m next × Listed pieces
 
 abbrev pub scan-struct-μ-loop : scan-struct-lts.MeasureT-loop
 scan-struct-μ-loop members table e words k pieces₀ step m₀ left₀ next₀ pieces m left next = left
@@ -110,7 +111,7 @@ module _ (t : ℕ) where
       let after-wide4 = c .before .before .before in
       let in-loop = after-wide4 .before .before in
       let start = in-loop .before .before .before .before .before .before .before in
-      Says (now (start .args .words)) (in-loop .before .loop .next) (λ x. Tree (now (start .args .members)) (now (start .args .table)) (after-wide4 .wide4 .result) x) Fine × (length (c .if1 .pieces) ≡ 96)
+      Says (now (start .args .words)) (in-loop .before .loop .next) (λ x. Tree (now (start .args .members)) (now (start .args .table)) (after-wide4 .wide4 .result) x) Fine × Listed (c .if1 .pieces)
   passed c =
       let after-value-at = c .before .before in
       let in-loop = after-value-at .before .before .before in

@@ -22,10 +22,11 @@ use Rattle.walk_pieces.proofs.pieces_of.Reads as pieces-of-reads
 use Rattle.walk_trees.proofs.parts_of.Reads as parts-of-reads
 use Rattle.words_pieces.proofs.writing.write_each.Reads as write-each-reads
 use Rattle.words_write.proofs.+write_entry+write_many+write_member+write_struct.Proof.Cycle.{write-entry-below, write-many-at}
+use Rattle.walk_pieces.specs.Piece.{Listed}
 
 abbrev pub write-many-Inv-loop : write-many-lts.InvT-loop
 write-many-Inv-loop members table at words k buf₀ pieces₀ count unit stride element few i₀ buf pieces i =
-    Turn (storing words) members table element count unit stride at k buf₀ i buf × (length buf ≡ length buf₀) × (length pieces ≡ 96)
+    Turn (storing words) members table element count unit stride at k buf₀ i buf × (length buf ≡ length buf₀) × Listed pieces
 
 abbrev pub write-many-μ-loop : write-many-lts.MeasureT-loop
 write-many-μ-loop members table at words k buf₀ pieces₀ count unit stride element few i₀ buf pieces i = count - i

@@ -12,10 +12,11 @@ use Rattle.words_write.proofs.write_struct.Reads as write-struct
 use Rattle.words_write.proofs.+write_entry+write_many+write_member+write_struct.Lts-write_struct as write-struct-lts
 use Rattle.numbers.proofs.wide.wide.Reads as wide-reads
 use Rattle.words_write.proofs.+write_entry+write_many+write_member+write_struct.Proof.Cycle.{write-member-below, write-struct-at}
+use Rattle.walk_pieces.specs.Piece.{Listed}
 
 abbrev pub write-struct-Inv-loop : write-struct-lts.InvT-loop
 write-struct-Inv-loop members table e at words k buf₀ pieces₀ step m₀ left₀ end₀ next₀ buf pieces m left end next =
-    Walk (storing words) members table e at (length buf₀) k (length words) buf₀ left m end next buf × (length buf ≡ length buf₀) × (length pieces ≡ 96)
+    Walk (storing words) members table e at (length buf₀) k (length words) buf₀ left m end next buf × (length buf ≡ length buf₀) × Listed pieces
 
 abbrev pub write-struct-μ-loop : write-struct-lts.MeasureT-loop
 write-struct-μ-loop members table e at words k buf₀ pieces₀ step m₀ left₀ end₀ next₀ buf pieces m left end next = left
