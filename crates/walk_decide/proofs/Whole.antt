@@ -66,7 +66,7 @@ module _ {ms : List ℕ} {table : List (List ℕ)} {e : ℕ} {l : Value} {t : Ty
   nothing-runs : Runs table (closedRest l .value) (whole 0)
   unfolding closedRest partWidth spanOf placesOf partPlaces repeated shapeWords
   nothing-runs =
-      record { referring = record { inside = λ h g. absurd (omega arith); counted = λ h g. absurd (omega arith) }; narrow-is = refl; width = inr refl; fits = omega arith; places-are = λ at. refl; span-is = refl; words-are = refl }
+      record { referring = record { inside = λ h g. absurd (omega arith); counted = λ h g. absurd (omega arith) }; narrow-is = refl; runs-are = record { width = inr refl; fits = omega arith; places-are = λ at. refl; span-is = refl; words-are = refl } }
 
   pub closed-whole : Whole ms table e (closedRest l) t 0
   unfolding closedRest spanOf placesOf

@@ -118,11 +118,13 @@ module _ {f : List ℕ} {ts : List Ty} {ms : List ℕ} {table : List (List ℕ)}
       record {
         referring = s .referring;
         narrow-is = s .width-is ∙ part-narrow t h ∙ sym (s .narrow-is);
-        width = rw (s .narrow-is) (narrow-width t (k .plain));
-        fits = rw (s .unit-is, s .narrow-is, s .stride-is) (parts-fit t k h);
-        places-are = λ at. rw (s .count-is, s .unit-is, s .narrow-is, s .stride-is) (parts-places n t k h at);
-        span-is = rw (s .count-is, s .stride-is) (parts-span n t h);
-        words-are = rw (s .count-is, s .unit-is) (parts-words n t k h);
+        runs-are = record {
+          width = rw (s .narrow-is) (narrow-width t (k .plain));
+          fits = rw (s .unit-is, s .narrow-is, s .stride-is) (parts-fit t k h);
+          places-are = λ at. rw (s .count-is, s .unit-is, s .narrow-is, s .stride-is) (parts-places n t k h at);
+          span-is = rw (s .count-is, s .stride-is) (parts-span n t h);
+          words-are = rw (s .count-is, s .unit-is) (parts-words n t k h);
+        };
       }
 
   zero-or-more : (n : ℕ) → (n ≡ 0) ⊎ (0 < n)

@@ -52,7 +52,7 @@ many-each (each {y = y} E t) h = record { part = y; is = refl; elements = E; tre
 -- no parts have no places
 pub many-none : {ms : List ℕ} {table : List (List ℕ)} {r : Value} {x : Shape} → Many ms table r x → r .count ≡ 0 → (at : ℕ) → placesOf x at ≡ []
 unfolding placesOf partPlaces repeated
-many-none (runs R) none at = R .places-are at ∙ rw none refl
+many-none (runs R) none at = R .runs-are .places-are at ∙ rw none refl
 many-none (each E t) none at = rw none refl
 
 -- ---- how deep a walk goes

@@ -16,15 +16,7 @@ use Rattle.walk_trees.specs.Tree.{Runs, RunsOf, Room}
 use Rattle.walk_trees.proofs.TreeOne.{repeated-alike}
 
 pub own-runs : {table : List (List ℕ)} {l : Value} {x : Shape} {p : Parts} → Runs table l x → p ≡ record { count = l .count; unit = l .unit; width = partWidth table l; stride = l .stride } → RunsOf p x
-own-runs R is =
-    rw (is, R .narrow-is)
-    (record {
-      width = R .width;
-      fits = R .fits;
-      places-are = R .places-are;
-      span-is = R .span-is;
-      words-are = R .words-are;
-    })
+own-runs R is = rw (is, R .narrow-is) (R .runs-are)
 
 -- n elements whose parts, by their value x, are runs that fill the stride.
 pub row-runs : {table : List (List ℕ)} {x : Value} {y : Shape} {p : Parts} {n stride : ℕ} → Runs table x y → stride ≡ x .count * x .stride → p ≡ record { count = n * x .count; unit = x .unit; width = partWidth table x; stride = x .stride } → RunsOf p (parts n stride y)
@@ -32,13 +24,13 @@ unfolding placesOf spanOf shapeWords
 row-runs {x = x} {y = y} {n = n} R fills is =
     rw (is, R .narrow-is, fills)
     (record {
-      width = R .width;
-      fits = R .fits;
+      width = R .runs-are .width;
+      fits = R .runs-are .fits;
       places-are = λ at.
-          repeated-alike n (x .count * x .stride) (λ p. placesOf y p) (λ p. partPlaces (x .count) (x .unit) (x .narrow) (x .stride) p) at (R .places-are)
+          repeated-alike n (x .count * x .stride) (λ p. placesOf y p) (λ p. partPlaces (x .count) (x .unit) (x .narrow) (x .stride) p) at (R .runs-are .places-are)
           ∙ rows-touch n (x .count) (x .unit) (x .narrow) (x .stride) at;
       span-is = sym (mul-assoc n (x .count) (x .stride));
-      words-are = ap (λ (c : ℕ). n * c) (R .words-are) ∙ sym (mul-assoc n (x .count) (x .unit));
+      words-are = ap (λ (c : ℕ). n * c) (R .runs-are .words-are) ∙ sym (mul-assoc n (x .count) (x .unit));
     })
 
 -- There is room for them where there is room for the shape.

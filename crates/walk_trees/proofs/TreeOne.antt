@@ -15,7 +15,7 @@ use Rattle.walk_trees.specs.Tree.{Runs, Many, runs, each, Left, none, mo
 
 -- A run has a width, so no part is both a run and an entry.
 pub run-width : {table : List (List ℕ)} {r : Value} {x : Shape} → Runs table r x → partWidth table r ≡ 0 → ⊥
-run-width R h = ⊎-elim (λ w. omega (arith, R .narrow-is)) (λ w. omega (arith, R .narrow-is)) (R .width)
+run-width R h = ⊎-elim (λ w. omega (arith, R .narrow-is)) (λ w. omega (arith, R .narrow-is)) (R .runs-are .width)
 
 -- Parts are alike where each of them is.
 pub repeated-alike : {A : Type 0} (n stride : ℕ) (f g : ℕ → List A) (at : ℕ) → ((p : ℕ) → f p ≡ g p) → repeated n stride f at ≡ repeated n stride g at
@@ -29,7 +29,7 @@ One ms table e = (x y : Shape) → Tree ms table e x → Tree ms table e y → (
 
 many-step : {ms : List ℕ} {table : List (List ℕ)} {r : Value} {x y : Shape} → (partWidth table r ≡ 0 → One ms table (r .reference)) → Many ms table r x → Many ms table r y → (at : ℕ) → placesOf x at ≡ placesOf y at
 unfolding placesOf
-many-step below (runs R) (runs R′) at = R .places-are at ∙ sym (R′ .places-are at)
+many-step below (runs R) (runs R′) at = R .runs-are .places-are at ∙ sym (R′ .runs-are .places-are at)
 many-step below (runs R) (each E t) at = absurd (run-width R (E .no-run))
 many-step below (each E t) (runs R) at = absurd (run-width R (E .no-run))
 many-step {r} below (each {y = y} E t) (each {y = z} E′ t′) at =

@@ -30,16 +30,6 @@ Wide x = (at : ℕ) → AllWide (placesOf x at)
 
 -- ---- parts
 
--- the words of each part lie one after the other
-pub record Runs (table : List (List ℕ)) (l : Value) (x : Shape) : Type 0 where
-  pub referring : Referring table l
-  pub narrow-is : partWidth table l ≡ l .narrow
-  pub width : (l .narrow ≡ 2) ⊎ (l .narrow ≡ 4)
-  pub fits : l .unit * l .narrow ≤ l .stride
-  pub places-are : (at : ℕ) → placesOf x at ≡ partPlaces (l .count) (l .unit) (l .narrow) (l .stride) at
-  pub span-is : spanOf x ≡ l .count * l .stride
-  pub words-are : shapeWords x ≡ l .count * l .unit
-
 -- parts that are runs, of the shape x
 pub record RunsOf (p : Parts) (x : Shape) : Type 0 where
   pub width : (p .width ≡ 2) ⊎ (p .width ≡ 4)
@@ -47,6 +37,16 @@ pub record RunsOf (p : Parts) (x : Shape) : Type 0 where
   pub places-are : (at : ℕ) → placesOf x at ≡ partPlaces (p .count) (p .unit) (p .width) (p .stride) at
   pub span-is : spanOf x ≡ p .count * p .stride
   pub words-are : shapeWords x ≡ p .count * p .unit
+
+-- the parts that a value says, where their words have one width
+abbrev pub saidParts : Value → Parts
+saidParts l = record { count = l .count; unit = l .unit; width = l .narrow; stride = l .stride }
+
+-- the words of each part lie one after the other
+pub record Runs (table : List (List ℕ)) (l : Value) (x : Shape) : Type 0 where
+  pub referring : Referring table l
+  pub narrow-is : partWidth table l ≡ l .narrow
+  pub runs-are : RunsOf (saidParts l) x
 
 -- each part is the shape y of another entry
 pub record Elements (table : List (List ℕ)) (l : Value) (y : Shape) : Type 0 where

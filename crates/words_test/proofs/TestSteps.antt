@@ -78,7 +78,7 @@ wide-run n at = wide-repeated n 4 (λ p. record { at = p; width = 4 } ∷ []) at
 wide-runs : {table : List (List ℕ)} {r : Value} {x : Shape} → Runs table r x → r .narrow ≡ 4 → Wide x
 unfolding Wide partPlaces
 wide-runs {r} R w at =
-    rw (R .places-are at, w)
+    rw (R .runs-are .places-are at, w)
     (wide-repeated (r .count) (r .stride) (λ p. runPlaces (r .unit) 4 p) at (wide-run (r .unit)))
 
 wide-parts : (n stride : ℕ) (y : Shape) → Wide y → Wide (parts n stride y)
@@ -87,7 +87,7 @@ wide-parts n stride y h at = wide-repeated n stride (λ p. placesOf y p) at h
 
 -- A layout whose narrowest word has not two bytes has none of two bytes.
 wide-many : {ms : List ℕ} {table : List (List ℕ)} {r : Value} {x : Shape} → Many ms table r x → (r .narrow ≡ 2 → ⊥) → Wide x
-wide-many (runs R) h = wide-runs R (⊎-elim (λ w. absurd (h w)) (λ w. w) (R .width))
+wide-many (runs R) h = wide-runs R (⊎-elim (λ w. absurd (h w)) (λ w. w) (R .runs-are .width))
 wide-many {r} (each {y = y} E t) h = wide-parts (r .count) (r .stride) y (E .wide h)
 
 -- each word has 32 bits
