@@ -45,6 +45,14 @@
 #include <stddef.h>
 #include <stdint.h>
 
+/* The version of this header and of the library under it, as a string and as numbers. The first number changes when a program that was
+ * written for the older header has to be compiled anew or changed; what such programs load is named by it, liblepugaso.so.1, so that both
+ * libraries can stand beside each other. The second changes when something is added, the third when a program sees no change. */
+#define LEPUGASO_VERSION "1.0.0"
+#define LEPUGASO_VERSION_MAJOR 1
+#define LEPUGASO_VERSION_MINOR 0
+#define LEPUGASO_VERSION_PATCH 0
+
 #ifdef __cplusplus
 extern "C" {
 #endif
