@@ -1,11 +1,25 @@
 # The commands of the README, and of oracle/README.md.
-.PHONY: shim example run test edits compare record bench
+.PHONY: shim cli install uninstall example run test edits compare record bench
 
-# The C interface for x86-64: target/shim/liblepugaso.a and .so, under shim/include/lepugaso.h.
+# The C interface for x86-64: target/shim/liblepugaso.a and .so, under shim/include/lepugaso.h, which says the version. The .so is a link;
+# its time is that of the file it leads to.
 shim: target/shim/liblepugaso.so
-target/shim/liblepugaso.so: crates.txt tools/shim tools/shim-object \
+target/shim/liblepugaso.so: crates.txt tools/shim tools/shim-object shim/include/lepugaso.h \
     $(shell find crates shim/src -name '*.rt' -o -name '*.antt' -o -name '*.rs')
 	@tools/shim
+
+# The command over it: target/cli/lepugaso.
+cli: target/cli/lepugaso
+target/cli/lepugaso: tools/cli target/shim/liblepugaso.so shim/include/lepugaso.h $(wildcard cli/*.c cli/*.h)
+	@tools/cli
+
+# The library, the command and their man pages where others look for them, with lepugaso.pc for pkg-config. `make install PREFIX=/usr` puts
+# them elsewhere; DESTDIR=FOLDER stands for / while a package is made. `make uninstall`, of the same two, removes them.
+PREFIX = /usr/local
+install: cli
+	@tools/install '$(DESTDIR)' '$(PREFIX)'
+uninstall:
+	@tools/install --remove '$(DESTDIR)' '$(PREFIX)'
 
 # The main job of a host program, in C: lay out the limits block of a receiver board; then unpack what its sensors say.
 example: shim
@@ -13,7 +27,7 @@ example: shim
 
 # List a layout file. `make run FILE=examples/listing.txt` lists another one.
 FILE = examples/receiver.txt
-run:
+run: cli
 	@tools/run $(FILE)
 
 # Everything that must hold. The last line is that of `rt ci`.
