@@ -71,7 +71,7 @@ static int print_part(struct map *m, const struct part *p, const struct pieces *
 static int opens(struct map *m, const struct part *p) {
     struct entry e = entry_at(m->t, p->e.reference);
     while (e.kind == ARRAY) e = entry_at(m->t, e.reference);
-    return e.kind == STRUCT || m->sums[p->e.reference].gaps;
+    return e.kind == STRUCT || m->layouts[p->e.reference].size > m->scalars[p->e.reference];
 }
 
 static int print_entry(struct map *m, uint32_t entry) {
@@ -151,18 +151,15 @@ static int choose_one(struct map *m, const char *asked) {
 /* Those that no other is made of. */
 static void choose_all(struct map *m) {
     unsigned char made_of[MOST_TYPES] = {0};
-    for (uint32_t k = 0; k < m->t->types; k++) map_mark(m->t, k, made_of);
+    for (uint32_t k = 0; k < m->t->types; k++) {
+        struct entry e = entry_at(m->t, k);
+        if (e.kind == STRUCT)
+            for (uint32_t n = 0; n < e.count; n++) made_of[member_at(m->t, e.reference + n).type] = 1;
+        else if (!is_scalar(e.kind))
+            made_of[e.reference] = 1;
+    }
     for (uint32_t k = 0; k < m->t->types; k++)
         if (!made_of[k]) m->entries[m->count++] = k;
-}
-
-static int look_up_layouts(struct map *m) {
-    int status = GOOD;
-    for (m->entry = 0; !status && m->entry < m->t->types; m->entry++) {
-        struct question q = map_question(m);
-        status = refused(lepugaso_layout_of(m->t->file, m->t->len, m->entry, &m->layouts[m->entry]), &q);
-    }
-    return status;
 }
 
 static int draw(struct map *m, const char *path) {
@@ -179,7 +176,7 @@ static int map_table(const struct table *t, const struct request *r) {
     m->t = t;
     m->out = cli.out;
     m->space = nowhere();
-    int status = m->space ? look_up_layouts(m) : FAILED;
+    int status = m->space ? map_layouts(m) : FAILED;
     if (!status && r->entry) status = choose_one(m, r->entry);
     if (!status && !r->entry) choose_all(m);
     if (!status) status = r->svg ? draw(m, r->svg) : r->json ? map_json(m) : map_text(m);

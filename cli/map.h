@@ -5,18 +5,12 @@
 
 #include "cli.h"
 
-/* How many bytes of an entry hold scalars, and how many hold none. Of an open type, those before its runtime array. */
-struct sums {
-    uint64_t scalars, gaps;
-};
-
 struct map {
     const struct table *t;
     const uint8_t *space;
     FILE *out;
     lepugaso_layout layouts[MOST_TYPES];
-    struct sums sums[MOST_TYPES];
-    unsigned char summed[MOST_TYPES];
+    uint64_t scalars[MOST_TYPES];        /* how many bytes of an entry hold scalars */
     uint32_t entries[MOST_TYPES], count; /* those to be mapped */
     uint32_t entry;                      /* the one that is */
     uint32_t steps[MOST_TYPES + 4];
@@ -48,18 +42,17 @@ struct gap {
     uint64_t offset, size;
 };
 
-/* The bytes of a mapped entry. Of an open one the first numbers are of what stands before its runtime array, and the
- * others of each element, the gap after it included, of which the longest buffer has `most`. */
+/* How many bytes a mapped entry has and how many of them hold scalars; the others are gaps. Of an open one that is of what stands before
+ * its runtime array, and beside it of each element, the gap after it included; the longest buffer has `most` of them. */
 struct totals {
     int open;
-    uint64_t bytes, each, most;
-    struct sums of, of_each;
+    uint64_t bytes, scalars, each, scalars_of_each, most;
 };
 
 /* ---- map_walk.c ---- */
 
-/* Marks what an entry refers to, itself or by its members. */
-void map_mark(const struct table *t, uint32_t entry, unsigned char marks[MOST_TYPES]);
+/* The layouts of all entries, and their scalars' bytes. */
+int map_layouts(struct map *m);
 /* What is asked of the library, for a refusal. */
 struct question map_question(const struct map *m);
 /* Turns to an entry, with an empty path. `*why` is null, or says why that has no map. */

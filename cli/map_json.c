@@ -104,16 +104,16 @@ static int put_gap(struct map *m, const struct gap *g, void *with) {
 
 static void put_totals(FILE *to, const struct totals *all) {
     if (!all->open) {
-        put_sums(to, all->bytes, all->of.scalars, all->of.gaps);
+        put_sums(to, all->bytes, all->scalars, all->bytes - all->scalars);
         return;
     }
     put_sums(to, LEPUGASO_ABSENT, LEPUGASO_ABSENT, LEPUGASO_ABSENT);
     put_number(to, "fixed_bytes", all->bytes);
-    put_number(to, "fixed_scalars", all->of.scalars);
-    put_number(to, "fixed_gap_bytes", all->of.gaps);
+    put_number(to, "fixed_scalars", all->scalars);
+    put_number(to, "fixed_gap_bytes", all->bytes - all->scalars);
     put_number(to, "each_bytes", all->each);
-    put_number(to, "each_scalars", all->of_each.scalars);
-    put_number(to, "each_gap_bytes", all->of_each.gaps);
+    put_number(to, "each_scalars", all->scalars_of_each);
+    put_number(to, "each_gap_bytes", all->each - all->scalars_of_each);
 }
 
 static int end(struct map *m, const struct part *p, void *with) {

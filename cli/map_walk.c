@@ -132,88 +132,59 @@ int map_walk(struct map *m, const struct part *p, const struct teller *to) {
 
 /* ---- how much of it is gaps ---- */
 
-static int add_gap(struct map *m, const struct gap *g, void *with) {
-    (void)m;
-    ((struct sums *)with)->gaps += g->size;
-    return GOOD;
-}
-
-static void add(struct sums *to, struct sums more) {
-    to->scalars += more.scalars;
-    to->gaps += more.gaps;
-}
-
-/* The sums of an entry whose parts have theirs. */
-static int sum(struct map *m, uint32_t entry, struct sums *s) {
-    struct part whole;
-    struct pieces of;
-    const char *why;
-    int status = map_turn(m, entry, &whole, &why);
-    uint32_t kind = whole.e.kind, rows = kind == MATRIX ? whole.e.rows : 1;
-    if (status || why || kind == RUNTIME_ARRAY) return status;
-    if (kind == STRUCT) {
-        struct teller to = {.gap = add_gap, .with = s};
-        for (uint32_t k = 0; k < whole.e.count; k++) add(s, m->sums[member_at(m->t, whole.e.reference + k).type]);
-        return map_gaps(m, &whole, &to);
+/* How many bytes of an entry hold scalars, those of its parts being known. Of a runtime array, which has any number of elements, none. */
+static uint64_t scalars_of(const struct map *m, uint32_t entry) {
+    struct entry e = entry_at(m->t, entry);
+    uint64_t each = e.kind == STRUCT ? 0 : m->scalars[e.reference], all = 0; /* a struct refers to a member */
+    switch (e.kind) {
+    case VECTOR:
+        return e.rows * each;
+    case MATRIX:
+        return e.columns * e.rows * each;
+    case ARRAY:
+        return e.count * each;
+    case RUNTIME_ARRAY:
+        return 0;
+    case STRUCT:
+        for (uint32_t k = 0; k < e.count; k++) all += m->scalars[member_at(m->t, e.reference + k).type];
+        return all;
+    default:
+        return m->layouts[entry].size;
     }
-    if (kind != ARRAY && kind != MATRIX && kind != VECTOR) {
-        s->scalars = whole.size;
-        return GOOD;
-    }
-    status = map_pieces(m, &whole, &of);
-    if (status) return status;
-    s->scalars = of.count * rows * m->sums[whole.e.reference].scalars;
-    s->gaps = of.count * (m->sums[whole.e.reference].gaps + of.every - of.size);
-    return GOOD;
 }
 
-void map_mark(const struct table *t, uint32_t entry, unsigned char marks[MOST_TYPES]) {
-    struct entry e = entry_at(t, entry);
-    if (e.kind == STRUCT)
-        for (uint32_t k = 0; k < e.count; k++) marks[member_at(t, e.reference + k).type] = 1;
-    else if (!is_scalar(e.kind))
-        marks[e.reference] = 1;
-}
-
-/* The sums of an entry and of all that it is made of, upward. */
-static int sum_up(struct map *m, uint32_t entry) {
-    unsigned char needed[MOST_TYPES] = {0};
+int map_layouts(struct map *m) {
     int status = GOOD;
-    needed[entry] = 1;
-    for (uint32_t k = entry; k > 0; k--)
-        if (needed[k]) map_mark(m->t, k, needed);
-    for (uint32_t k = 0; !status && k <= entry; k++) {
-        if (!needed[k] || m->summed[k]) continue;
-        status = sum(m, k, &m->sums[k]);
-        m->summed[k] = 1;
+    for (m->entry = 0; !status && m->entry < m->t->types; m->entry++) {
+        struct question q = map_question(m);
+        status = refused(lepugaso_layout_of(m->t->file, m->t->len, m->entry, &m->layouts[m->entry]), &q);
+        if (!status) m->scalars[m->entry] = scalars_of(m, m->entry);
     }
-    m->entry = entry;
-    m->depth = 0;
     return status;
 }
 
 int map_totals(struct map *m, const struct part *whole, struct totals *all) {
     struct part array = *whole;
     struct pieces of;
-    int status = sum_up(m, whole->entry), ends = whole->e.kind == STRUCT;
-    *all = (struct totals){.open = is_open(m, whole->entry), .bytes = whole->size, .of = m->sums[whole->entry]};
-    if (status || !all->open) return status;
+    int status = GOOD, ends = whole->e.kind == STRUCT;
+    *all = (struct totals){.open = is_open(m, whole->entry), .bytes = whole->size, .scalars = m->scalars[whole->entry]};
+    if (!all->open) return GOOD;
     if (ends) status = map_enter(m, whole, LEPUGASO_MEMBER(whole->e.count - 1), &array);
     if (!status) status = map_pieces(m, &array, &of);
     if (ends) map_leave(m);
     if (status) return status;
     all->bytes = array.offset;
     all->each = of.every;
+    all->scalars_of_each = m->scalars[array.e.reference];
     all->most = array.room / of.every;
-    all->of_each = m->sums[array.e.reference];
-    all->of_each.gaps += of.every - of.size;
     return GOOD;
 }
 
-static void print_sums(FILE *to, uint64_t bytes, struct sums s) {
-    fprintf(to, "%" PRIu64 " of scalars, ", s.scalars);
-    if (s.gaps)
-        fprintf(to, "%" PRIu64 " in gaps, %.1f %%", s.gaps, 100.0 * (double)s.gaps / (double)bytes);
+static void print_share(FILE *to, uint64_t bytes, uint64_t scalars) {
+    uint64_t gaps = bytes - scalars;
+    fprintf(to, "%" PRIu64 " of scalars, ", scalars);
+    if (gaps)
+        fprintf(to, "%" PRIu64 " in gaps, %.1f %%", gaps, 100.0 * (double)gaps / (double)bytes);
     else
         fputs("no gaps", to);
 }
@@ -224,9 +195,9 @@ void map_print_totals(FILE *to, const struct part *whole, const struct totals *a
     if (all->open && all->bytes) fprintf(to, ", fixed part %" PRIu64 " bytes", all->bytes);
     if (all->bytes) {
         fputs(": ", to);
-        print_sums(to, all->bytes, all->of);
+        print_share(to, all->bytes, all->scalars);
     }
     if (!all->open) return;
     fprintf(to, "%seach element %" PRIu64 " bytes: ", between, all->each);
-    print_sums(to, all->each, all->of_each);
+    print_share(to, all->each, all->scalars_of_each);
 }
