@@ -37,7 +37,7 @@ int load(const char *path, struct region *bytes);
 void drop(struct region *bytes);
 
 /* A file that is there whole or not at all: what is written to `file` goes to another beside it, which takes its place, its owner and its
- * mode when all is there. One at a time; an interrupt removes it. */
+ * mode when all is there. Two at most, the last opened closed first; an interrupt removes them. */
 struct whole_file {
     FILE *file;
     char *path, *beside;

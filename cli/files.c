@@ -47,12 +47,18 @@ void progress_over(void) {
 
 /* ---- interrupts ---- */
 
-/* The file that stands half written beside another; what a signal's handler may look at is its bytes, and whether there is one. */
-static char half_written[4096];
+/* The files that stand half written beside others, the output of -o and a picture; what a signal's handler may look at is these names, and
+ * how many there are. */
+enum { MOST_WRITTEN = 2 };
+static char half_written[MOST_WRITTEN][4096];
 static volatile sig_atomic_t writing;
 
+static void remove_half_written(void) {
+    while (writing) unlink(half_written[--writing]);
+}
+
 static void interrupted(int number) {
-    if (writing) unlink(half_written);
+    remove_half_written();
     if (shown) (void)!write(STDERR_FILENO, "\r\033[K", 4);
     signal(number, SIG_DFL);
     raise(number);
@@ -62,7 +68,7 @@ static void interrupted(int number) {
 static void cut(int number) {
     static const char said[] = "lepugaso: a file became shorter while it was read\n";
     (void)number;
-    if (writing) unlink(half_written);
+    remove_half_written();
     (void)!write(STDERR_FILENO, said, sizeof said - 1);
     _exit(FAILED);
 }
@@ -151,7 +157,7 @@ int open_whole(const char *path, struct whole_file *to) {
     to->path = realpath(path, NULL);
     if (!to->path) to->path = strdup(path);
     size_t room = to->path ? strlen(to->path) + 32 : 0;
-    to->beside = room && room <= sizeof half_written ? malloc(room) : NULL;
+    to->beside = room && room <= sizeof half_written[0] && writing < MOST_WRITTEN ? malloc(room) : NULL;
     if (!to->beside) {
         errno = to->path ? ENAMETOOLONG : ENOMEM;
         fail_file(path);
@@ -159,10 +165,10 @@ int open_whole(const char *path, struct whole_file *to) {
         return FAILED;
     }
     snprintf(to->beside, room, "%s.part-%ld", to->path, (long)getpid());
+    strcpy(half_written[writing], to->beside);
+    writing++;
     int fd = open(to->beside, O_WRONLY | O_CREAT | O_EXCL, 0666);
     if (fd >= 0) {
-        strcpy(half_written, to->beside);
-        writing = 1;
         to->file = fdopen(fd, "wb");
         if (!stat(to->path, &is) && (fchmod(fd, is.st_mode & 07777) || fchown(fd, is.st_uid, is.st_gid))) {
             /* Not ours to give: the new file is ours, with its own mode. */
@@ -173,8 +179,8 @@ int open_whole(const char *path, struct whole_file *to) {
     if (fd >= 0) {
         close(fd);
         unlink(to->beside);
-        writing = 0;
     }
+    writing--;
     free(to->path);
     free(to->beside);
     return FAILED;
@@ -189,7 +195,7 @@ int close_whole(struct whole_file *to, int status) {
     if (to->beside) {
         if (status == GOOD && rename(to->beside, to->path)) status = fail_file(path);
         if (status != GOOD) unlink(to->beside);
-        writing = 0;
+        writing--;
     }
     free(to->path);
     free(to->beside);
