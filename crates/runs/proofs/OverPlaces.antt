@@ -3,7 +3,7 @@
 -- In order: a pass over joined places; over repeated places, turn by turn; runs and parts, their lengths and when they are the same;
 -- storing, loading and testing, in the words of crates/wgsl, specs/Place.
 -- "What is left" of a loop over repeated places is the pass over them from the i-th on: it is the whole at 0 (`over-all`),
--- a turn leaves it as it is (`over-next`), and past the last nothing is left (`over-none`).
+-- a turn leaves it as it is (`over-next`), and past the last nothing is left (`over-none`). `Repeating` is such a loop's invariant.
 -- Assumes nothing.
 use Prim.Native.Nat.{ℕ, zero, suc, _+_, _-_, _*_, _<_, _≤_}
 use mathlib.Core.Bool.{Bool, true, false, not}
@@ -53,6 +53,23 @@ unfolding repeated overPlaces
 over-none f g count stride p k s i h =
     let e : count - i ≡ 0 = omega arith in
     rw e refl
+
+-- i of the repeated places are passed, which led from s₀ to s; the others from s on are all of them from s₀ on
+pub record Repeating {S : Type 0} (f : Place → ℕ → S → S) (g : ℕ → List Place) (count unit stride at k : ℕ) (s₀ : S) (i : ℕ) (s : S) : Type 0 where
+  pub within : i ≤ count
+  pub same : overPlaces f (repeated (count - i) stride g (at + i * stride)) (k + i * unit) s ≡ overPlaces f (repeated count stride g at) k s₀
+
+pub repeating-start : {S : Type 0} (f : Place → ℕ → S → S) (g : ℕ → List Place) (count unit stride at k : ℕ) (s₀ : S) → Repeating f g count unit stride at k s₀ 0 s₀
+repeating-start f g count unit stride at k s₀ = record { within = omega arith; same = over-all f g count stride unit at k s₀ }
+
+module _ {S : Type 0} {f : Place → ℕ → S → S} {g : ℕ → List Place} {count unit stride at k : ℕ} {s₀ : S} {i : ℕ} {s : S} (now : Repeating f g count unit stride at k s₀ i s) where
+  pub repeating-next : {s′ : S} → ((p : ℕ) → length (g p) ≡ unit) → i < count → s′ ≡ overPlaces f (g (at + i * stride)) (k + i * unit) s → Repeating f g count unit stride at k s₀ (i + 1) s′
+  repeating-next unit-is h done =
+      record { within = omega arith; same = rw done (over-next f g count stride unit at k s i unit-is h ∙ now .same) }
+
+  pub repeating-all : count ≤ i → s ≡ overPlaces f (repeated count stride g at) k s₀
+  repeating-all h =
+      sym (over-none f g count stride (at + i * stride) (k + i * unit) s i (omega (arith, now .within))) ∙ now .same
 
 -- ---- runs and parts
 

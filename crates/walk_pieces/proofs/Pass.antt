@@ -14,7 +14,7 @@ use Rattle.wgsl.specs.Place.{Shape, parts, spanOf, Place, repeated, placesOf}
 use Rattle.wgsl.proofs.Count.{places-words, repeated-length}
 use Rattle.runs.specs.Fold.{overPlaces}
 use Rattle.runs.specs.Run.{runPlaces}
-use Rattle.runs.proofs.OverPlaces.{repeated-append, over-append, over-all, over-next, over-none, run-length}
+use Rattle.runs.proofs.OverPlaces.{repeated-append, over-append, run-length}
 use Rattle.walk_trees.specs.Tree.{EachRoom}
 use Rattle.walk_trees.proofs.TreeOne.{repeated-alike}
 use Rattle.walk_trees.proofs.Room.{each-room}
@@ -81,28 +81,6 @@ module _ {S : Type 0} {f : Place → ℕ → S → S} {c : ℕ} {l : List ℕ} {
   pass-all h = let e : j ≡ c = omega (arith, now .within) in rw e at (now .same)
 
 -- ---- many types of such pieces
-
--- i of them are passed, which led from s₀ to s; the others from s on are all from s₀ on
-pub record EachPassed {S : Type 0} (f : Place → ℕ → S → S) (c : ℕ) (l : List ℕ) (count unit stride at k : ℕ) (s₀ : S) (i : ℕ) (s : S) : Type 0 where
-  pub within : i ≤ count
-  pub same : overPlaces f (repeated (count - i) stride (λ q. piecesPlaces c l q) (at + i * stride)) (k + i * unit) s ≡ overPlaces f (repeated count stride (λ q. piecesPlaces c l q) at) k s₀
-
-pub each-start : {S : Type 0} (f : Place → ℕ → S → S) (c : ℕ) (l : List ℕ) (count unit stride at k : ℕ) (s₀ : S) → EachPassed f c l count unit stride at k s₀ 0 s₀
-each-start f c l count unit stride at k s₀ =
-    record { within = omega arith; same = over-all f (λ q. piecesPlaces c l q) count stride unit at k s₀ }
-
-module _ {S : Type 0} {f : Place → ℕ → S → S} {c : ℕ} {l : List ℕ} {count unit stride at k : ℕ} {s₀ : S} {i : ℕ} {s : S} (now : EachPassed f c l count unit stride at k s₀ i s) where
-  pub each-next : {s′ : S} → ((q : ℕ) → length (piecesPlaces c l q) ≡ unit) → i < count → s′ ≡ overPlaces f (piecesPlaces c l (at + i * stride)) (k + i * unit) s → EachPassed f c l count unit stride at k s₀ (i + 1) s′
-  each-next unit-is h done =
-      record {
-        within = omega arith;
-        same = rw done (over-next f (λ q. piecesPlaces c l q) count stride unit at k s i unit-is h ∙ now .same);
-      }
-
-  pub each-all : count ≤ i → s ≡ overPlaces f (repeated count stride (λ q. piecesPlaces c l q) at) k s₀
-  each-all h =
-      sym (over-none f (λ q. piecesPlaces c l q) count stride (at + i * stride) (k + i * unit) s i (omega (arith, now .within)))
-      ∙ now .same
 
 -- What i of them make of s₀, and then the next one, is what i + 1 of them make of it.
 pub each-more : {S : Type 0} (f : Place → ℕ → S → S) (c : ℕ) (l : List ℕ) (i unit stride at k : ℕ) (s₀ : S) {s s′ : S} → ((q : ℕ) → length (piecesPlaces c l q) ≡ unit) → s ≡ overPlaces f (repeated i stride (λ q. piecesPlaces c l q) at) k s₀ → s′ ≡ overPlaces f (piecesPlaces c l (at + i * stride)) (k + i * unit) s → s′ ≡ overPlaces f (repeated (i + 1) stride (λ q. piecesPlaces c l q) at) k s₀

@@ -1,7 +1,8 @@
 -- The steps of walks over table (specs/Tree), for any pass over places (crates/runs, specs/Fold).
 --
 -- In order: parts in turn; members in turn.
--- A loop's turns leave "what is left, from here on, is the whole, from the start on" as it is: `Turn` over parts, `Walk` over members.
+-- A loop's turns leave "what is left, from here on, is the whole, from the start on" as it is: `Turn` over parts (`Repeating`, crates/runs,
+-- proofs/OverPlaces), `Walk` over members.
 -- Not here: what a tree says (`Many`), room (`Room`).
 -- Assumes nothing.
 use Prim.Native.Nat.{ℕ, _+_, _-_, _*_, _<_, _≤_}
@@ -14,7 +15,7 @@ use Rattle.wgsl.specs.Shapes.{shapeWords}
 use Rattle.wgsl.specs.Types.{structKind}
 use Rattle.wgsl.proofs.Count.{places-words}
 use Rattle.runs.specs.Fold.{overPlaces}
-use Rattle.runs.proofs.OverPlaces.{over-append, over-all, over-next, over-none}
+use Rattle.runs.proofs.OverPlaces.{over-append, Repeating, repeating-start, repeating-next, repeating-all}
 use Rattle.walk_trees.specs.declared.Slot.{Slot}
 use Rattle.layout_values.specs.Value.{valueAt}
 use Rattle.walk_trees.specs.Slot.{memberAt, slotAt}
@@ -25,32 +26,29 @@ use Rattle.walk_trees.proofs.Room.{type-tree, member-words}
 
 -- ---- parts in turn
 
--- i parts are done, which led from s₀ to s; the others from s on are all parts from s₀ on
+-- i parts are done, which led from s₀ to s, whatever shape a tree says that they have
 pub record Turn {S : Type 0} (f : Place → ℕ → S → S) (ms : List ℕ) (table : List (List ℕ)) (e count unit stride at k : ℕ) (s₀ : S) (i : ℕ) (s : S) : Type 0 where
   pub within : i ≤ count
-  pub same : (y : Shape) → Tree ms table e y → overPlaces f (repeated (count - i) stride (λ p. placesOf y p) (at + i * stride)) (k + i * unit) s ≡ overPlaces f (placesOf (parts count stride y) at) k s₀
+  pub turns : (y : Shape) → Tree ms table e y → Repeating f (λ p. placesOf y p) count unit stride at k s₀ i s
 
 pub turn-start : {S : Type 0} (f : Place → ℕ → S → S) (ms : List ℕ) (table : List (List ℕ)) (e count unit stride at k : ℕ) (s₀ : S) → Turn f ms table e count unit stride at k s₀ 0 s₀
-unfolding placesOf
 turn-start f ms table e count unit stride at k s₀ =
-    record { within = omega arith; same = λ y t. over-all f (λ p. placesOf y p) count stride unit at k s₀ }
+    record { within = omega arith; turns = λ y t. repeating-start f (λ p. placesOf y p) count unit stride at k s₀ }
 
 module _ {S : Type 0} {f : Place → ℕ → S → S} {ms : List ℕ} {table : List (List ℕ)} {e count unit stride at k : ℕ} {s₀ : S} {i : ℕ} {s : S} (now : Turn f ms table e count unit stride at k s₀ i s) where
   pub turn-next : {y : Shape} {s′ : S} → Tree ms table e y → shapeWords y ≡ unit → i < count → ((x : Shape) → Tree ms table e x → s′ ≡ overPlaces f (placesOf x (at + i * stride)) (k + i * unit) s) → Turn f ms table e count unit stride at k s₀ (i + 1) s′
   turn-next t u h done =
       record {
         within = omega arith;
-        same = λ x t′.
-            rw (done x t′)
-            (over-next f (λ p. placesOf x p) count stride unit at k s i
+        turns = λ x t′.
+            repeating-next (now .turns x t′)
             (λ p. places-words x p ∙ tree-valued t′ .words-are ∙ sym (tree-valued t .words-are) ∙ u) h
-            ∙ now .same x t′);
+            (done x t′);
       }
 
   pub turn-none : count ≤ i → (y : Shape) → Tree ms table e y → s ≡ overPlaces f (placesOf (parts count stride y) at) k s₀
-  turn-none h y t =
-      sym (over-none f (λ p. placesOf y p) count stride (at + i * stride) (k + i * unit) s i (omega (arith, now .within)))
-      ∙ now .same y t
+  unfolding placesOf
+  turn-none h y t = repeating-all (now .turns y t) h
 
 -- ---- members in turn
 

@@ -147,16 +147,19 @@ turns-fitting {element = element} {count = count} {unit = unit} {k = k} all {ws}
       turn = λ stride.
           record {
             within = h;
-            same = λ y t.
+            turns = λ y t.
                 let e : count ≡ i + (count - i) = omega arith in
                 let words : (p : ℕ) → length (placesOf y p) ≡ unit = λ p. places-words y p ∙ tree-valued t .words-are ∙ sym (tree-valued (all .tree) .words-are) ∙ all .room .unit-is in
                 let first = repeated i stride (λ p. placesOf y p) 0 in
                 let rest = repeated (count - i) stride (λ p. placesOf y p) (0 + i * stride) in
-                sym
-                (ap (λ (m : ℕ). overPlaces (testing ws) (repeated m stride (λ p. placesOf y p) 0) k (good tt)) e
-                ∙ ap (λ (ps : List Place). overPlaces (testing ws) ps k (good tt)) (repeated-append i (count - i) stride (λ p. placesOf y p) 0)
-                ∙ over-append (testing ws) first rest k (good tt)
-                ∙ rw (repeated-length i stride (λ p. placesOf y p) 0 unit words, ← fit y t stride) refl);
+                record {
+                  within = h;
+                  same = sym
+                      (ap (λ (m : ℕ). overPlaces (testing ws) (repeated m stride (λ p. placesOf y p) 0) k (good tt)) e
+                      ∙ ap (λ (ps : List Place). overPlaces (testing ws) ps k (good tt)) (repeated-append i (count - i) stride (λ p. placesOf y p) 0)
+                      ∙ over-append (testing ws) first rest k (good tt)
+                      ∙ rw (repeated-length i stride (λ p. placesOf y p) 0 unit words, ← fit y t stride) refl);
+                };
           };
     }
 
@@ -170,11 +173,12 @@ module _ {ms : List ℕ} {table : List (List ℕ)} {r : Value} {element count un
   turns-fine h said = record { turn = turns-said Fine h said }
 
   pub turns-bad : {q : ℕ} → i < count → Says ws (k + i * unit) (λ x. Tree ms table element x) (Bad q) → Says ws k (λ x. Many ms table r x) (Bad q)
+  unfolding placesOf
   turns-bad {q} h said x m =
       let z = all .any x m in
       rw (z .2)
       (sym (tested-refused ws (repeated (count - (i + 1)) (r .stride) (λ p. placesOf (z .0) p) (0 + (i + 1) * r .stride)) (k + (i + 1) * unit) 16 q)
-      ∙ turns-said (Bad q) h said (r .stride) .same (z .0) (z .1))
+      ∙ turns-said (Bad q) h said (r .stride) .turns (z .0) (z .1) .same)
 
   pub turns-none : count ≤ i → Says ws k (λ x. Many ms table r x) Fine
   turns-none h x m = let z = all .any x m in rw (z .2) (turn-none (now .turn (r .stride)) h (z .0) (z .1))

@@ -7,9 +7,8 @@ use native.Mathlib.Omega.{arith}
 use borrow.Author.Needs.{needs}
 use denote.Ref.{now}
 use lib.ListN.{length}
-use Rattle.runs.specs.Fold.{overPlaces}
 use Rattle.runs.specs.Run.{runPlaces, partPlaces}
-use Rattle.runs.proofs.OverPlaces.{over-all, over-next, over-none, run-length, parts-touch}
+use Rattle.runs.proofs.OverPlaces.{Repeating, repeating-start, repeating-next, repeating-all, run-length, parts-touch}
 use Rattle.runs.proofs.RunPlaces.{part-room}
 use Rattle.gaps_sweep.specs.Sweep.{sweptOf, sweeping, Countable}
 use Rattle.gaps_sweep.proofs.Sweep.{sweep-keeps, keeps-countable, any-number, parts-count}
@@ -18,9 +17,8 @@ use Rattle.gaps_sweep.proofs.parts.sweep_parts.Tie as tie
 
 abbrev Inv-loop : tie.InvT-loop
 Inv-loop buf₀ at p r₀ i₀ buf r i =
-    (overPlaces sweeping (partPlaces (p .count - i) (p .unit) (p .width) (p .stride) (at + i * p .stride)) (0 + i * p .unit) (sweptOf buf r)
-    ≡ overPlaces sweeping (partPlaces (p .count) (p .unit) (p .width) (p .stride) at) 0 (sweptOf buf₀ r₀))
-    × (i ≤ p .count) × (length buf ≡ length buf₀) × Countable (sweptOf buf r)
+    Repeating sweeping (λ q. runPlaces (p .unit) (p .width) q) (p .count) (p .unit) (p .stride) at 0 (sweptOf buf₀ r₀) i (sweptOf buf r)
+    × (length buf ≡ length buf₀) × Countable (sweptOf buf r)
 
 abbrev μ-loop : tie.MeasureT-loop
 μ-loop buf₀ at p r₀ i₀ buf r i = p .count - i
@@ -49,16 +47,7 @@ returns c =
     rw (then1 .if1 .taken, parts-touch (p .count) (p .unit) (p .width) (a .at)) (c .before .before .sweep-run .ensures)
 
 loop-holds : tie.Need-loop-holds Inv-loop μ-loop
-unfolding partPlaces
-loop-holds c =
-    let s = c .before .before .before .before in
-    let a = s .args in
-    let p = a .p in (
-      over-all sweeping (λ q. runPlaces (p .unit) (p .width) q) (p .count) (p .stride) (p .unit) (a .at) 0 (sweptOf (now (a .buf)) (a .s)),
-      omega arith,
-      refl,
-      s .pre .1,
-    )
+loop-holds c = (repeating-start _ _ _ _ _ _ _ _, refl, c .before .before .before .before .pre .1)
 
 mul-sweep-run-2 : tie.Need-mul-sweep-run-2 Inv-loop μ-loop
 mul-sweep-run-2 c =
@@ -79,10 +68,9 @@ sweep-run-requires-2 c κs =
     let then2 = c .before .before in
     let at-loop = then2 .before .before in
     let room = part-room (at-loop .loop .i) (at-loop .before .before .before .before .before .pre .0 .2) (then2 .if2 .taken) in
-    (omega (arith, room .0, at-loop .loop .inv .2), at-loop .loop .inv .3)
+    (omega (arith, room .0, at-loop .loop .inv .1), at-loop .loop .inv .2)
 
 loop-again : tie.Need-loop-again Inv-loop μ-loop
-unfolding partPlaces
 loop-again c =
     let done = c .before .before .sweep-run2 .ensures in
     let then2 = c .before .before .before .before .before in
@@ -90,29 +78,20 @@ loop-again c =
     let l = at-loop .loop in
     let a = at-loop .before .before .before .before .before .args in
     let p = a .p in
-    let here = sweptOf (l .buf) (l .r) in
     let part = runPlaces (p .unit) (p .width) (a .at + l .i * p .stride) in
-    let next = over-next sweeping (λ q. runPlaces (p .unit) (p .width) q) (p .count) (p .stride) (p .unit) (a .at) 0 here (l .i)
-    (λ q. run-length (p .unit) (p .width) q) (then2 .if2 .taken) in
     let keeps = sweep-keeps part done in (
-      rw (done, any-number part 0 (0 + l .i * p .unit) here) (next ∙ l .inv .0),
-      omega (arith, then2 .if2 .taken),
-      keeps .long ∙ l .inv .2,
-      keeps-countable keeps (l .inv .3),
+      repeating-next (l .inv .0) (λ q. run-length (p .unit) (p .width) q) (then2 .if2 .taken)
+          (done ∙ any-number part 0 (0 + l .i * p .unit) (sweptOf (l .buf) (l .r))),
+      keeps .long ∙ l .inv .1,
+      keeps-countable keeps (l .inv .2),
     )
 
 returns-2 : tie.Need-returns-2 Inv-loop μ-loop
 unfolding partPlaces
-returns-2 c =
-    let at-loop = c .before .before in
-    let l = at-loop .loop in
-    let a = at-loop .before .before .before .before .before .args in
-    let p = a .p in
-    sym (over-none sweeping (λ q. runPlaces (p .unit) (p .width) q) (p .count) (p .stride) (a .at + l .i * p .stride) (0 + l .i * p .unit)
-    (sweptOf (l .buf) (l .r)) (l .i) (omega (arith, l .inv .1, c .if2 .left))) ∙ l .inv .0
+returns-2 c = repeating-all (c .before .before .loop .inv .0) (c .if2 .left)
 
 pub sweep-parts-spec : {M : Type 1} → statement M
 sweep-parts-spec =
     tie.close (tie.spec
     Inv-loop μ-loop mul-if1 mul-sweep-run sweep-run-requires (λ c. search needs) returns loop-holds mul-sweep-run-2 add-sweep-run
-    sweep-run-requires-2 (λ c. search needs) (λ c. search needs) loop-again (λ c. c .before .before .loop .inv .2) returns-2)
+    sweep-run-requires-2 (λ c. search needs) (λ c. search needs) loop-again (λ c. c .before .before .loop .inv .1) returns-2)

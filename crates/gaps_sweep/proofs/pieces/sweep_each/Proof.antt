@@ -1,4 +1,4 @@
--- Each turn of the loop sweeps one element (`EachPassed`, crates/walk_pieces, proofs/Pass), whatever the numbers of its words.
+-- Each turn of the loop sweeps one element (`Repeating`, crates/runs, proofs/OverPlaces), whatever the numbers of its words.
 -- Assumes nothing.
 use Prim.Native.Nat.{_+_, _-_, _*_}
 use mathlib.Core.Path.{_≡_, refl, _∙_}
@@ -7,7 +7,7 @@ use borrow.Author.Needs.{needs}
 use denote.Ref.{now}
 use lib.ListN.{length}
 use Rattle.walk_pieces.specs.Piece.{piecesPlaces, PiecesRoom}
-use Rattle.walk_pieces.proofs.Pass.{EachPassed, each-start, each-next, each-all}
+use Rattle.runs.proofs.OverPlaces.{Repeating, repeating-start, repeating-next, repeating-all}
 use Rattle.gaps_sweep.specs.Sweep.{sweptOf, sweeping, Countable}
 use Rattle.gaps_sweep.proofs.Sweep.{sweep-keeps, keeps-countable, any-number}
 use Rattle.gaps_sweep.proofs.pieces.sweep_each.Statement.{statement}
@@ -15,14 +15,14 @@ use Rattle.gaps_sweep.proofs.pieces.sweep_each.Tie as tie
 
 abbrev Inv-loop : tie.InvT-loop
 Inv-loop buf₀ at p pieces few r₀ i₀ buf r i =
-    EachPassed sweeping few pieces (p .count) (p .unit) (p .stride) at 0 (sweptOf buf₀ r₀) i (sweptOf buf r)
+    Repeating sweeping (λ q. piecesPlaces few pieces q) (p .count) (p .unit) (p .stride) at 0 (sweptOf buf₀ r₀) i (sweptOf buf r)
     × (length buf ≡ length buf₀) × Countable (sweptOf buf r)
 
 abbrev μ-loop : tie.MeasureT-loop
 μ-loop buf₀ at p pieces few r₀ i₀ buf r i = p .count - i
 
 loop-holds : tie.Need-loop-holds Inv-loop μ-loop
-loop-holds c = (each-start _ _ _ _ _ _ _ _ _, refl, c .before .pre .1)
+loop-holds c = (repeating-start _ _ _ _ _ _ _ _, refl, c .before .pre .1)
 
 -- the element whose turn it is
 element : (c : tie.Then1 Inv-loop μ-loop) →
@@ -54,7 +54,7 @@ loop-again c =
     let a = at-loop .before .before .args in
     let one = piecesPlaces (a .few) (now (a .pieces)) (a .at + l .i * a .p .stride) in
     let keeps = sweep-keeps one done in (
-      each-next (l .inv .0) (element then1 .unit-is) (then1 .if1 .taken) (done ∙ any-number one 0 (0 + l .i * a .p .unit) _),
+      repeating-next (l .inv .0) (element then1 .unit-is) (then1 .if1 .taken) (done ∙ any-number one 0 (0 + l .i * a .p .unit) _),
       keeps .long ∙ l .inv .1,
       keeps-countable keeps (l .inv .2),
     )
@@ -63,7 +63,7 @@ same-length : tie.Need-same-length Inv-loop μ-loop
 same-length c = c .before .before .loop .inv .1
 
 returns : tie.Need-returns Inv-loop μ-loop
-returns c = each-all (c .before .before .loop .inv .0) (c .if1 .left)
+returns c = repeating-all (c .before .before .loop .inv .0) (c .if1 .left)
 
 pub sweep-each-spec : {M : Type 1} → statement M
 sweep-each-spec =

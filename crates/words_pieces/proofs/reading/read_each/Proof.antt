@@ -1,4 +1,4 @@
--- Each turn of the loop reads one element (`EachPassed`, crates/walk_pieces, proofs/Pass).
+-- Each turn of the loop reads one element (`Repeating`, crates/runs, proofs/OverPlaces).
 -- Assumes nothing.
 use Prim.Native.Nat.{_+_, _-_, _*_}
 use mathlib.Core.Path.{_≡_, refl, _∙_}
@@ -7,20 +7,20 @@ use borrow.Author.Needs.{needs}
 use denote.Ref.{now}
 use lib.ListN.{length}
 use Rattle.runs.specs.Fold.{loading}
-use Rattle.walk_pieces.specs.Piece.{PiecesRoom}
-use Rattle.walk_pieces.proofs.Pass.{EachPassed, each-start, each-next, each-all}
+use Rattle.walk_pieces.specs.Piece.{piecesPlaces, PiecesRoom}
+use Rattle.runs.proofs.OverPlaces.{Repeating, repeating-start, repeating-next, repeating-all}
 use Rattle.words_pieces.proofs.reading.read_each.Statement.{statement}
 use Rattle.words_pieces.proofs.reading.read_each.Tie as tie
 
 abbrev Inv-loop : tie.InvT-loop
 Inv-loop pieces few p at buf k words₀ i₀ words i =
-    EachPassed (loading buf) few pieces (p .count) (p .unit) (p .stride) at k words₀ i words × (length words ≡ length words₀)
+    Repeating (loading buf) (λ q. piecesPlaces few pieces q) (p .count) (p .unit) (p .stride) at k words₀ i words × (length words ≡ length words₀)
 
 abbrev μ-loop : tie.MeasureT-loop
 μ-loop pieces few p at buf k words₀ i₀ words i = p .count - i
 
 loop-holds : tie.Need-loop-holds Inv-loop μ-loop
-loop-holds c = (each-start _ _ _ _ _ _ _ _ _, refl)
+loop-holds c = (repeating-start _ _ _ _ _ _ _ _, refl)
 
 -- the element whose turn it is
 here : (c : tie.Then1 Inv-loop μ-loop) →
@@ -54,7 +54,7 @@ loop-again c =
     let call = c .before .before .read-pieces in
     let then1 = c .before .before .before .before .before .before in
     let l = then1 .before .before .loop in (
-      each-next (l .inv .0) (here then1 .unit-is) (then1 .if1 .taken) (call .ensures),
+      repeating-next (l .inv .0) (here then1 .unit-is) (then1 .if1 .taken) (call .ensures),
       call .kept .1 .1 .1 .1 .1 .0 ∙ l .inv .1,
     )
 
@@ -62,7 +62,7 @@ same-length : tie.Need-same-length Inv-loop μ-loop
 same-length c = c .before .before .loop .inv .1
 
 returns : tie.Need-returns Inv-loop μ-loop
-returns c = each-all (c .before .before .loop .inv .0) (c .if1 .left)
+returns c = repeating-all (c .before .before .loop .inv .0) (c .if1 .left)
 
 pub read-each-spec : {M : Type 1} → statement M
 read-each-spec =
