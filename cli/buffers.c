@@ -15,7 +15,7 @@ int begin_job(struct job *j, const char *file, const char *entry, const char *bu
     if (!status) status = parse_entry(entry, &j->entry);
     if (!status && buffer) status = load(buffer, &j->buf);
     if (status) end_job(j);
-    j->asked = (struct question){.t = &j->t, .entry = j->entry, .wanted = "layout", .buf_len = j->buf.len};
+    j->asked = (struct question){.t = &j->t, .entry = j->entry, .wanted = "layout", .target = "single scalar", .buf_len = j->buf.len};
     return status;
 }
 
@@ -140,7 +140,7 @@ static int bits_of_number(uint32_t kind, int argc, char **argv) {
 static int bits_at_path(struct job *j, const struct path *path, uint32_t offset, uint32_t count, const char *value, const char *buffer) {
     lepugaso_answer field =
         lepugaso_extract_bits(j->t.file, j->t.len, j->entry, path->steps, path->len, j->buf.at, j->buf.len, offset, count);
-    j->asked.wanted = "i32 or u32";
+    j->asked.target = "i32 or u32";
     int status = refused(field, &j->asked);
     if (status) return status;
     uint32_t kind = scalar_at(&j->t, j->entry, path->steps, path->len);

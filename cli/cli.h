@@ -126,7 +126,8 @@ struct question {
     const struct table *t; /* a file that was accepted, or null */
     const uint8_t *file;   /* any file */
     size_t file_len;
-    const char *wanted; /* what an absent number would have been: "size", "layout" */
+    const char *wanted; /* what a type may lack: "layout", "members" */
+    const char *target; /* what a path has to lead to: "single scalar", "i32 or u32" */
     uint32_t entry, to; /* `to`: of a rank */
     const uint32_t *steps;
     size_t steps_len, words, values, buf_len, other_len;

@@ -152,7 +152,7 @@ int lepugaso_command(int argc, char **argv) {
     argc -= 2;
     argv += 2;
     if (!take_output(&argc, argv, &out)) return usage(c->name, "-o takes one file");
-    if (!out) return c->run(argc, argv);
+    if (!out || !strcmp(out, "-")) return c->run(argc, argv);
 
     struct whole_file to;
     int status = open_whole(out, &to);

@@ -164,6 +164,7 @@ static void choose_all(struct map *m) {
 
 static int draw(struct map *m, const char *path) {
     struct whole_file to;
+    if (!strcmp(path, "-")) return map_svg(m);
     int status = open_whole(path, &to);
     if (status) return status;
     m->out = to.file;

@@ -97,7 +97,7 @@ static void say_words(const struct question *q) {
         struct stand at = follow(q->t, start(q), q->steps, q->steps_len);
         char name[NAME_ROOM];
         name_stand(q->t, at, name);
-        fprintf(cli.err, "the path leads to %s, which is no %s", name, strcmp(q->wanted, "layout") ? q->wanted : "single scalar");
+        fprintf(cli.err, "the path leads to %s, which is no %s", name, q->target);
         return;
     }
     struct scalar_count has = count_scalars(q->t, q->entry);

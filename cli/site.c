@@ -30,7 +30,9 @@ static int begin_block(struct block *b, char **argv, const char *mask, const cha
     if (!status && factory) status = load(factory, &b->factory);
     if (!status && site) status = load(site, &b->site);
     if (status) end_block(b);
-    b->asked = (struct question){.t = &b->t, .entry = b->entry, .wanted = "layout", .member = b->member, .block = 1, .mask = b->mask};
+    b->asked = (struct question){.t = &b->t, .entry = b->entry, .wanted = "layout", .target = "single scalar", .block = 1};
+    b->asked.member = b->member;
+    b->asked.mask = b->mask;
     b->asked.buf_len = b->factory.len;
     b->asked.other_len = b->site.len;
     return status;
@@ -69,6 +71,7 @@ static int start_fresh(struct block *b, const char *path) {
 
 static int site_fresh(char **argv) {
     struct block b;
+    if (!strcmp(argv[3], "-")) return usage("site", "standard input is no site block to be written");
     int status = begin_block(&b, argv, NULL, NULL, argv[2], NULL);
     if (status) return status;
     status = start_fresh(&b, argv[3]);
@@ -132,6 +135,7 @@ static int set_member(struct block *b, const struct path *path, const char *valu
 static int site_set(char **argv) {
     struct block b;
     struct path path;
+    if (!strcmp(argv[7], "-")) return usage("site", "standard input is no site block to be written");
     int status = parse_path(argv[4], &path);
     if (status) return status;
     status = begin_block(&b, argv, argv[2], argv[3], argv[6], argv[7]);

@@ -32,6 +32,8 @@ entries 5
 2 12 16 16
 3 8 8 8
 4 48 16 48
+$ lepugaso check limits.layout -o -
+good: 5 types, 5 members, form 1
 $ printf '123456789' | lepugaso check -
 lepugaso: refused 1: the file has 9 bytes, and its trailer alone would have 10
 [1]

@@ -98,6 +98,9 @@ $ lepugaso map receiver.layout 3 --json
 ]
 $ lepugaso map limits.layout --svg limits.svg && head -n 1 limits.svg | cut -c 1-39
 <svg xmlns="http://www.w3.org/2000/svg"
+$ lepugaso map limits.layout --svg - | cmp - limits.svg
+$ lepugaso map limits.layout --svg also.svg -o empty && cmp also.svg limits.svg && wc -c <empty
+0
 $ lepugaso map limits.layout 9
 lepugaso: refused 8: there is no entry 9, the file has 5, counted from 0
 [1]

@@ -79,6 +79,22 @@ usage: lepugaso site fresh FILE ENTRY FACTORY SITE
        lepugaso site set FILE ENTRY MASK MEMBER PATH VALUE FACTORY SITE
        lepugaso site clear FILE ENTRY MASK MEMBER
 [2]
+$ lepugaso site fresh limits.layout 4 factory.bin -
+lepugaso: standard input is no site block to be written
+usage: lepugaso site fresh FILE ENTRY FACTORY SITE
+       lepugaso site inheriting FILE ENTRY
+       lepugaso site member FILE ENTRY MASK MEMBER FACTORY SITE
+       lepugaso site set FILE ENTRY MASK MEMBER PATH VALUE FACTORY SITE
+       lepugaso site clear FILE ENTRY MASK MEMBER
+[2]
+$ lepugaso site set limits.layout 4 31 2 . 1 factory.bin -
+lepugaso: standard input is no site block to be written
+usage: lepugaso site fresh FILE ENTRY FACTORY SITE
+       lepugaso site inheriting FILE ENTRY
+       lepugaso site member FILE ENTRY MASK MEMBER FACTORY SITE
+       lepugaso site set FILE ENTRY MASK MEMBER PATH VALUE FACTORY SITE
+       lepugaso site clear FILE ENTRY MASK MEMBER
+[2]
 $ lepugaso site stale
 lepugaso: there is no site stale
 usage: lepugaso site fresh FILE ENTRY FACTORY SITE
