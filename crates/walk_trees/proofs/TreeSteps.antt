@@ -10,7 +10,7 @@ use mathlib.Core.List.{List, []}
 use mathlib.Core.Path.{_≡_, refl, ap, sym, _∙_}
 use native.Mathlib.Numerals.{sub-one}
 use native.Mathlib.Omega.{arith}
-use Rattle.wgsl.specs.Place.{Shape, parts, field, spanOf, Place, repeated, placesOf}
+use Rattle.wgsl.specs.Place.{Shape, parts, field, spanOf, Place, placesOf}
 use Rattle.wgsl.specs.Shapes.{shapeWords}
 use Rattle.wgsl.specs.Types.{structKind}
 use Rattle.wgsl.proofs.Count.{places-words}

@@ -1,10 +1,9 @@
 -- Each turn of the loop loads one part of what is left.
 -- Assumes nothing.
-use Prim.Native.Nat.{_+_, _-_, _*_, _≤_}
-use mathlib.Core.Path.{_≡_, refl, sym, _∙_}
+use Prim.Native.Nat.{_-_}
+use mathlib.Core.Path.{_≡_, refl}
 use native.Mathlib.Omega.{arith}
 use borrow.Author.Needs.{needs}
-use denote.Ref.{now}
 use lib.ListN.{length}
 use Rattle.runs.specs.Fold.{loading}
 use Rattle.runs.specs.Run.{runPlaces, partPlaces}

@@ -1,11 +1,10 @@
 -- Where parts touch they are one run. Else each turn of the loop does one part of what is left.
 -- Assumes nothing.
-use Prim.Native.Nat.{_+_, _-_, _*_, _≤_}
-use mathlib.Core.Path.{_≡_, refl, sym, _∙_}
+use Prim.Native.Nat.{_+_, _-_, _*_}
+use mathlib.Core.Path.{_≡_, refl, _∙_}
 use native.Mathlib.Nat.{mul-assoc}
 use native.Mathlib.Omega.{arith}
 use borrow.Author.Needs.{needs}
-use denote.Ref.{now}
 use lib.ListN.{length}
 use Rattle.runs.specs.Run.{runPlaces, partPlaces}
 use Rattle.runs.proofs.OverPlaces.{Repeating, repeating-start, repeating-next, repeating-all, run-length, parts-touch}
