@@ -1,5 +1,7 @@
 // WGSL's extractBits and insertBits for u32 and i32, on any numbers: o = min(offset, 32), c = min(count, 32 - o).
 // Worked in 64 bits, where a shift by 32 is one like any other, so no case stands apart and nothing branches.
+#![tactic(auto)]
+
 ghost use Rattle.std.specs.Prelude.{◌≡◌, ◌^◌, ◌<◌, ◌≤◌};
 ghost use Rattle.wgsl.specs.BitField.{start_of, bits_of, field_at, repeated_top, extracted_u32, extracted_i32, inserted, pattern_of, signed_of};
 

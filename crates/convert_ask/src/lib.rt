@@ -1,4 +1,6 @@
 // The two questions on conversion.
+#![tactic(auto)]
+
 ghost use Rattle.std.specs.Prelude.{◌≡◌};
 ghost use Rattle.wgsl.specs.Call.{rank_call, common_call};
 ghost use Rattle.said.specs.Answer.{said_number};

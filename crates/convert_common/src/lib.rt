@@ -1,4 +1,6 @@
 // The common type of a list of entries.
+#![tactic(auto)]
+
 ghost use Rattle.std.specs.Prelude.{◌≡◌, List, ◌<◌, length};
 ghost use Rattle.wgsl.specs.Types.{Ty};
 ghost use Rattle.wgsl.specs.Rank.{common_of, common_of_all};
@@ -10,7 +12,7 @@ use convert_rank::scalar::Ranked;
 use numbers::wide::wide;
 
 // An entry number, or none.
-#[derive(Drop)]
+#[derive(Clone, Copy)]
 pub enum Chosen {
     Is(u32),
     No,

@@ -1,4 +1,6 @@
 // The rank of one entry's type to another's, in an accepted file.
+#![tactic(auto)]
+
 pub mod scalar;
 
 ghost use Rattle.std.specs.Prelude.{◌≡◌, List, ◌+◌, ◌*◌, ◌≤◌, length};

@@ -7,7 +7,7 @@ ghost use Rattle.convert_rank.specs.Ranked.{rank_is};
 use file::kinds::{ABSTRACT_FLOAT, ABSTRACT_INT, F16, F32, I32, U32};
 
 // A rank, or none.
-#[derive(Drop)]
+#[derive(Clone, Copy)]
 pub enum Ranked {
     Is(u32),
     No,

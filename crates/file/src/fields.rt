@@ -21,7 +21,7 @@ pub fn member_length(form: u32) -> u32
 }
 
 // A type entry.
-#[derive(Drop)]
+#[derive(Clone, Copy)]
 pub struct TypeEntry {
     pub kind: u32,
     pub columns: u32,
@@ -33,7 +33,7 @@ pub struct TypeEntry {
 }
 
 // A member entry.
-#[derive(Drop)]
+#[derive(Clone, Copy)]
 pub struct MemberEntry {
     pub ty: u32,
     pub flags: u32,

@@ -19,7 +19,7 @@ const MOST_TYPES: u32 = 256;
 
 const MOST_MEMBERS: u32 = 1024;
 
-#[derive(Drop)]
+#[derive(Clone, Copy)]
 pub struct Trailer {
     pub types: u32,
     pub members: u32,
@@ -27,7 +27,7 @@ pub struct Trailer {
     pub form: u32,
 }
 
-#[derive(Drop)]
+#[derive(Clone, Copy)]
 pub enum Trailered {
     Good(Trailer),
     Refused(Refusal),

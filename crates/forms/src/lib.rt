@@ -1,4 +1,6 @@
 // The two moves between the forms of a layout file (02, E7).
+#![tactic(auto)]
+
 pub mod entries;
 pub mod names;
 

@@ -1,4 +1,6 @@
 // `clean`: the gaps of an entry become zero, and what changed is counted. 02's order is 1 to 7, 24, 8, 17, 9, 10, 15.
+#![tactic(auto)]
+
 ghost use Rattle.std.specs.Prelude.{◌≡◌, false, ℕ, ◌≤◌, length};
 ghost use Rattle.wgsl.specs.Types.{Ty, is_open};
 ghost use Rattle.wgsl.specs.Place.{extent_of};

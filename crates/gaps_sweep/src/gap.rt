@@ -5,7 +5,7 @@ ghost use Rattle.gaps_sweep.specs.Sweep.{swept_of, swept_byte, swept_to, passed,
 use numbers::bytes::u32_at;
 
 // Where the bytes that were passed end; how many bytes changed so far, and the first of them.
-#[derive(Drop)]
+#[derive(Clone, Copy)]
 pub struct Sweep {
     pub from: usize,
     pub changed: usize,

@@ -1,5 +1,7 @@
 // Sweeping by the table: an entry part by part, a struct member by member; the elements of an array by their pieces, where they are few.
 // Entry numbers fall. The list of pieces is lent down the walk, so that it is on the stack once.
+#![tactic(auto)]
+
 ghost use Rattle.std.specs.Prelude.{◌≡◌, ℕ, length};
 ghost use Rattle.wgsl.specs.Place.{Shape, places_of};
 ghost use Rattle.wgsl.specs.Types.{struct_kind};

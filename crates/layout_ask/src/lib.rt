@@ -1,5 +1,7 @@
 // The layout library: is a file good, and what size, alignment, minimum size and stride has an entry. The check and the four questions
 // of document 01, over the promises of crates/layout_table.
+#![tactic(auto)]
+
 ghost use Rattle.std.specs.Prelude.{◌≡◌};
 ghost use Rattle.wgsl.specs.Types.{Ty};
 ghost use Rattle.wgsl.specs.Size.{present, min_size_of};
@@ -17,7 +19,7 @@ use said::answer::{Answer, Maybe, Number, Sizes};
 use said::refusal::Refusal;
 
 // What the table holds of an entry, or a refusal 1 to 7, 24, 8.
-#[derive(Drop)]
+#[derive(Clone, Copy)]
 pub enum ValueFound {
     Is(Value),
     Refused(Refusal),

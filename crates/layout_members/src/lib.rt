@@ -1,4 +1,6 @@
 // One member entry of a struct: its flags, tested by masks, and the rules 5 and 6 for it.
+#![tactic(auto)]
+
 ghost use Rattle.std.specs.Prelude.{◌≡◌, true};
 ghost use Rattle.wgsl.specs.Types.{Ty, everywhere};
 ghost use Rattle.wgsl.specs.File.{size_is_given, align_is_given, given_size, given_align, rest_is_zero};

@@ -1,4 +1,6 @@
 // The kinds that refer to one lower entry: 7 to 11. Each is handed that entry's value.
+#![tactic(auto)]
+
 ghost use Rattle.std.specs.Prelude.{◌≡◌, ℕ, true};
 ghost use Rattle.std.proofs.Math.Option.{some};
 ghost use Rattle.wgsl.specs.Types.{Scalar, Ty, scalar_kind, is_scalar_kind, everywhere};

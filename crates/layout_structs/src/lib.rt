@@ -1,4 +1,6 @@
 // A struct: its members one after the other.
+#![tactic(auto)]
+
 ghost use Rattle.std.specs.Prelude.{◌≡◌, ℕ, ◌≤◌};
 ghost use Rattle.wgsl.specs.Types.{Ty, Members, no_more, struct};
 ghost use Rattle.wgsl.specs.Rule.{count_of};
@@ -17,7 +19,7 @@ use numbers::order::{larger, smaller};
 use numbers::wide::wide;
 
 // Where the members so far end, and what they hold.
-#[derive(Drop)]
+#[derive(Clone, Copy)]
 pub struct Ends {
     // 0 past a runtime array, which has no end
     pub end: u32,
@@ -28,21 +30,21 @@ pub struct Ends {
 }
 
 // What the members so far come to: "5 before 6 before 7".
-#[derive(Drop)]
+#[derive(Clone, Copy)]
 pub enum SoFar {
     Good(Ends),
     Unfit,
     TooLarge,
 }
 
-#[derive(Drop)]
+#[derive(Clone, Copy)]
 pub enum Stepped {
     Next(SoFar),
     Rule,
 }
 
 // The members that a struct's entry names, by number.
-#[derive(Drop)]
+#[derive(Clone, Copy)]
 pub struct Span {
     pub first: usize,
     pub count: usize,

@@ -1,4 +1,6 @@
 // The table of 256 values, worked out upward from entry 0.
+#![tactic(auto)]
+
 ghost use Rattle.std.specs.Prelude.{◌≡◌, List};
 ghost use Rattle.wgsl.specs.Types.{Ty, struct_kind};
 ghost use Rattle.wgsl.specs.Said.{good};
@@ -19,7 +21,7 @@ use layout_values::value::{Made, Row, Value, blank, row_of, value_at};
 use numbers::wide::wide;
 use said::refusal::Refusal;
 
-#[derive(Drop)]
+#[derive(Clone, Copy)]
 pub enum Checked {
     Types(Trailer),
     Refused(Refusal),
@@ -148,14 +150,14 @@ pub fn accept(f: &[u8]) -> Checked
 }
 
 // The entry that a call speaks of: its value, and where the file's member entries begin and end.
-#[derive(Drop)]
+#[derive(Clone, Copy)]
 pub struct Ground {
     pub value: Value,
     pub start: usize,
     pub end: usize,
 }
 
-#[derive(Drop)]
+#[derive(Clone, Copy)]
 pub enum Grounded {
     Is(Ground),
     Refused(Refusal),

@@ -30,7 +30,7 @@ const ALIGN: usize = 7;
 
 // The value of a type. A size, an alignment and a stride are above 0, and 0 stands for an absent one. Its parts are a vector's scalars,
 // a matrix's columns, an array's elements; a scalar and an atomic are one part.
-#[derive(Drop)]
+#[derive(Clone, Copy)]
 pub struct Value {
     pub kind: u32,
     // the fewest bytes that one of its words takes: 4, or 2 where it holds an f16; 0 where it holds what cannot be stored
@@ -48,7 +48,7 @@ pub struct Value {
 }
 
 // What becomes of an entry: a value, or document 01's 5, 6 or 7.
-#[derive(Drop)]
+#[derive(Clone, Copy)]
 pub enum Made {
     Laid(Value),
     Rule,

@@ -3,6 +3,7 @@
 // answers a target (`said::target::Walked`), the two views, which hand back a part of the buffer that they were lent, the four calls on
 // numbers alone, which answer a number, the two moves, which answer a length (`said::answer::Moved`), `convert`, which answers a pattern (`said::answer::Pattern`), and `clean`, which answers what it
 // changed (`said::answer::Cleaned`). The refusals of each stand over it; whatever takes a file gives 24 besides, after 1 to 7.
+#![tactic(auto)]
 
 // How many entries an accepted file has; else 1 to 7.
 pub use layout_ask::check;

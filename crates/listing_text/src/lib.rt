@@ -1,4 +1,6 @@
 // Lines of text into a lent buffer: what the listing program writes.
+#![tactic(auto)]
+
 ghost use Rattle.std.specs.Prelude.{◌≡◌, ◌+◌, ◌≤◌, length};
 ghost use Rattle.wgsl.specs.Listing.{decimal, has_place, refused_line};
 ghost use Rattle.puts.specs.Put.{Put};

@@ -12,7 +12,7 @@ use said::answer::Pattern;
 use said::refusal::Refusal;
 
 // A float's format: the bits of its fraction, its unit as a power of two over 2 ^ -1074, and what infinity and the sign are as patterns.
-#[derive(Drop)]
+#[derive(Clone, Copy)]
 pub struct Format {
     pub digits: u32,
     pub unit: u32,

@@ -1,4 +1,6 @@
 // Literals converted (02, E14): a pattern of bits of one kind of scalar, as another.
+#![tactic(auto)]
+
 pub mod float;
 pub mod int;
 

@@ -1,4 +1,6 @@
 // Rounding to nearest, ties to even, on bits: once over the digits of the target (02, E14).
+#![tactic(auto)]
+
 ghost use Rattle.std.specs.Prelude.{◌≡◌, ◌+◌, ◌-◌, ◌*◌, ◌/◌, ◌%◌, ◌^◌, ◌<◌, ◌≤◌};
 ghost use Rattle.std.specs.Float.Ieee.{size};
 ghost use Rattle.wgsl.specs.Literal.{stepped, rounded};

@@ -9,7 +9,7 @@ use crate::wide::{wide, wide32};
 // The most that a number may be, and so the most bytes of a buffer.
 pub const LIMIT: usize = 4294967295;
 
-#[derive(Drop)]
+#[derive(Clone, Copy)]
 pub enum Limited {
     Is(u32),
     TooLarge,

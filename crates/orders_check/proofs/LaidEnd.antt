@@ -4,12 +4,9 @@
 -- Assumes nothing.
 use Prim.Native.Nat.{ℕ}
 use mathlib.Core.Bool.{Bool, true, false, cond, ◌&&◌}
-use mathlib.Core.List.{List, [], ◌∷◌}
 use mathlib.Core.Option.{Option, none, some}
 use mathlib.Core.Path.{◌≡◌, refl}
 use native.Mathlib.Omega.{arith}
-use types.Run.{OneOf, miss}
-use denote.Enum.Declared.{tag_of}
 use Rattle.wgsl.specs.Types.{Ty, scalar, vector, matrix, array, runtime, atomic, struct, Members, no_more, member, is_runtime}
 use Rattle.wgsl.specs.Size.{present, size_of, align_of, members_end, fits_limit, member_start, member_end}
 use Rattle.wgsl.specs.Rule.{when, is_allowed, given_fits, members_given_fit, is_well_formed}
@@ -19,10 +16,10 @@ use Rattle.wgsl.proofs.Absent.{true_not_false}
 use Rattle.layout_values.specs.declared.value.Value.{Value}
 use Rattle.layout_values.specs.declared.value.Made.TheVariants.{Laid, Rule, Given, Large}
 use Rattle.layout_values.specs.Value.{value_of, verdict_on}
+use Rattle.layout_structs.specs.declared.Ends.{Ends}
 use Rattle.layout_structs.specs.declared.SoFar.{SoFar}
 use Rattle.layout_structs.specs.declared.SoFar.TheVariants.{Good, Unfit, TooLarge}
 use Rattle.layout_structs.specs.SoFar.{appended, ends_of, members_fit, so_far}
-use Rattle.layout_structs.specs.contracts.SoFar as so_far
 use Rattle.orders_check.specs.Checked.{laid_end}
 
 -- ---- what the verdict on a type says
@@ -83,14 +80,10 @@ tail_start (struct k ms) size o e = true_not_false e refl
 
 -- ---- members that are too large
 
--- the numbers of the verdicts but the first
-abbrev pub others : List ℕ
-others = 1 ∷ 2 ∷ []
-
 -- Members whose given sizes and aligns fit are placed or too large.
-pub not_placed : (ms : Members) (r : SoFar) → members_given_fit ms ≡ true → r ≡ so_far ms → OneOf others (tag_of so_far.the_type r) → r ≡ TooLarge
+pub not_placed : (ms : Members) (r : SoFar) → members_given_fit ms ≡ true → r ≡ so_far ms → ((x : Ends) → r ≡ Good x → ⊥) → r ≡ TooLarge
 unfolding so_far
-not_placed ms (Good p) g e h = absurd (miss others 0 tt h)
+not_placed ms (Good p) g e h = absurd (h p refl)
 not_placed ms Unfit g e h = go (members_fit ms) (rw g at e)
   where
     go : (b : Bool) → Unfit ≡ cond b (Good (ends_of ms)) TooLarge → Unfit ≡ TooLarge

@@ -8,8 +8,6 @@ use mathlib.Core.Logic.{⊎_elim}
 use mathlib.Core.Option.{Option, none, some}
 use mathlib.Core.Path.{◌≡◌, refl, sym, ap, ◌∙◌}
 use native.Mathlib.Omega.{arith}
-use types.Run.{OneOf}
-use denote.Enum.Declared.{tag_of}
 use Rattle.wgsl.specs.Round.{IsPower, up}
 use Rattle.wgsl.specs.Types.{Ty, struct, Members, is_runtime, is_open, ends_in_runtime, everywhere, every_member}
 use Rattle.wgsl.specs.Size.{given_or, is_present, present, size_of, align_of, members_end, member_start}
@@ -30,7 +28,6 @@ use Rattle.layout_structs.specs.declared.SoFar.{SoFar}
 use Rattle.layout_structs.specs.declared.SoFar.TheVariants.{Good, TooLarge}
 use Rattle.layout_structs.specs.declared.Stepped.TheVariants.{Next}
 use Rattle.layout_structs.specs.SoFar.{all_sized, followed, ends_of, struct_of, so_far, stepped_to, Joins, Complete, Ended}
-use Rattle.layout_structs.specs.contracts.SoFar as so_far
 use Rattle.layout_structs.proofs.Appended.{after_count, after_every, after_given, after_runtime}
 use Rattle.layout_structs.proofs.Going.{next_start, going_end}
 use Rattle.layout_structs.proofs.SoFarOf.{limited_is}
@@ -39,7 +36,7 @@ use Rattle.layout_structs.proofs.Joins.{joins_power, joins_past, joins_open}
 use Rattle.layout_structs.proofs.Meets.{steps_next, steps_joins, steps_large}
 use Rattle.layout_structs.proofs.Ended.{closes_placed, closes_past, ended_power, ended_opens, ended_closes, ended_past}
 use Rattle.orders_check.specs.Checked.{found, laid_end, Last}
-use Rattle.orders_check.proofs.LaidEnd.{verdict_laid, verdict_large, end_none, end_some, tail_after, tail_start, others, not_placed}
+use Rattle.orders_check.proofs.LaidEnd.{verdict_laid, verdict_large, end_none, end_some, tail_after, tail_start, not_placed}
 
 -- the number given, or the type's own
 given_known : (given own : Option ℕ) (x z : ℕ) → own ≡ some x → z ≡ or_own given x → given_or given own ≡ some z
@@ -88,13 +85,13 @@ module _ {run : SoFar} {l : Value} {m : MemberEntry} {ms : Members} {t : Ty} (j 
       (closes_past 0 0 k (followed ms t m) (record { verdict = sym e; complete = complete })))
 
   -- Where those before are too large, so are all.
-  pub before_large : (k : ℕ) → OneOf others (tag_of so_far.the_type run) → none ≡ laid_end k (followed ms t m)
+  pub before_large : (k : ℕ) → ((x : Ends) → run ≡ Good x → ⊥) → none ≡ laid_end k (followed ms t m)
   before_large k h =
       let e = not_placed ms run j.given j.meets.verdict h in
       let s = steps_large true ms t m j.rest_zero j.allowed run l j.meets j.size_fits j.align_fits e in
       large_none k (cc (last_stepped, s))
 
-  pub all_large : (k : ℕ) (r : SoFar) → r ≡ so_far (followed ms t m) → OneOf others (tag_of so_far.the_type r) → none ≡ laid_end k (followed ms t m)
+  pub all_large : (k : ℕ) (r : SoFar) → r ≡ so_far (followed ms t m) → ((x : Ends) → r ≡ Good x → ⊥) → none ≡ laid_end k (followed ms t m)
   all_large k r e h = large_none k (sym e ∙ not_placed (followed ms t m) r given_fits_lem e h)
 
   -- ---- a last member that is a runtime array

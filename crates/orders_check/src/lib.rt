@@ -1,4 +1,6 @@
 // Whether an order names every member once, and where a struct ends with its members in that order.
+#![tactic(auto)]
+
 ghost use Rattle.std.specs.Prelude.{◌≡◌, true, ◌&&◌, ℕ, ◌≤◌, length};
 ghost use Rattle.std.proofs.Math.Option.{some};
 ghost use Rattle.wgsl.specs.Types.{Ty, Members};

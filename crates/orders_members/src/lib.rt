@@ -1,4 +1,6 @@
 // The members of a struct as orders see them: by their keys.
+#![tactic(auto)]
+
 ghost use Rattle.std.specs.Prelude.{◌≡◌, ℕ};
 ghost use Rattle.std.proofs.Math.Option.{Option};
 ghost use Rattle.wgsl.specs.Types.{Ty};

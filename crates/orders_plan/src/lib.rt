@@ -1,4 +1,6 @@
 // The planned order: a pass over the members for each alignment, from the largest down, and one for the runtime array.
+#![tactic(auto)]
+
 ghost use Rattle.std.specs.Prelude.{◌≡◌, ◌++◌, ◌+◌, ◌≤◌, length, drop};
 ghost use Rattle.std.proofs.lemmas.List.Edits.{sets};
 ghost use Rattle.wgsl.specs.Types.{Members};

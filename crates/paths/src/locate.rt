@@ -18,7 +18,7 @@ use walk_path::enter::Stand;
 use walk_path::walk::walk;
 
 // What a buffer holds of an entry: the elements of its runtime array, if it has one, and where it ends.
-#[derive(Drop)]
+#[derive(Clone, Copy)]
 pub enum Held {
     Is(usize, usize),
     No,

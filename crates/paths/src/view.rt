@@ -16,7 +16,7 @@ pub fn view_at(file: &[u8], entry: u32, path: &[u32], buf: &[u8]) -> Walked
 }
 
 // A part of a buffer: the bytes from one place up to another.
-#[derive(Drop)]
+#[derive(Clone, Copy)]
 struct Part {
     from: usize,
     to: usize,

@@ -1,4 +1,6 @@
 // Bytes put into a lent buffer, one part after the other.
+#![tactic(auto)]
+
 ghost use Rattle.std.specs.Prelude.{◌+◌, ◌≤◌, length};
 ghost use Rattle.puts.specs.Put.{Put};
 

@@ -1,5 +1,7 @@
 // Runs: words of one width that lie one after the other, as the scalars of a vector, of a matrix column and of an array of scalars do;
 // and parts, runs that each begin a stride after the one before.
+#![tactic(auto)]
+
 ghost use Rattle.std.specs.Prelude.{◌≡◌, ◌⊎◌, ℕ, ◌+◌, ◌*◌, ◌<◌, ◌≤◌, length, get_or, set};
 ghost use Rattle.wgsl.specs.Number.{store};
 ghost use Rattle.runs.specs.Fold.{Stores, Loads, Tests};
@@ -9,7 +11,7 @@ ghost use Rattle.runs.specs.Ask.{PartsRoom, said_scan};
 use numbers::bytes::{store_u16, store_u32, u16_at, u32_at};
 
 // `count` runs of `unit` words of `width` bytes, each a `stride` after the one before.
-#[derive(Drop)]
+#[derive(Clone, Copy)]
 pub struct Parts {
     pub count: usize,
     pub unit: usize,
@@ -18,7 +20,7 @@ pub struct Parts {
 }
 
 // That the words fit, or the position of the first that does not.
-#[derive(Drop)]
+#[derive(Clone, Copy)]
 pub enum Scan {
     Fine,
     Bad(usize),

@@ -5,14 +5,14 @@ use crate::refusal::Refusal;
 pub const NO_SCALAR: u32 = 7;
 
 // What a path leads to: its offset, its bytes, and the kind of the one scalar that it is, or `NO_SCALAR`.
-#[derive(Drop)]
+#[derive(Clone, Copy)]
 pub struct Target {
     pub offset: usize,
     pub size: usize,
     pub scalar: u32,
 }
 
-#[derive(Drop)]
+#[derive(Clone, Copy)]
 pub enum Walked {
     To(Target),
     Refused(Refusal),

@@ -20,14 +20,14 @@ use walk_path::step::Step;
 use walk_path::walk::walk;
 
 // A member of a block, where it begins and how many bytes it has, and what a path leads to in it.
-#[derive(Drop)]
+#[derive(Clone, Copy)]
 pub struct Spot {
     pub from: usize,
     pub size: usize,
     pub target: Target,
 }
 
-#[derive(Drop)]
+#[derive(Clone, Copy)]
 pub enum Found {
     At(Spot),
     Refused(Refusal),

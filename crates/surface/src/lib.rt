@@ -1,5 +1,7 @@
 // The exports for C: numbers and slices in, one struct of 16 bytes out. Nothing is decided here. The shim declares each of them again, in
 // Rust (shim/src/surface.rs); a test holds it to this file.
+#![tactic(auto)]
+
 ghost use Rattle.std.specs.Prelude.{◌≡◌, cond};
 ghost use Rattle.wgsl.specs.Call.{check_of, size_call, align_call, min_size_call, layout_call, rank_call, common_call, answer_of, contents_of, read_call, write_call, offset_of, view_call, set_call};
 ghost use Rattle.wgsl.specs.BitField.{extracted_u32, extracted_i32, inserted, pattern_of, signed_of};
@@ -19,7 +21,7 @@ use said::target::Walked;
 
 // An answer as it crosses to C: 0 or document 01's number, its place, the value (0 when refused).
 #[repr(C)]
-#[derive(Drop)]
+#[derive(Clone, Copy)]
 pub struct Crossing {
     pub refusal: u32,
     pub place: u32,

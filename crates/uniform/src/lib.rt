@@ -1,5 +1,7 @@
 // The uniform profile: whether an entry may live in a uniform buffer. Upward from entry 0, each entry is told the lowest broken one among
 // it and those that it reaches.
+#![tactic(auto)]
+
 ghost use Rattle.std.specs.Prelude.{◌≡◌, true, List, ℕ, ◌*◌, ◌<◌, length};
 ghost use Rattle.wgsl.specs.Types.{Ty, everywhere};
 ghost use Rattle.wgsl.specs.Rule.{is_well_formed};

@@ -1,4 +1,6 @@
 // The rules of the uniform profile for one type, by the table: where the members of a struct start, the stride of an array, no atomic.
+#![tactic(auto)]
+
 ghost use Rattle.std.specs.Prelude.{◌≡◌, ◌*◌, ◌≤◌};
 ghost use Rattle.wgsl.specs.Round.{limit};
 ghost use Rattle.uniform_rules.specs.Keeps.{is_raised, start_keeps, earliest_by, slots_keep, SlotsAll, keeps_by, KeepsAsk};

@@ -1,5 +1,7 @@
 // What calls decide before they go through an entry: 17, 9 and 10, 16, how many elements a runtime array has, and what lies after the
 // fixed part.
+#![tactic(auto)]
+
 ghost use Rattle.std.specs.Prelude.{◌≡◌, true, ◌<◌, ◌≤◌};
 ghost use Rattle.wgsl.specs.Types.{Ty, everywhere};
 ghost use Rattle.wgsl.specs.Rule.{is_well_formed};
@@ -18,7 +20,7 @@ use runs::Scan;
 use said::refusal::Refusal;
 use walk_trees::member_in;
 
-#[derive(Drop)]
+#[derive(Clone, Copy)]
 pub enum Allowed {
     Yes,
     Refused(Refusal),
@@ -55,7 +57,7 @@ pub fn fit(s: Scan) -> Allowed
 }
 
 // A number, or none that would do.
-#[derive(Drop)]
+#[derive(Clone, Copy)]
 pub enum Fits {
     Is(usize),
     No,
@@ -108,7 +110,7 @@ pub fn elements_in(bytes: usize, first: usize, stride: u32) -> Fits
 }
 
 // What lies after the fixed part of an entry: parts as a value says, from a byte and from a word on.
-#[derive(Drop)]
+#[derive(Clone, Copy)]
 pub struct Rest {
     pub value: Value,
     pub offset: usize,

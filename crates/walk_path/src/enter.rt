@@ -19,21 +19,21 @@ use said::target::NO_SCALAR;
 use walk_trees::member_in;
 
 // Where a walk stands: at an entry, or at a matrix's column of so many rows over the entry of its scalar, since a column has no entry.
-#[derive(Drop)]
+#[derive(Clone, Copy)]
 pub enum Stand {
     Entry(usize),
     Column(u32, usize),
 }
 
 // A place, so many bytes after the one that a step was taken from, and of so many bytes.
-#[derive(Drop)]
+#[derive(Clone, Copy)]
 pub struct Inner {
     pub offset: usize,
     pub size: usize,
     pub stand: Stand,
 }
 
-#[derive(Drop)]
+#[derive(Clone, Copy)]
 pub enum Entered {
     Into(Inner),
     // document 01's 11, 12, 13

@@ -3,7 +3,7 @@ ghost use Rattle.std.specs.Prelude.{◌≡◌};
 ghost use Rattle.wgsl.specs.Path.{step_of};
 ghost use Rattle.walk_path.specs.Step.{step_is};
 
-#[derive(Drop)]
+#[derive(Clone, Copy)]
 pub struct Step {
     pub member: bool,
     pub number: u32,

@@ -1,5 +1,7 @@
 // Pieces: the runs that a type's words lie in, worked out once for all elements of an array. Those that touch are joined, so that a piece may
 // go through several members, structs and arrays. Entry numbers fall.
+#![tactic(auto)]
+
 ghost use Rattle.std.specs.Prelude.{◌≡◌, true, ℕ, ◌+◌, ◌*◌, ◌<◌, ◌≤◌, length};
 ghost use Rattle.wgsl.specs.Place.{Shape, places_of, span_of};
 ghost use Rattle.wgsl.specs.Round.{limit};
@@ -29,7 +31,7 @@ pub fn no_pieces() -> Pieces
 }
 
 // A piece: where it begins in its type, how many words it has, and the bytes of each.
-#[derive(Drop)]
+#[derive(Clone, Copy)]
 pub struct Piece {
     pub start: usize,
     pub words: usize,

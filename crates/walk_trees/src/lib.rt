@@ -1,4 +1,6 @@
 // Walking a type's words by the table: where a struct's members lie, and which words lie one after the other.
+#![tactic(auto)]
+
 ghost use Rattle.std.specs.Prelude.{◌≡◌, List, ℕ, ◌+◌, ◌*◌, ◌<◌, ◌≤◌, length};
 ghost use Rattle.wgsl.specs.Place.{Shape, parts};
 ghost use Rattle.wgsl.specs.Round.{IsPower, up, limit};
@@ -14,7 +16,7 @@ use numbers::wide::wide;
 use runs::Parts;
 
 // Where a member lies in its struct.
-#[derive(Drop)]
+#[derive(Clone, Copy)]
 pub struct Slot {
     pub ty: usize,
     pub start: usize,
@@ -23,7 +25,7 @@ pub struct Slot {
 }
 
 // Elements of an array: `count` of them, of `unit` words each, a `stride` from one to the next.
-#[derive(Drop)]
+#[derive(Clone, Copy)]
 pub struct Series {
     pub count: usize,
     pub unit: usize,

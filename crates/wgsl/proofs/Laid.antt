@@ -22,7 +22,7 @@ use Rattle.wgsl.proofs.Passed.{passed, matrix_passed, array_passed, runtime_pass
 use Rattle.wgsl.proofs.Align.{width_power, atomic_width, VectorAligned, vector_align_lem, member_aligned, align_power, members_power}
 use Rattle.wgsl.proofs.Shape.{divides_multiple, from_low}
 use Rattle.wgsl.proofs.Tail.{sized_has, sized_takes}
-use Rattle.wgsl.proofs.Members.{Member, first_member, member_extent, member_room, member_has, start_is, end_after, end_of, struct_end}
+use Rattle.wgsl.proofs.Members.{Member, first_member, member_extent, member_room, member_has, start_is, end_after_lem, end_of, struct_end}
 
 -- ---- what is to be shown of a type: its shape is sound, takes its extent, and suits its alignment
 
@@ -176,7 +176,7 @@ mutual
       (λ (s : is_present (size_of t) ≡ true).
       let z' = given_present size (size_of t) s in
       let q : member_end (some lo) align (align_of t) size (size_of t) ≡ some lo' =
-      end_after n lo mx.left t size al z'.0 m.well mx.left_is z'.1
+      end_after_lem n lo mx.left t size al z'.0 m.well mx.left_is z'.1
       ∙ ap (λ (i : ℕ). some (up i lo + member_extent n t size)) a in
       rw q (fields_laid n z lo' all ms mx.right m.rest_well m.rest_allowed m.rest_fits mx.right_is p
       (omega (arith, mx.is)) end'))

@@ -107,9 +107,9 @@ unfolding start_after both
 start_is lo a align e = rw e
 
 -- the end of a member that has a size
-pub end_after : (n lo a : ℕ) (t : Ty) (size align : Option ℕ) (m : ℕ) → everywhere is_well_formed t ≡ true → align ≡ some a → given_or size (size_of t) ≡ some m → end_after (some lo) align (given_or size (size_of t)) ≡ some (up (present align) lo + member_extent n t size)
+pub end_after_lem : (n lo a : ℕ) (t : Ty) (size align : Option ℕ) (m : ℕ) → everywhere is_well_formed t ≡ true → align ≡ some a → given_or size (size_of t) ≡ some m → end_after (some lo) align (given_or size (size_of t)) ≡ some (up (present align) lo + member_extent n t size)
 unfolding end_after start_after both present
-end_after n lo a t size align m w e h = rw (e, h, sized_extent n t size m w h)
+end_after_lem n lo a t size align m w e h = rw (e, h, sized_extent n t size m w h)
 
 -- where the members end, the one before the first having ended at lo and the last perhaps a runtime array of n elements
 unfoldable pub end_of : ℕ → ℕ → Members → ℕ
@@ -160,7 +160,7 @@ tail_end n lo (member t size align ms) b before end w ok g h from e =
     (⊎_elim
     (λ (p : is_present (size_of t) ≡ true).
     let z = given_present size (size_of t) p in
-    inr (rw f (end_after n lo a.0 t size al z.0 m.well a.1 z.1)))
+    inr (rw f (end_after_lem n lo a.0 t size al z.0 m.well a.1 z.1)))
     (λ (p : (is_last ms ≡ true) × (is_runtime t ≡ true)). inl p.0) m.sized_or_last) e
 
 -- A struct takes at least what its members take.

@@ -1,5 +1,7 @@
 // Testing words by the table, before any of them is stored: the lowest that an f16 cannot hold. Entry numbers fall. The list of pieces is lent
 // down the walk, so that it is on the stack once.
+#![tactic(auto)]
+
 ghost use Rattle.std.specs.Prelude.{◌≡◌, ℕ, ◌≤◌, length};
 ghost use Rattle.wgsl.specs.Said.{good};
 ghost use Rattle.wgsl.specs.Round.{limit};

@@ -1,0 +1,21 @@
+use Prim.Native.Nat.{◌+◌, ◌-◌, ◌*◌, ◌<◌, ◌≤◌}
+use mathlib.Core.Path.{◌≡◌, refl, ap, sym, ◌∙◌}
+use native.Mathlib.Nat.{mul-suc, mul-zero}
+use native.Mathlib.Numerals.{add-one}
+use native.Mathlib.Omega.{arith}
+use borrow.Author.Rules.{rules}
+use lib.ListN.{length}
+use lib.Seq.{sets}
+use Rattle.puts.proofs.PutLaws.{put_length}
+use Rattle.forms.specs.Entries.{entries_from}
+use Rattle.wgsl.proofs.MemberLength.{entry_within}
+use Rattle.forms.proofs.MovedEntries.{entry_long, entries_long, entries_next, entries_none}
+use Rattle.forms.proofs.entries.put_entries.Given as goal
+
+abbrev pub invariant-loop-m : goal.invariant-loop-m
+invariant-loop-m l =
+    (sets l.out l.end (entries_from l.f l.long l.name (l.members - l.m) l.next) ≡ sets l.initial.out l.at (entries_from l.f l.long l.name l.members l.from))
+    × (l.m ≤ l.members) × (l.next ≡ l.from + l.long * l.m) × (l.end ≡ l.at + (12 + length l.name) * l.m) × (length l.out ≡ length l.initial.out)
+
+abbrev pub decreases-loop-m : goal.decreases-loop-m
+decreases-loop-m l = l.members - l.m

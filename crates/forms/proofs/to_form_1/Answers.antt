@@ -1,0 +1,61 @@
+-- A file of form 2 without names is put out (`back_goes`).
+use Prim.Native.Nat.{◌+◌, ◌*◌}
+use mathlib.Core.Path.{◌≡◌, refl, ap, sym, ◌∙◌}
+use mathlib.Core.Bool.{not}
+use native.Mathlib.Omega.{arith}
+use borrow.Author.Rules.{rules}
+use Rattle.wgsl.specs.File.{member_entry_length}
+use Rattle.wgsl.specs.Number.{bytes_of}
+use Rattle.wgsl.specs.Form.{nameless}
+use Rattle.said.proofs.Answered.{answered_refused, answered_same}
+use Rattle.forms.proofs.FormIs.{told_form, told_other}
+use Rattle.forms.proofs.MoveSaid.{form_checked, entries_begin, entries_inside, members_are, back_refused, back_named, back_goes}
+use Rattle.forms.proofs.to_form_1.Goals as goal
+
+pub is_named-requires : goal.is_named-requires
+unfolding member_entry_length
+is_named-requires c =
+    let said = c.form_is in
+    let told = told_form 2 _ said.result said.ensures _ c.in-Types.is in
+    let start = c.wide.ensures.0 in
+    let types = c.wide-in-Types.ensures.0 in
+    let members = c.wide-in-Types-2.ensures.0 in (
+      told.0.form_is_here,
+      omega (arith, start, types, entries_begin _ _ told.0 told.1),
+      omega (arith, start, types, members, entries_inside _ _ told.0 told.1),
+    )
+
+pub returns-then-is_named : goal.returns-then-is_named
+returns-then-is_named c =
+    let x = c in
+    let said = c.form_is in
+    let told = told_form 2 _ said.result said.ensures _ c.in-Types.is in
+    let all = c.wide-in-Types-2.ensures.0 ∙ members_are _ _ told.0 told.1 in
+    let both = answered_refused x.args.out.now
+    (back_named _ _ told.0 (ap (λ n. not (nameless x.args.file.now n)) (sym all) ∙ sym c.is_named.ensures ∙ c.if-is_named.true)) in
+    record { answer = both.0; out = both.1 }
+
+pub put_out-requires : goal.put_out-requires
+unfolding member_entry_length bytes_of
+put_out-requires c =
+    let said = c.form_is in
+    let told = told_form 2 _ said.result said.ensures _ c.in-Types.is in
+    (form_checked _ _ told.0 told.1, omega arith, omega arith, refl, refl)
+
+pub returns-in-Refused : goal.returns-in-Refused
+returns-in-Refused c =
+    let x = c in
+    let said = c.form_is in
+    let both = answered_refused x.args.out.now (back_refused _ _ (told_other 2 _ said.result said.ensures _ c.in-Refused.is)) in
+    record { answer = both.0; out = both.1 }
+
+pub returns-else-is_named : goal.returns-else-is_named
+returns-else-is_named c =
+    let x = c in
+    let said = c.form_is in
+    let told = told_form 2 _ said.result said.ensures _ c.in-Types.is in
+    let all = c.wide-in-Types-2.ensures.0 ∙ members_are _ _ told.0 told.1 in
+    let both = answered_same x.args.out.now
+    (back_goes _ _ told.0 (ap (λ n. not (nameless x.args.file.now n)) (sym all) ∙ sym c.is_named.ensures ∙ c.if-is_named.false))
+    c.put_out.ensures in
+    record { answer = both.0; out = both.1 }

@@ -1,0 +1,18 @@
+use Prim.Native.Nat.{◌+◌, ◌-◌, ◌*◌}
+use mathlib.Core.Path.{◌≡◌, refl, ◌∙◌}
+use native.Mathlib.Omega.{arith}
+use borrow.Author.Rules.{rules}
+use lib.ListN.{length}
+use Rattle.walk_pieces.specs.Piece.{pieces_places, PiecesRoom}
+use Rattle.runs.proofs.OverPlaces.{Repeating, repeating_start, repeating_next, repeating_all}
+use Rattle.gaps_sweep.specs.Sweep.{swept_of, sweeping, Countable}
+use Rattle.gaps_sweep.proofs.Sweep.{sweep_keeps, keeps_countable, any_number}
+use Rattle.gaps_sweep.proofs.pieces.sweep_each.Given as goal
+
+abbrev pub invariant-loop-i : goal.invariant-loop-i
+invariant-loop-i l =
+    Repeating sweeping (λ q. pieces_places l.few l.pieces q) l.p.count l.p.unit l.p.stride l.at 0 (swept_of l.initial.buf l.initial.r) l.i (swept_of l.buf l.r)
+    × (length l.buf ≡ length l.initial.buf) × Countable (swept_of l.buf l.r)
+
+abbrev pub decreases-loop-i : goal.decreases-loop-i
+decreases-loop-i l = l.p.count - l.i

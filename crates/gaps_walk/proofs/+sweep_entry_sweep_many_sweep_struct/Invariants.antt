@@ -1,0 +1,55 @@
+use borrow.Author.Rules.{rules}
+use Prim.Native.Nat.{ℕ, ◌+◌, ◌*◌, ◌<◌}
+use Rattle.walk_trees.proofs.Many.{depth}
+use Prim.Native.Nat.{ℕ}
+use mathlib.Core.Path.{sym, ◌∙◌}
+use native.Mathlib.Omega.{arith}
+use Rattle.walk_trees.proofs.Many.{tree_valued, tree_many, depth_below}
+use Prim.Native.Nat.{ℕ, ◌+◌, ◌-◌, ◌*◌}
+use mathlib.Core.Path.{◌≡◌}
+use native.Mathlib.Omega.{arith}
+use lib.ListN.{length}
+use Rattle.wgsl.specs.Place.{Shape}
+use Rattle.walk_trees.specs.Slot.{part_width}
+use Rattle.walk_trees.specs.Tree.{Many, Tree, RunsOf, Room}
+use Rattle.walk_trees.proofs.Many.{many_each}
+use Rattle.walk_trees.proofs.Room.{each_entry, each_room, Each}
+use Rattle.walk_trees.proofs.Rows.{runs_room}
+use Rattle.walk_pieces.specs.Piece.{Pieced, Listed}
+use Rattle.walk_pieces.proofs.Pass.{pieced_each, pieced_parts}
+use Rattle.gaps_sweep.specs.Sweep.{swept_of}
+use Rattle.gaps_walk.proofs.SweepSteps.{PartsSwept, parts_start, part_ready, parts_next, parts_none}
+use Prim.Native.Nat.{ℕ, ◌≤◌}
+use mathlib.Core.Path.{◌≡◌}
+use native.Mathlib.Nat.{mul-le-mul}
+use native.Mathlib.Omega.{arith}
+use lib.ListN.{length}
+use Rattle.walk_trees.proofs.Room.{type_is, type_tree, member_room}
+use Rattle.walk_trees.proofs.TreeSteps.{walk_first}
+use Rattle.gaps_sweep.specs.Sweep.{swept_of}
+use Rattle.gaps_walk.proofs.SweepSteps.{MembersSwept, members_start_lem, member_ready, members_next, members_none}
+use Rattle.walk_pieces.specs.Piece.{Listed}
+use Rattle.gaps_walk.proofs.+sweep_entry_sweep_many_sweep_struct.Given as goal
+
+abbrev pub decreases-sweep_entry : goal.decreases-sweep_entry
+decreases-sweep_entry l = 5 * l.e + 4
+
+abbrev pub decreases-sweep_many : goal.decreases-sweep_many
+decreases-sweep_many l = depth l.table.now l.l
+
+abbrev pub decreases-sweep_struct : goal.decreases-sweep_struct
+decreases-sweep_struct l = 5 * l.e + 3
+
+abbrev pub invariant-sweep_many-loop-i : goal.invariant-sweep_many-loop-i
+invariant-sweep_many-loop-i l =
+    PartsSwept l.members l.table l.element l.count l.unit l.stride l.at (swept_of l.initial.buf l.initial.r) l.i (swept_of l.buf l.r) × Listed l.pieces
+
+abbrev pub decreases-sweep_many-loop-i : goal.decreases-sweep_many-loop-i
+decreases-sweep_many-loop-i l = l.count - l.i
+
+abbrev pub invariant-sweep_struct-loop-left : goal.invariant-sweep_struct-loop-left
+invariant-sweep_struct-loop-left l =
+    MembersSwept l.members l.table l.e l.at (swept_of l.initial.buf l.initial.r) l.left l.m l.end (swept_of l.buf l.r) × Listed l.pieces
+
+abbrev pub decreases-sweep_struct-loop-left : goal.decreases-sweep_struct-loop-left
+decreases-sweep_struct-loop-left l = l.left

@@ -1,0 +1,14 @@
+use Prim.Native.Nat.{◌-◌, ◌≤◌}
+use mathlib.Core.Path.{◌≡◌, refl, ◌∙◌}
+use native.Mathlib.Omega.{arith}
+use borrow.Author.Rules.{rules}
+use lib.ListN.{length}
+use Rattle.layout_strays.specs.Strays.{Marks}
+use Rattle.layout_strays.proofs.Named.{entry_there, marks_next}
+use Rattle.layout_strays.proofs.mark_all.Given as goal
+
+abbrev pub invariant-loop-k : goal.invariant-loop-k
+invariant-loop-k l = (l.k ≤ l.types) × (length l.named ≡ length l.initial.named) × Marks l.f l.k l.members l.named
+
+abbrev pub decreases-loop-k : goal.decreases-loop-k
+decreases-loop-k l = l.types - l.k

@@ -1,0 +1,14 @@
+use Prim.Native.Nat.{◌-◌, ◌≤◌}
+use mathlib.Core.Path.{◌≡◌, ap, ◌∙◌}
+use native.Mathlib.Omega.{arith}
+use lib.ListN.{length}
+use borrow.Author.Rules.{rules}
+use Rattle.layout_values.proofs.ValuesOf.{length_table}
+use Rattle.listing_file.proofs.ListingOf.{Going, going_none, going_more, going_all}
+use Rattle.listing_file.proofs.put_entries.Given as goal
+
+abbrev pub invariant-loop-k : goal.invariant-loop-k
+invariant-loop-k l = Going l.table l.types l.initial.out l.initial.at l.out l.at l.k
+
+abbrev pub decreases-loop-k : goal.decreases-loop-k
+decreases-loop-k l = l.types - l.k

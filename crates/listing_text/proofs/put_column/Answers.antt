@@ -1,0 +1,12 @@
+-- Two puts, one after another.
+use Rattle.wgsl.specs.Listing.{space}
+use Rattle.listing_text.specs.Line.{marked_column}
+use Rattle.puts.proofs.PutLaws.{put_then}
+use borrow.Author.Rules.{rules}
+use Rattle.listing_text.proofs.put_column.Goals as goal
+
+pub returns : goal.returns
+unfolding marked_column space
+returns c =
+    let b = c in
+    put_then b.put-a.ensures b.put_marked.ensures

@@ -1,0 +1,9 @@
+-- Two stores are `store 2`.
+use native.Mathlib.Omega.{arith}
+use lib.ListN.{length-set}
+use Rattle.numbers.proofs.Store.{stores_two}
+use borrow.Author.Rules.{rules}
+use Rattle.numbers.proofs.bytes.store_u16.Goals as goal
+
+pub returns : goal.returns
+returns c = stores_two c.args.b.now c.args.at c.args.n c.ranges.n.fits

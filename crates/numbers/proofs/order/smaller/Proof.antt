@@ -1,7 +1,0 @@
--- All routine; written out so that a refusal is told of this function, and not of its callers.
-use borrow.Author.Rules.{rules}
-use Rattle.numbers.proofs.order.smaller.Statement.{statement}
-use Rattle.numbers.proofs.order.smaller.Tie as tie
-
-pub smaller-spec : {M : Type 1} → statement M
-smaller-spec = tie.close (tie.spec (λ c. search rules) (λ c. search rules))

@@ -1,0 +1,16 @@
+-- By whether it is open (specs/Promise). Assumes nothing.
+use mathlib.Core.Path.{◌≡◌, ap, sym, ◌∙◌}
+use borrow.Author.Rules.{rules}
+use Rattle.wgsl.proofs.Tail.{closed_extent}
+use Rattle.layout_values.specs.declared.value.Value.{Value}
+use Rattle.layout_values.specs.Value.{value_of}
+use Rattle.walk_decide.specs.declared.Rest.{Rest}
+use Rattle.orders.proofs.check.end_now.Goals as goal
+
+pub returns : goal.returns
+unfolding value_of
+returns c =
+    let else1 = c in
+    λ t x.
+    let closed_is = sym (else1.opens.ensures t x.value_is x.well_formed) ∙ else1.if-opens.false in
+    c.wide.ensures.0 ∙ ap (λ (l : Value). l.size) x.value_is ∙ sym (closed_extent 0 t closed_is)

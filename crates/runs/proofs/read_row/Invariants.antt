@@ -1,0 +1,17 @@
+use Prim.Native.Nat.{◌-◌}
+use mathlib.Core.Path.{◌≡◌, refl}
+use native.Mathlib.Omega.{arith}
+use borrow.Author.Rules.{rules}
+use lib.ListN.{length}
+use Rattle.runs.specs.Fold.{loading}
+use Rattle.runs.specs.Run.{run_places, part_places}
+use Rattle.runs.proofs.OverPlaces.{Repeating, repeating_start, repeating_next, repeating_all, run_length}
+use Rattle.runs.proofs.RunPlaces.{part_room}
+use Rattle.runs.proofs.read_row.Given as goal
+
+abbrev pub invariant-loop-i : goal.invariant-loop-i
+invariant-loop-i l =
+    Repeating (loading l.buf) (λ q. run_places l.unit l.width q) l.count l.unit l.stride l.at l.k l.initial.words l.i l.words × (length l.words ≡ length l.initial.words)
+
+abbrev pub decreases-loop-i : goal.decreases-loop-i
+decreases-loop-i l = l.count - l.i

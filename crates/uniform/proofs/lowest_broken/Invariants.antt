@@ -1,0 +1,19 @@
+use Prim.Native.Nat.{ℕ, ◌+◌, ◌-◌, ◌<◌, ◌≤◌}
+use mathlib.Core.List.{List}
+use mathlib.Core.Path.{◌≡◌, refl, sym, ◌∙◌}
+use native.Mathlib.Omega.{arith}
+use lib.ListN.{length, get_or, length-set}
+use Rattle.wgsl.specs.Types.{Ty}
+use Rattle.walk_shapes.specs.Basis.{Basis}
+use Rattle.uniform.specs.Lowest.{IsLowest}
+use Rattle.uniform.proofs.LowestBy.{few_entries, lowest_asks, told_on}
+use Rattle.uniform.proofs.lowest_broken.Given as goal
+
+abbrev pub invariant-loop-k : goal.invariant-loop-k
+invariant-loop-k l =
+    (l.k ≤ l.e + 1)
+    × (length l.told ≡ 256)
+    × ((f : List ℕ) (ts : List Ty) → Basis f ts l.members l.table → l.e < length ts → (j : ℕ) → j < l.k → IsLowest f ts j (get_or l.told j 0))
+
+abbrev pub decreases-loop-k : goal.decreases-loop-k
+decreases-loop-k l = l.e + 1 - l.k

@@ -1,0 +1,8 @@
+-- By the definition.
+use borrow.Author.Rules.{rules}
+use Rattle.walk_decide.specs.Decide.{closed_rest}
+use Rattle.walk_decide.proofs.closed_rest.Goals as goal
+
+pub returns : goal.returns
+unfolding closed_rest
+returns c = rw (c.wide.ensures.0, c.words_of.ensures)

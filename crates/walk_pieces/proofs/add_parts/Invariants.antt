@@ -1,0 +1,22 @@
+use Prim.Native.Nat.{◌+◌, ◌-◌, ◌*◌, ◌<◌, ◌≤◌}
+use mathlib.Core.Logic.{◌⊎◌, ⊎_elim}
+use mathlib.Core.Path.{◌≡◌, refl, ◌∙◌}
+use native.Mathlib.Nat.{mul_assoc}
+use native.Mathlib.Omega.{arith}
+use borrow.Author.Rules.{rules}
+use lib.ListN.{length}
+use Rattle.wgsl.specs.Place.{repeated}
+use Rattle.wgsl.specs.Round.{limit}
+use Rattle.runs.specs.Run.{run_places, part_places}
+use Rattle.runs.proofs.OverPlaces.{parts_touch}
+use Rattle.walk_pieces.specs.Piece.{most_pieces, Added}
+use Rattle.walk_pieces.proofs.Added.{words_low, added_none, added_as, part_ends, added_part, added_parts}
+use Rattle.walk_pieces.proofs.add_parts.Given as goal
+
+abbrev pub invariant-loop-i : goal.invariant-loop-i
+invariant-loop-i l =
+    (l.few ≤ most_pieces → Added l.k l.initial.pieces (λ q. repeated l.i l.p.stride (λ b. run_places l.p.unit l.p.width b) (q + l.at)) (l.at + l.p.count * l.p.stride) l.few l.pieces)
+    × (l.i ≤ l.p.count) × (length l.pieces ≡ length l.initial.pieces)
+
+abbrev pub decreases-loop-i : goal.decreases-loop-i
+decreases-loop-i l = l.p.count - l.i

@@ -1,0 +1,15 @@
+use mathlib.Core.Path.{◌≡◌, refl, sym, ◌∙◌}
+use native.Mathlib.Omega.{arith}
+use native.Mathlib.Nat.{mul-le-mul}
+use Prim.Native.Nat.{◌≤◌}
+use borrow.Author.Rules.{rules}
+use Rattle.walk_trees.specs.Slot.{slot_in, SlotsAsk}
+use Rattle.walk_trees.proofs.SlotIn.{next_placeable, rest_placeables, rest_placed}
+use Rattle.walk_trees.proofs.member_in.Given as goal
+
+abbrev pub invariant-loop-left : goal.invariant-loop-left
+invariant-loop-left l =
+    SlotsAsk l.members l.table l.length l.m l.end l.left × (slot_in l.members l.table l.length l.initial.m 0 l.number ≡ slot_in l.members l.table l.length l.m l.end l.left)
+
+abbrev pub decreases-loop-left : goal.decreases-loop-left
+decreases-loop-left l = l.left

@@ -1,0 +1,19 @@
+use Prim.Native.Nat.{ℕ, ◌+◌, ◌-◌, ◌*◌, ◌≤◌}
+use mathlib.Core.Path.{◌≡◌, refl}
+use native.Mathlib.Omega.{arith}
+use borrow.Author.Rules.{rules}
+use lib.ListN.{length}
+use Rattle.wgsl.specs.Said.{good}
+use Rattle.wgsl.specs.Place.{repeated}
+use Rattle.runs.specs.Fold.{over_places, testing}
+use Rattle.walk_pieces.specs.Piece.{pieces_places, PiecesRoom}
+use Rattle.walk_pieces.proofs.Pass.{each_more}
+use Rattle.words_pieces.proofs.testing.fitting.Given as goal
+
+abbrev pub invariant-loop-i : goal.invariant-loop-i
+invariant-loop-i l =
+    (l.i ≤ l.count)
+    × ((stride at : ℕ) → good tt ≡ over_places (testing l.words) (repeated l.i stride (λ q. pieces_places l.few l.pieces q) at) l.k (good tt))
+
+abbrev pub decreases-loop-i : goal.decreases-loop-i
+decreases-loop-i l = l.count - l.i

@@ -1,0 +1,21 @@
+use Prim.Native.Nat.{ℕ, ◌-◌, ◌≤◌}
+use mathlib.Core.Path.{refl}
+use native.Mathlib.Omega.{arith}
+use borrow.Author.Rules.{rules}
+use lib.ListN.{length}
+use Rattle.wgsl.specs.Said.{good}
+use Rattle.wgsl.specs.Place.{Place}
+use Rattle.runs.specs.Fold.{over_places, testing}
+use Rattle.walk_pieces.proofs.Pass.{Passed, pass_start, PieceRoom, piece_listed, piece_room, pass_next, pass_all}
+use Rattle.words_pieces.proofs.testing.largest_of.Given as goal
+
+pub idle : Place → ℕ → Unit {0} → Unit {0}
+idle p k s = tt
+
+abbrev pub invariant-loop-j : goal.invariant-loop-j
+invariant-loop-j l =
+    ((at : ℕ) → Passed idle l.few l.pieces at l.k tt l.j l.next tt)
+    × (l.r ≤ 65535 → (at : ℕ) → Passed (testing l.words) l.few l.pieces at l.k (good tt) l.j l.next (good tt))
+
+abbrev pub decreases-loop-j : goal.decreases-loop-j
+decreases-loop-j l = l.few - l.j

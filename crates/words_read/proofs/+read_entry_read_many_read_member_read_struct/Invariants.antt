@@ -1,0 +1,59 @@
+use borrow.Author.Rules.{rules}
+use Prim.Native.Nat.{ℕ, ◌+◌, ◌*◌, ◌<◌}
+use Rattle.walk_trees.specs.Slot.{member_at}
+use Rattle.walk_trees.proofs.Many.{depth}
+use Prim.Native.Nat.{ℕ}
+use native.Mathlib.Omega.{arith}
+use Rattle.walk_trees.proofs.Many.{tree_valued, tree_many, depth_below}
+use Prim.Native.Nat.{ℕ, ◌+◌, ◌-◌, ◌*◌}
+use mathlib.Core.Path.{◌≡◌, refl, ◌∙◌}
+use native.Mathlib.Omega.{arith}
+use lib.ListN.{length}
+use Rattle.wgsl.specs.Place.{Shape}
+use Rattle.runs.specs.Fold.{over_places, loading}
+use Rattle.walk_trees.specs.Tree.{Many, Room, RunsOf}
+use Rattle.walk_trees.proofs.Many.{many_none}
+use Rattle.walk_trees.proofs.Rows.{runs_room}
+use Rattle.walk_trees.proofs.Room.{each_entry, each_room, Each}
+use Rattle.walk_trees.proofs.TreeSteps.{Turn, turn_start, turn_next, turn_none}
+use Rattle.walk_pieces.proofs.Pass.{pieced_each, pieced_parts}
+use Rattle.walk_pieces.specs.Piece.{Listed}
+use Prim.Native.Nat.{ℕ}
+use mathlib.Core.Path.{sym, ◌∙◌}
+use native.Mathlib.Omega.{arith}
+use Rattle.walk_trees.proofs.Room.{type_is, type_inside, type_tree, member_room, run_places_lem, run_room}
+use Prim.Native.Nat.{ℕ, ◌≤◌}
+use mathlib.Core.Path.{◌≡◌, refl, ◌∙◌}
+use native.Mathlib.Nat.{mul-le-mul}
+use native.Mathlib.Omega.{arith}
+use lib.ListN.{length}
+use Rattle.runs.specs.Fold.{loading}
+use Rattle.walk_trees.proofs.TreeSteps.{Walk, walk_start, walk_first, walk_room, walk_words, walk_next, walk_none}
+use Rattle.walk_pieces.specs.Piece.{Listed}
+use Rattle.words_read.proofs.+read_entry_read_many_read_member_read_struct.Given as goal
+
+abbrev pub decreases-read_entry : goal.decreases-read_entry
+decreases-read_entry l = 5 * l.e + 4
+
+abbrev pub decreases-read_many : goal.decreases-read_many
+decreases-read_many l = depth l.table.now l.r
+
+abbrev pub decreases-read_member : goal.decreases-read_member
+decreases-read_member l = 5 * (member_at l.members.now l.m).type + 5
+
+abbrev pub decreases-read_struct : goal.decreases-read_struct
+decreases-read_struct l = 5 * l.e + 3
+
+abbrev pub invariant-read_many-loop-i : goal.invariant-read_many-loop-i
+invariant-read_many-loop-i l =
+    Turn (loading l.buf) l.members l.table l.element l.count l.unit l.stride l.at l.k l.initial.words l.i l.words × (length l.words ≡ length l.initial.words) × Listed l.pieces
+
+abbrev pub decreases-read_many-loop-i : goal.decreases-read_many-loop-i
+decreases-read_many-loop-i l = l.count - l.i
+
+abbrev pub invariant-read_struct-loop-left : goal.invariant-read_struct-loop-left
+invariant-read_struct-loop-left l =
+    Walk (loading l.buf) l.members l.table l.e l.at (length l.buf) l.k (length l.initial.words) l.initial.words l.left l.m l.end l.next l.words × (length l.words ≡ length l.initial.words) × Listed l.pieces
+
+abbrev pub decreases-read_struct-loop-left : goal.decreases-read_struct-loop-left
+decreases-read_struct-loop-left l = l.left
