@@ -3,14 +3,14 @@ ghost use Rattle.std.specs.Prelude.{◌+◌, ◌≤◌, length};
 ghost use Rattle.answers.specs.Count.{Counted};
 
 // Whether a text was numbers or bytes, and how many were put.
-#[derive(Drop)]
+#[derive(Clone, Copy)]
 pub struct Put {
     pub good: bool,
     pub count: usize,
 }
 
 // Whether there was a number, it, and the place after its last digit.
-#[derive(Drop)]
+#[derive(Clone, Copy)]
 struct Parsed {
     good: bool,
     value: u32,

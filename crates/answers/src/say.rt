@@ -1,152 +1,131 @@
-// Answers as text, on standard output.
+// Answers as text, put to a writer. An error is the writer's own.
 use crate::lines::spell;
-use libc::STDOUT_FILENO;
 use said::answer::{Answer, Cleaned, Maybe, Moved, Number, Pattern};
 use said::refusal::{Refusal, number, place};
 use said::target::Walked;
+use std::io::{self, Write};
 
-pub fn say(text: &[u8]) {
-    io::write_all(STDOUT_FILENO, text);
+pub fn say<W: Write>(out: &mut W, text: &[u8]) -> io::Result<()> {
+    out.write_all(text)
 }
 
-fn say_refused(r: Refusal) {
-    say(b"refused ");
-    io::print_decimal(STDOUT_FILENO, number(r) as u64);
-    say(b" at ");
-    io::print_decimal(STDOUT_FILENO, place(r) as u64);
+fn say_refused<W: Write>(out: &mut W, r: Refusal) -> io::Result<()> {
+    let n = number(r);
+    let at = place(r);
+    write!(out, "refused {n} at {at}")
 }
 
 // An answer, without the end of its line.
-pub fn say_plain(n: Number) {
+pub fn say_plain<W: Write>(out: &mut W, n: Number) -> io::Result<()> {
     match n {
-        Number::Is(v) => {
-            io::print_decimal(STDOUT_FILENO, v as u64);
-        }
-        Number::Refused(r) => say_refused(r),
+        Number::Is(v) => write!(out, "{v}"),
+        Number::Refused(r) => say_refused(out, r),
     }
 }
 
 // The answer of a move, without the end of its line.
-pub fn say_moved(m: Moved) {
+pub fn say_moved<W: Write>(out: &mut W, m: Moved) -> io::Result<()> {
     match m {
-        Moved::Is(v) => {
-            io::print_decimal(STDOUT_FILENO, v as u64);
-        }
-        Moved::Refused(r) => say_refused(r),
+        Moved::Is(v) => write!(out, "{v}"),
+        Moved::Refused(r) => say_refused(out, r),
     }
 }
 
 // What cleaning changed, how many bytes and the offset of the first, without the end of its line.
-pub fn say_cleaned(c: Cleaned) {
+pub fn say_cleaned<W: Write>(out: &mut W, c: Cleaned) -> io::Result<()> {
     match c {
         Cleaned::Is(g) => {
-            io::print_decimal(STDOUT_FILENO, g.changed as u64);
-            say(b" ");
-            io::print_decimal(STDOUT_FILENO, g.first as u64);
+            let changed = g.changed;
+            let first = g.first;
+            write!(out, "{changed} {first}")
         }
-        Cleaned::Refused(r) => say_refused(r),
+        Cleaned::Refused(r) => say_refused(out, r),
     }
 }
 
 // The pattern of a literal.
-pub fn say_pattern(p: Pattern) {
+pub fn say_pattern<W: Write>(out: &mut W, p: Pattern) -> io::Result<()> {
     match p {
-        Pattern::Is(bits) => {
-            io::print_decimal(STDOUT_FILENO, bits);
-        }
-        Pattern::Refused(r) => say_refused(r),
+        Pattern::Is(bits) => write!(out, "{bits}")?,
+        Pattern::Refused(r) => say_refused(out, r)?,
     }
-    say(b"\n");
+    say(out, b"\n")
 }
 
-pub fn say_number(n: Number) {
-    say_plain(n);
-    say(b"\n");
+pub fn say_number<W: Write>(out: &mut W, n: Number) -> io::Result<()> {
+    say_plain(out, n)?;
+    say(out, b"\n")
 }
 
-fn say_maybe(m: Maybe, end: &[u8]) {
+fn say_maybe<W: Write>(out: &mut W, m: Maybe, end: &[u8]) -> io::Result<()> {
     match m {
-        Maybe::Is(v) => {
-            io::print_decimal(STDOUT_FILENO, v as u64);
-        }
-        Maybe::Absent => say(b"-"),
+        Maybe::Is(v) => write!(out, "{v}")?,
+        Maybe::Absent => say(out, b"-")?,
     }
-    say(end);
+    say(out, end)
 }
 
-pub fn say_layout(a: Answer) {
+pub fn say_layout<W: Write>(out: &mut W, a: Answer) -> io::Result<()> {
     match a {
         Answer::Is(s) => {
-            let size = s.size;
-            let align = s.align;
-            let min = s.min;
-            let stride = s.stride;
-            say_maybe(size, b" ");
-            say_maybe(align, b" ");
-            say_maybe(min, b" ");
-            say_maybe(stride, b"\n");
+            say_maybe(out, s.size, b" ")?;
+            say_maybe(out, s.align, b" ")?;
+            say_maybe(out, s.min, b" ")?;
+            say_maybe(out, s.stride, b"\n")
         }
         Answer::Refused(r) => {
-            say_refused(r);
-            say(b"\n");
+            say_refused(out, r)?;
+            say(out, b"\n")
         }
     }
 }
 
 // What a buffer holds, after a space, if it holds anything.
-pub fn say_bytes(b: &[u8]) {
+pub fn say_bytes<W: Write>(out: &mut W, b: &[u8]) -> io::Result<()> {
     if b.len() == 0 {
-        return;
+        return Ok(());
     }
     let mut text = [0u8; 8192];
     let p = spell(b, &mut text);
     let n = p.count;
-    say(b" ");
-    say(&text[..n]);
+    say(out, b" ")?;
+    say(out, &text[..n])
 }
 
 // Words, a space before each.
-pub fn say_words(words: &[u32]) {
-    let n = words.len();
-    let mut i: usize = 0;
-    while i < n {
-        say(b" ");
-        io::print_decimal(STDOUT_FILENO, words[i] as u64);
-        i += 1;
+pub fn say_words<W: Write>(out: &mut W, words: &[u32]) -> io::Result<()> {
+    for word in words {
+        write!(out, " {word}")?;
     }
+    Ok(())
 }
 
 // Where a path leads: its offset and how many bytes it has, or a refusal.
-pub fn say_walked(w: Walked) {
+pub fn say_walked<W: Write>(out: &mut W, w: Walked) -> io::Result<()> {
     match w {
         Walked::To(t) => {
-            io::print_decimal(STDOUT_FILENO, t.offset as u64);
-            say(b" ");
-            io::print_decimal(STDOUT_FILENO, t.size as u64);
+            let offset = t.offset;
+            let size = t.size;
+            write!(out, "{offset} {size}")
         }
-        Walked::Refused(r) => say_refused(r),
+        Walked::Refused(r) => say_refused(out, r),
     }
 }
 
 // A mask, after a space.
-pub fn say_mask(mask: u64) {
-    say(b" ");
-    io::print_decimal(STDOUT_FILENO, mask);
+pub fn say_mask<W: Write>(out: &mut W, mask: u64) -> io::Result<()> {
+    write!(out, " {mask}")
 }
 
 // Where a member lies: its offset, how many bytes it has and which buffer shows it, or a refusal.
-pub fn say_shown(w: Walked, on: bool) {
+pub fn say_shown<W: Write>(out: &mut W, w: Walked, on: bool) -> io::Result<()> {
     match w {
         Walked::To(t) => {
-            io::print_decimal(STDOUT_FILENO, t.offset as u64);
-            say(b" ");
-            io::print_decimal(STDOUT_FILENO, t.size as u64);
-            if on {
-                say(b" site");
-            } else {
-                say(b" factory");
-            }
+            let offset = t.offset;
+            let size = t.size;
+            let whose = if on { "site" } else { "factory" };
+            write!(out, "{offset} {size} {whose}")
         }
-        Walked::Refused(r) => say_refused(r),
+        Walked::Refused(r) => say_refused(out, r),
     }
 }
