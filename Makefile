@@ -32,7 +32,6 @@ run: cli
 
 # Everything that must hold. The last line is that of `rt ci`.
 test:
-	@rt fmt --check
 	@tools/believed --check
 	@tools/doors
 	@tools/gate

@@ -137,11 +137,11 @@ fn calls_are_in_the_header_as_they_are() {
 fn there_are_as_many_calls_as_exports() {
     assert_eq!(
         functions(SURFACE, "pub fn ").len(),
-        RATTLE.matches("#[no_mangle]").count()
+        RATTLE.matches("#[unsafe(no_mangle)]").count()
     );
     assert_eq!(
         functions(SHIM, "extern \"C\" fn ").len(),
-        RATTLE.matches("#[no_mangle]").count()
+        RATTLE.matches("#[unsafe(no_mangle)]").count()
     );
-    assert!(RATTLE.contains("#[no_mangle]"));
+    assert!(RATTLE.contains("#[unsafe(no_mangle)]"));
 }
