@@ -18,7 +18,6 @@ use Rattle.wgsl.specs.Rank.{Candidate, rank_of, common_of_all}
 use Rattle.wgsl.specs.Call.{entry_of, rank_call, entries_of, common_call}
 use Rattle.wgsl.proofs.Absent.{both_hold, true_not_false}
 use Rattle.wgsl.proofs.Said.{then_is, then_refused}
-use Rattle.wgsl.proofs.Accepted.{accepted}
 use Rattle.said.specs.Refusal.{number_of, place_of}
 use Rattle.said.specs.declared.refusal.Refusal.{Refusal}
 use Rattle.file.specs.declared.trailer.Trailer.{Trailer}

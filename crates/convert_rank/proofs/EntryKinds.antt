@@ -2,7 +2,7 @@
 --
 -- In order: an entry over a scalar; the kind that an entry's type begins with; the kind of a scalar.
 -- Assumes nothing.
-use Prim.Native.Nat.{ℕ, zero, suc, ◌+◌, ◌-◌, ◌<◌, ◌≤◌}
+use Prim.Native.Nat.{ℕ, zero, suc, ◌+◌, ◌-◌, ◌<◌}
 use mathlib.Core.Bool.{Bool, true, false}
 use mathlib.Core.List.{List}
 use mathlib.Core.Path.{◌≡◌, refl, sym, ◌∙◌}
@@ -12,7 +12,7 @@ use Rattle.wgsl.specs.File.{TypeEntry}
 use Rattle.wgsl.specs.Rank.{outline_of}
 use Rattle.wgsl.proofs.Fields.{OverScalar}
 use Rattle.wgsl.proofs.ScalarKind.{other_range}
-use Rattle.wgsl.proofs.AtEntry.{At, scalar_at_lem, vector_at, matrix_at, array_at, runtime_at, atomic_at, struct_at, kind_high}
+use Rattle.wgsl.proofs.AtEntry.{At, scalar_lies_at, vector_at, matrix_at, array_at, runtime_at, atomic_at, struct_at, kind_high}
 use Rattle.convert_rank.specs.Ranked.{over_scalar}
 use Rattle.convert_rank.proofs.RankOf.{front}
 use Rattle.convert_rank.proofs.OverScalar.{is_vector, is_matrix, is_atomic}
@@ -39,7 +39,7 @@ module _ {f : List ℕ} {ts : List Ty} {k : ℕ} {t : Ty} {x : TypeEntry} (at : 
   -- The type of an entry of a scalar's kind is a scalar.
   pub front_scalar : is_scalar_kind x.kind ≡ true → front t ≡ 0
   unfolding front outline_of
-  front_scalar h = let (s, is, of) = scalar_at_lem at h in rw is
+  front_scalar h = let (s, is, of) = scalar_lies_at at h in rw is
 
   -- The kind of any other entry is that of its type.
   pub front_kind : is_scalar_kind x.kind ≡ false → front t ≡ x.kind
@@ -61,7 +61,7 @@ unfolding front outline_of
 scalar_kind_lem {s = s} {x = x} at = go (is_scalar_kind x.kind) refl
   where
     go : (b : Bool) → is_scalar_kind x.kind ≡ b → scalar_kind s ≡ x.kind
-    go true q = let (u, is, of) = scalar_at_lem at q in cc
+    go true q = let (u, is, of) = scalar_lies_at at q in cc
     go false q =
         let h : 6 < x.kind = (other_range _ q).0 in
         absurd (omega (arith, front_kind at q))

@@ -14,7 +14,7 @@ use Rattle.wgsl.specs.File.{trailer_of, TypeEntry, type_entry_at, type_entry_len
 use Rattle.wgsl.specs.Rank.{scalar_rank, rank_of}
 use Rattle.convert_rank.specs.Ranked.{Pair, over_scalar}
 use Rattle.wgsl.proofs.ScalarKind.{other_range}
-use Rattle.wgsl.proofs.AtEntry.{entry_inside, At, scalar_at_lem, array_at, runtime_at, struct_at, reference_lower}
+use Rattle.wgsl.proofs.AtEntry.{entry_inside, At, scalar_lies_at, array_at, runtime_at, struct_at, reference_lower}
 use Rattle.convert_rank.proofs.EntryKinds.{over_scalar_at, front_scalar, front_kind, scalar_kind_lem}
 use Rattle.convert_rank.proofs.RankOf.{front_other, scalars, array_same, array_other, runtimes, struct_same, struct_other}
 
@@ -34,8 +34,8 @@ pub record Two (f : List ℕ) (ts : List Ty) (a b : ℕ) (s t : Ty) (x y : TypeE
 module _ {f : List ℕ} {ts : List Ty} {a b : ℕ} {s t : Ty} {x y : TypeEntry} (two : Two f ts a b s t x y) where
   pub scalars_rank : {r : Option ℕ} → is_scalar_kind x.kind ≡ true → is_scalar_kind y.kind ≡ true → ((u v : Scalar) → scalar_kind u ≡ x.kind → scalar_kind v ≡ y.kind → r ≡ scalar_rank u v) → r ≡ rank_of s t
   scalars_rank low low' h =
-      let (u, s_is, p) = scalar_at_lem two.first low in
-      let (v, t_is, q) = scalar_at_lem two.second low' in
+      let (u, s_is, p) = scalar_lies_at two.first low in
+      let (v, t_is, q) = scalar_lies_at two.second low' in
       h u v p q ∙ scalars s_is t_is
 
   pub scalar_other : is_scalar_kind x.kind ≡ true → is_scalar_kind y.kind ≡ false → none ≡ rank_of s t

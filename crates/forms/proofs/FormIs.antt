@@ -8,7 +8,6 @@ use mathlib.Core.Path.{◌≡◌, refl, ap, sym, ◌∙◌}
 use borrow.Author.Tests.{lt-ltb, le-ltb, eq-eqb, ne_eqb}
 use lib.ListN.{length}
 use Rattle.wgsl.specs.Said.{Said, good, refused, refuse, ◌>>◌, ◌>>=◌}
-use Rattle.wgsl.specs.File as wgsl
 use Rattle.wgsl.specs.File.{trailer_of}
 use Rattle.wgsl.specs.Rule.{types_of}
 use Rattle.wgsl.specs.Form.{form_is}

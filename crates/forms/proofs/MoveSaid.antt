@@ -38,7 +38,7 @@ module _ {form : ℕ} (f : List ℕ) (t : Trailer) (o : OfForm form f) (is : tra
   unfolding length_by
   entries_inside =
       let long = rw (← is) at (trailed_of o).long in
-      let same : t.form ≡ form = ap (λ (r : wgsl.Trailer). r.form) is ∙ o.form_is_here in
+      let same : t.form ≡ form = ap (λ (r : wgsl.Trailer). r.form) is ∙ o.is_form in
       rw (← same) (omega (arith, long))
 
   pub members_are : t.members ≡ (trailer_of f).members

@@ -2,14 +2,14 @@
 --
 -- In order: its bytes; its length; where its parts lie; room for it, or none.
 -- Assumes nothing.
-use Prim.Native.Nat.{ℕ, zero, suc, ◌+◌, ◌-◌, ◌*◌, ◌<◌, ◌≤◌}
-use mathlib.Core.List.{List, [], ◌++◌, append_assoc}
-use mathlib.Core.Path.{◌≡◌, refl, ap, sym, ◌∙◌}
+use Prim.Native.Nat.{ℕ, zero, suc, ◌+◌, ◌*◌, ◌<◌, ◌≤◌}
+use mathlib.Core.List.{List, ◌++◌, append_assoc}
+use mathlib.Core.Path.{◌≡◌, refl, ap, ◌∙◌}
 use native.Mathlib.Nat.{mul-suc, mul-zero, zero-add}
 use native.Mathlib.Omega.{arith}
 use borrow.Author.Tests.{lt-ltb}
 use lib.ListN.{length, take, drop}
-use lib.Seq.{sets, sets-eq}
+use lib.Seq.{sets-eq}
 use Rattle.wgsl.specs.Number.{bytes_of}
 use Rattle.wgsl.specs.Said.{good, refused}
 use Rattle.wgsl.specs.File.{Trailer, trailer_of, member_entry_length, length_by}
@@ -21,7 +21,7 @@ use Rattle.wgsl.proofs.Trailed.{Trailed}
 use Rattle.wgsl.proofs.Moved.{moved_trailed}
 use Rattle.wgsl.proofs.MoveCall.{room_good}
 use Rattle.file.specs.Fields.{trailer_over}
-use Rattle.said.proofs.Answered.{answered_refused, answered_done}
+use Rattle.said.proofs.Answered.{answered_done}
 use Rattle.puts.specs.Put.{Put}
 use Rattle.forms.specs.Entries.{entries_from, file_with}
 

@@ -5,7 +5,7 @@ use Rattle.std.specs.Prelude.{ℕ, ◌≡◌, false, List}
 use Rattle.wgsl.specs.Types.{Ty, is_open}
 use Rattle.wgsl.specs.Place.{extent_of, places}
 use Rattle.wgsl.specs.Claim.{Ordered}
-use Rattle.wgsl.specs.Clean.{CleanDone, cleaned, done_from, clean_type, clean_call}
+use Rattle.wgsl.specs.Clean.{cleaned, done_from, clean_type, clean_call}
 use Rattle.said.specs.declared.answer.Gaps.{Gaps}
 use Rattle.said.specs.declared.answer.Cleaned.{Cleaned}
 use Rattle.said.specs.Answer.{gaps_is, AnsweredClean}

@@ -141,7 +141,7 @@ module _ (f : List ℕ) (e : ℕ) where
     unfolding value_found ground_of
     found_ground g is =
         let x = ground_told f e a table says g is in
-        sym (then_is _ x.entry_is_lem ∙ ap (λ (y : Ground). good y.value) (sym x.ground_is))
+        sym (then_is _ x.is_entry ∙ ap (λ (y : Ground). good y.value) (sym x.ground_is))
 
     pub found_no_ground : (r : Refusal) → a ≡ grounded.Refused r → refused (number_of r) (place_of r) ≡ value_found f e
     found_no_ground r is = found_refused (ground_told_refused f e a table says r is)

@@ -12,7 +12,7 @@ use native.Mathlib.Omega.{arith}
 use borrow.Author.Tests.{le-leb, lt-leb}
 use lib.Dec.{eqb}
 use Rattle.wgsl.specs.Types.{Scalar, bool, i32, u32, f32, f16, abstract_int, abstract_float, i64, u64, f64, Ty, matrix, is_open, scalar_kind, is_scalar_kind, kind_of}
-use Rattle.wgsl.specs.Size.{both, is_present, present, width_of, vector_align, size_of, align_of, min_size_of, inner_numbers_of, has_layout}
+use Rattle.wgsl.specs.Size.{both, is_present, present, vector_align, size_of, align_of, min_size_of, inner_numbers_of, has_layout}
 use Rattle.wgsl.specs.File.{TypeEntry, between}
 use Rattle.wgsl.specs.Rule.{and_then, unused, scalar_in, matrix_made, is_matrix_scalar, is_allowed, given_fits}
 use Rattle.wgsl.proofs.Count.{matrix_word}

@@ -1,4 +1,4 @@
--- Marks in words of 64 (specs/Strays, markAt).
+-- Marks in words of 64 (specs/Strays, mark_at).
 --
 -- In order: bits of a word; a word with more marks; marks from one member on; a full word.
 -- Assumes nothing.

@@ -62,7 +62,7 @@ pub record On (f : List ℕ) (e : ℕ) (g : Ground) (table : List (List ℕ)) : 
   pub ts : List Ty
   pub taken : types_of f ≡ good ts
   pub type : Ty
-  pub entry_is_lem : entry_of f e ≡ good type
+  pub is_entry : entry_of f e ≡ good type
   pub ground_is : g ≡ ground_of f e type
   pub table_is : table ≡ values_of f ts
 
@@ -77,7 +77,7 @@ module _ (f : List ℕ) (e : ℕ) (answer : Grounded) (table : List (List ℕ)) 
         ts = x.value;
         taken = x.first;
         type = y.value;
-        entry_is_lem = y.first;
+        is_entry = y.first;
         ground_is = sym (ap (λ (s : InTable). s.ground) same);
         table_is = sym (ap (λ (s : InTable). s.table) same);
       }

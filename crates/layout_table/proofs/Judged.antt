@@ -3,7 +3,7 @@
 -- In order: a good trailer, and where entries and members lie; the kinds of an entry; the verdict; the entries up to one that is
 -- refused or laid out.
 -- Assumes nothing.
-use Prim.Native.Nat.{ℕ, zero, suc, ◌+◌, ◌-◌, ◌*◌, ◌<◌, ◌≤◌}
+use Prim.Native.Nat.{ℕ, zero, suc, ◌+◌, ◌-◌, ◌*◌, ◌<◌}
 use mathlib.Core.Bool.{Bool, true, false, not, cond}
 use mathlib.Core.List.{List, [], ◌∷◌, ◌++◌}
 use mathlib.Core.Option.{Option, none, some}
@@ -34,9 +34,9 @@ types_of_lem f r e = then_is _ e
 
 -- Where the entries and the members lie.
 module _ {f : List ℕ} {r : Trailer} {start : ℕ} (t : Trailed f r) (at : start ≡ r.start) where
-  pub entry_is_lem : {e : TypeEntry} (k : ℕ) → e ≡ type_entry_from f (start + type_entry_length * k) → e ≡ type_entry_at f k
+  pub is_entry : {e : TypeEntry} (k : ℕ) → e ≡ type_entry_from f (start + type_entry_length * k) → e ≡ type_entry_at f k
   unfolding type_entry_at
-  entry_is_lem k h = rw (← t.is, ← at) h
+  is_entry k h = rw (← t.is, ← at) h
 
   pub base_is : {types : ℕ} → types ≡ r.types → start + type_entry_length * types ≡ members_start f
   unfolding members_start

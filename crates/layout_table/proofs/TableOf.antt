@@ -26,7 +26,7 @@ use Rattle.layout_values.specs.declared.value.Made.TheVariants.{Laid}
 use Rattle.layout_values.proofs.ValuesOf.{values_more}
 use Rattle.layout_strays.specs.Strays.{Entries}
 use Rattle.layout_table.specs.Table.{table_of, Upward}
-use Rattle.layout_table.proofs.Judged.{types_of_lem, entry_is_lem, base_is, members_are, says, entry_laid, entry_refused}
+use Rattle.layout_table.proofs.Judged.{types_of_lem, is_entry, base_is, members_are, says, entry_laid, entry_refused}
 
 -- an entry that is not filled
 abbrev blank : List ℕ
@@ -76,7 +76,7 @@ module _ {f : List ℕ} {r : Trailer} {k : ℕ} {table : List (List ℕ)} (t : F
       let bytes : long * members ≡ member_entry_length r.form * r.members = ap₂ ◌*◌ p m in
       let whole = t.long in
       record {
-        entry_is_lem = entry_is_lem t.trailer at k e;
+        is_entry = is_entry t.trailer at k e;
         base_is = base_is t.trailer at n;
         members_is = members_are t.trailer at m;
         long_is = p ∙ ap (λ (x : Trailer). member_entry_length x.form) t.trailer.is;

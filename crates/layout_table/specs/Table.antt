@@ -79,7 +79,7 @@ said_ground (grounded.Refused r) table = refused (number_of r) (place_of r)
 -- entry k of a file whose trailer is good, with the fields e, over the lower ones, whose types are ts: its M member entries begin at `base`
 -- and are so long
 pub record Upward (f : List ℕ) (k : ℕ) (e : TypeEntry) (base members long : ℕ) (table : List (List ℕ)) (ts : List Ty) : Type 0 where
-  pub entry_is_lem : e ≡ type_entry_at f k
+  pub is_entry : e ≡ type_entry_at f k
   pub base_is : base ≡ members_start f
   pub members_is : members ≡ (trailer_of f).members
   pub long_is : long ≡ member_length f

@@ -3,9 +3,8 @@
 -- In order: widths; which are stored; the type that a layout is of; the entry.
 -- Not here: vectors of them (`Align`).
 -- Assumes nothing.
-use Prim.Native.Nat.{ℕ, zero, suc, ◌+◌, ◌-◌, ◌<◌, ◌≤◌, min}
+use Prim.Native.Nat.{ℕ, zero, suc, ◌<◌, ◌≤◌, min}
 use mathlib.Core.Bool.{true, false, cond}
-use mathlib.Core.Logic.{⊎_elim}
 use mathlib.Core.List.{[], ◌∷◌}
 use mathlib.Core.Option.{some}
 use mathlib.Core.Path.{◌≡◌, refl, sym, ◌∙◌}
@@ -14,7 +13,7 @@ use Rattle.wgsl.specs.Round.{up}
 use Rattle.wgsl.specs.Types.{Scalar, bool, i32, u32, f32, f16, abstract_int, abstract_float, i64, u64, f64, Ty, scalar, vector, matrix, array, runtime, atomic, struct, is_open, scalar_kind, is_scalar_kind, kind_of}
 use Rattle.wgsl.specs.Size.{is_present, present, width_of, size_of, align_of, min_size_of, inner_numbers_of, has_layout, is_stored}
 use Rattle.wgsl.specs.File.{TypeEntry}
-use Rattle.wgsl.specs.Rule.{unused, scalar_of_kind, scalar_in, scalar_made, is_allowed, given_fits}
+use Rattle.wgsl.specs.Rule.{unused, scalar_in, scalar_made, is_allowed, given_fits}
 use Rattle.wgsl.specs.Place.{words_for}
 use Rattle.wgsl.proofs.Absent.{some_not_none}
 use Rattle.wgsl.proofs.ScalarKind.{scalar_kind_is, scalar_of_kind_lem, kind_clash}

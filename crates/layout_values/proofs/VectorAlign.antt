@@ -13,7 +13,7 @@ use lib.Dec.{eqb}
 use mir.Syntax.{w32}
 use mir.Val.{Fits}
 use mir.Facts.{Fits-le, Fits-lit}
-use Rattle.wgsl.specs.Types.{Scalar, bool, i32, u32, f32, f16, abstract_int, abstract_float, i64, u64, f64, scalar_kind}
+use Rattle.wgsl.specs.Types.{Scalar, bool, i32, u32, f32, f16, abstract_int, abstract_float, i64, u64, f64}
 use Rattle.wgsl.proofs.Absent.{true_not_false}
 use Rattle.wgsl.specs.Size.{both, is_present, present, width_of, vec3_align, vector_size, vector_align}
 

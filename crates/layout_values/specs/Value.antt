@@ -3,7 +3,7 @@
 -- In order: a type's narrowest word, its parts; its value; the numbers of a value, and values in a
 -- table; the verdict on an entry's type; values that are some type's.
 -- Definitions only. Assumes nothing.
-use Rattle.std.specs.Prelude.{ℕ, suc, ◌+◌, ◌-◌, ◌*◌, min, ◌≡◌, true, cond, List, [], ◌∷◌, ◌++◌, eqb, length, get_or, replicate}
+use Rattle.std.specs.Prelude.{ℕ, suc, ◌-◌, ◌*◌, min, ◌≡◌, true, cond, List, [], ◌∷◌, ◌++◌, eqb, length, get_or, replicate}
 use Rattle.std.proofs.Math.Option.{Option, none, some}
 use Rattle.wgsl.specs.Types.{Scalar, Ty, scalar, vector, matrix, array, runtime, atomic, struct, Members, no_more, member, everywhere, kind_of, struct_kind}
 use Rattle.wgsl.specs.Size.{present, width_of, vector_align, size_of, align_of, stride_of, fits_limit, has_layout, is_stored}

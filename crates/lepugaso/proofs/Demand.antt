@@ -96,16 +96,16 @@ module _ (f : List ℕ) (e : ℕ) (ws b : List ℕ) where
 -- ---- a path to one scalar
 
 -- what it is: a path that leads to a scalar of t's offset and size
-record Scalar-at (f : List ℕ) (e : ℕ) (b path : List ℕ) (t : Target) : Type 0 where
+record ScalarAt (f : List ℕ) (e : ℕ) (b path : List ℕ) (t : Target) : Type 0 where
   kind : Scalar
   leading : Leading f e b path t.offset kind
   size_is : t.size ≡ present (width_of kind)
 
-scalar_at_lem : {f : List ℕ} {e : ℕ} {b path : List ℕ} {t : Target} → ToScalar f e b path t → Scalar-at f e b path t
+scalar_lies_at : {f : List ℕ} {e : ℕ} {b path : List ℕ} {t : Target} → ToScalar f e b path t → ScalarAt f e b path t
 unfolding span_of
-scalar_at_lem {f} {e} {b} {path} {t} x = go (view_call f e path b) refl x.views.answer
+scalar_lies_at {f} {e} {b} {path} {t} x = go (view_call f e path b) refl x.views.answer
   where
-    go : (said : Said ways.Target) → view_call f e path b ≡ said → good t ≡ reached said → Scalar-at f e b path t
+    go : (said : Said ways.Target) → view_call f e path b ≡ said → good t ≡ reached said → ScalarAt f e b path t
     go (good u) is q =
         let same : t ≡ target_is u = cc in
         let at : u.offset ≡ t.offset = sym (ap (λ (v : Target). v.offset) same) in
@@ -122,20 +122,20 @@ scalar_at_lem {f} {e} {b} {path} {t} x = go (view_call f e path b) refl x.views.
 module _ {f : List ℕ} {e : ℕ} {b : List ℕ} (g : Given f e b) where
   scalar_inside : (path : List ℕ) (t : Target) → ToScalar f e b path t → (t.offset + t.size ≤ g.size) × (t.offset % t.size ≡ 0)
   scalar_inside path t x =
-      let y = scalar_at_lem x in
+      let y = scalar_lies_at x in
       rw y.size_is ((demand_three g).inside path t.offset y.kind y.leading)
 
   scalars_apart : (p q : List ℕ) (t u : Target) → ToScalar f e b p t → ToScalar f e b q u → Words p → Words q → (p ≡ q) ⊎ Apart t.offset t.size u.offset u.size
   scalars_apart p q t u x y v w =
-      let s = scalar_at_lem x in
-      let z = scalar_at_lem y in
+      let s = scalar_lies_at x in
+      let z = scalar_lies_at y in
       rw (s.size_is, z.size_is)
       ((demand_three g).apart p q t.offset u.offset s.kind z.kind s.leading z.leading v w)
 
   -- the definitions' demand, at the scalar that a path leads to
   module _ (path : List ℕ) (t : Target) (x : ToScalar f e b path t) (new : List ℕ) (holds : Holds t.size t.offset new) (r : Number) (b' : List ℕ) (s : Sets f e path new b r b') (ws : List ℕ) (enough : word_count 0 g.type ≤ length ws) where
-    abbrev here : Scalar-at f e b path t
-    here = scalar_at_lem x
+    abbrev here : ScalarAt f e b path t
+    here = scalar_lies_at x
 
     told : SetThenRead g path t.offset here.kind new ws
     told = (demand_three g).set_read path t.offset here.kind here.leading new (rw here.size_is at holds) ws enough

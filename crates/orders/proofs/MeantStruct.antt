@@ -3,12 +3,11 @@
 -- In order: what is a struct by its kind; where it ends; the struct of an entry; the calls once the entry is decided.
 -- Assumes nothing.
 use Prim.Native.Nat.{ℕ}
-use mathlib.Core.Bool.{true}
 use mathlib.Core.List.{List}
 use mathlib.Core.Option.{some, none}
 use mathlib.Core.Path.{◌≡◌, refl, ap, sym, subst, ◌∙◌}
 use native.Mathlib.Omega.{arith}
-use Rattle.wgsl.specs.Types.{Ty, scalar, vector, matrix, array, runtime, atomic, struct, Members, is_open, kind_of, struct_kind}
+use Rattle.wgsl.specs.Types.{Ty, scalar, vector, matrix, array, runtime, atomic, struct, Members, kind_of, struct_kind}
 use Rattle.wgsl.specs.Said.{good, refused, ◌>>=◌, or_refuse}
 use Rattle.wgsl.specs.Call.{entry_of}
 use Rattle.wgsl.specs.Order.{members_in, struct_members, plan_members, plan_call, new_end, order_call}
@@ -23,7 +22,7 @@ use Rattle.walk_decide.proofs.Tailed.{open_found}
 use Rattle.walk_decide.proofs.Meant.{entry_site, entry_layout, entry_value, entry_well_formed}
 use Rattle.orders_members.specs.Entries.{Struct}
 use Rattle.orders_members.proofs.StructOf.{struct_at}
-use Rattle.orders.specs.Promise.{Ends, Meant-struct}
+use Rattle.orders.specs.Promise.{Ends, StructMeant}
 
 -- ---- by its kind
 
@@ -79,7 +78,7 @@ module _ {f : List ℕ} {e : ℕ} {g : Ground} {table : List (List ℕ)} {t : Ty
 
   -- ---- the struct of an entry
 
-  pub meant_struct : g.value.kind ≡ struct_kind → (ms : Members) × Meant-struct (members_part f g) table g.value ms × (struct_members f e ≡ good ms)
+  pub meant_struct : g.value.kind ≡ struct_kind → (ms : Members) × StructMeant (members_part f g) table g.value ms × (struct_members f e ≡ good ms)
   meant_struct h =
       let s = by_kind t (sym kind_is ∙ h) in
       let there = x.there ∙ ap some s.is in
@@ -90,13 +89,13 @@ module _ {f : List ℕ} {e : ℕ} {g : Ground} {table : List (List ℕ)} {t : Ty
           number = s.number;
           ends = subst (λ (u : Ty). Ends (members_part f g) table g.value u) s.is ends_at;
         },
-        members_are f e s.number s.members (x.entry_is_lem ∙ ap good s.is),
+        members_are f e s.number s.members (x.is_entry ∙ ap good s.is),
       )
 
   -- An entry of another kind is refused by 9.
   pub no_struct_lem : (g.value.kind ≡ struct_kind → ⊥) → struct_members f e ≡ refused 9 0
   unfolding struct_members or_refuse ◌>>=◌
-  no_struct_lem h = rw (x.entry_is_lem, other_kind t (λ k. h (kind_is ∙ k))) refl
+  no_struct_lem h = rw (x.is_entry, other_kind t (λ k. h (kind_is ∙ k))) refl
 
 -- ---- the calls once the entry is decided
 

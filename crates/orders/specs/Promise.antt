@@ -28,7 +28,7 @@ pub record Ends (bytes : List ℕ) (table : List (List ℕ)) (l : Value) (t : Ty
 
 -- ---- a struct that a call means
 
-pub record Meant-struct (bytes : List ℕ) (table : List (List ℕ)) (l : Value) (ms : Members) : Type 0 where
+pub record StructMeant (bytes : List ℕ) (table : List (List ℕ)) (l : Value) (ms : Members) : Type 0 where
   pub is_struct : Struct bytes table l ms
   pub number : ℕ
   pub ends : Ends bytes table l (struct number ms)
@@ -37,7 +37,7 @@ pub record Meant-struct (bytes : List ℕ) (table : List (List ℕ)) (l : Value)
 
 abbrev pub StructOrdered : List ℕ → List (List ℕ) → Value → List ℕ → Number → Type 0
 StructOrdered bytes table l order r =
-    (k : ℕ) (ms : Members) → Meant-struct bytes table l ms → said_number r ≡ or_refuse 23 0 (new_end k ms order)
+    (k : ℕ) (ms : Members) → StructMeant bytes table l ms → said_number r ≡ or_refuse 23 0 (new_end k ms order)
 
 abbrev pub StructPlanned : List ℕ → List (List ℕ) → Value → Number → List ℕ → List ℕ → Type 0
 StructPlanned bytes table l r before after =

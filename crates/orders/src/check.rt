@@ -5,7 +5,7 @@ ghost use Rattle.wgsl.specs.Place.{extent_of};
 ghost use Rattle.wgsl.specs.Order.{order_call};
 ghost use Rattle.said.specs.Answer.{said_number};
 ghost use Rattle.walk_decide.specs.Meant.{Meant};
-ghost use Rattle.orders.specs.Promise.{Ends, Meant-struct, StructOrdered, MeantOrdered};
+ghost use Rattle.orders.specs.Promise.{Ends, StructMeant, StructOrdered, MeantOrdered};
 
 use file::kinds::STRUCT;
 use file::trailer::{Trailered, check_trailer};
@@ -31,7 +31,7 @@ fn end_now(members: &[u8], table: &[Row], l: Value) -> usize
 
 // 23 for a struct of the value `l`: every position once, and a smaller end.
 fn check_struct(members: &[u8], table: &[Row], l: Value, order: &[u32]) -> Number
-    requires { (ms : Members) × Meant-struct members.now table.now l ms }
+    requires { (ms : Members) × StructMeant members.now table.now l ms }
     ensures { StructOrdered members.now table.now l order.now result }
 {
     let count = wide(l.count);

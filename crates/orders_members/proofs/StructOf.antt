@@ -7,10 +7,10 @@ use mathlib.Core.Bool.{true, ◌||◌, or-true}
 use mathlib.Core.List.{List}
 use mathlib.Core.Logic.{⊎_elim}
 use mathlib.Core.Option.{Option, none, some, some-injective}
-use mathlib.Core.Path.{◌≡◌, refl, ap, sym, ◌∙◌}
+use mathlib.Core.Path.{◌≡◌, refl, ap, ◌∙◌}
 use native.Mathlib.Nat.{suc-mul, mul-le-mul_right, mul_comm}
 use native.Mathlib.Omega.{arith}
-use lib.ListN.{length, take, get_elem?}
+use lib.ListN.{take, get_elem?}
 use Rattle.wgsl.specs.Types.{Ty, struct, Members, no_more, is_runtime, kind_of}
 use Rattle.wgsl.specs.Size.{is_present, present, size_of, align_of}
 use Rattle.wgsl.specs.File.{trailer_of, TypeEntry, member_entry_at, type_entry_at, given_size, given_align, rest_is_zero}
@@ -50,11 +50,11 @@ module _ {f : List ℕ} {ts : List Ty} {bytes : List ℕ} {table : List (List �
       record {
         inside = r.inside;
         type_inside = r.type_inside;
-        value_is = own_reference (member_length f) _ t r.layout_is_here;
+        value_is = own_reference (member_length f) _ t r.is_layout;
         well_formed = x.well;
-        size_is = ap given_size r.entry_is_lem;
-        align_is = ap given_align r.entry_is_lem;
-        rest_zero = ap rest_is_zero r.entry_is_lem ∙ zeros;
+        size_is = ap given_size r.is_entry;
+        align_is = ap given_align r.is_entry;
+        rest_zero = ap rest_is_zero r.is_entry ∙ zeros;
         allowed = allowed_last x;
         size_fits = x.size_fits;
         align_fits = x.align_fits;

@@ -18,9 +18,9 @@ use Rattle.paths.specs.Locate.{Viewable}
 use Rattle.paths.proofs.HeldOf.{There}
 
 module _ {f ms : List ℕ} {table : List (List ℕ)} {e : ℕ} {l : Value} {t : Ty} (x : Viewable f ms table e l t) where
-  entry_is_lem : entry_of f e ≡ good t
+  is_entry : entry_of f e ≡ good t
   unfolding entry_of ◌>>=◌ or_refuse
-  entry_is_lem = rw (x.basis.good_file, x.there) refl
+  is_entry = rw (x.basis.good_file, x.there) refl
 
   -- where it begins in a buffer that holds n elements of it
   pub record Begins (n size : ℕ) : Type 0 where
@@ -31,11 +31,11 @@ module _ {f ms : List ℕ} {table : List (List ℕ)} {e : ℕ} {l : Value} {t : 
   pub begins : {path b : List ℕ} {n size : ℕ} → There t path b n size → length b ≤ limit → Begins n size
   begins {n = n} y h =
       -- its shape takes its extent
-      let span = (entry_sound f e t entry_is_lem x.has_layout_lem n).1 in
+      let span = (entry_sound f e t is_entry x.is_laid_out n).1 in
       record {
         standing = record {
           basis = x.basis;
-          stands = at_entry {e = e} x.there x.has_layout_lem;
+          stands = at_entry {e = e} x.there x.is_laid_out;
           within = omega (arith, span, y.inside);
         };
         size_is = y.size_is ∙ sym span;

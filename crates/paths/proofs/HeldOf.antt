@@ -36,7 +36,7 @@ use Rattle.paths.specs.Locate.{held_of, Viewable, Opening}
 
 module _ {f ms : List ℕ} {table : List (List ℕ)} {e : ℕ} {l : Value} {t : Ty} (x : Viewable f ms table e l t) where
   pub viewable_value : l ≡ value_of l.stride l.reference t
-  viewable_value = rw x.layout_is_here (layout_value x.basis e t x.there)
+  viewable_value = rw x.is_layout (layout_value x.basis e t x.there)
 
   pub viewable_well_formed : everywhere is_well_formed t ≡ true
   viewable_well_formed = basis_well_formed x.basis e t x.there
@@ -61,7 +61,7 @@ module _ {f ms : List ℕ} {table : List (List ℕ)} {e : ℕ} {l : Value} {t : 
 
   -- Its tail can be found,
   pub open_findable : is_open t ≡ true → Findable ms table l
-  open_findable o = rw x.layout_is_here (open_found x.basis e t x.there o).2.findable
+  open_findable o = rw x.is_layout (open_found x.basis e t x.there o).2.findable
 
   -- and is the type's.
   pub open_opening : is_open t ≡ true → {y : declared.Rest} → y ≡ rest_from ms table l → Opening t y
@@ -69,7 +69,7 @@ module _ {f ms : List ℕ} {table : List (List ℕ)} {e : ℕ} {l : Value} {t : 
       record {
         well_formed = viewable_well_formed;
         opens = o;
-        tail_is = rw (is, x.layout_is_here) (found_opened x.basis e (open_found x.basis e t x.there o).2).tail_is;
+        tail_is = rw (is, x.is_layout) (found_opened x.basis e (open_found x.basis e t x.there o).2).tail_is;
       }
 
 module _ {t : Ty} {y : declared.Rest} (x : Opening t y) where

@@ -21,7 +21,7 @@ use Rattle.paths.specs.Locate.{Viewable}
 
 pub entry_viewable : {f : List ℕ} {e : ℕ} {g : Ground} {table : List (List ℕ)} {t : Ty} → Meant f e g table t → has_layout t ≡ true → Viewable f (members_part f g) table e g.value t
 entry_viewable x h =
-    record { types = x.types; basis = entry_site x; there = x.there; layout_is_here = entry_layout x; has_layout_lem = h }
+    record { types = x.types; basis = entry_site x; there = x.there; is_layout = entry_layout x; is_laid_out = h }
 
 -- ---- the call
 

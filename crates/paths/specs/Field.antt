@@ -5,7 +5,6 @@ use Rattle.wgsl.specs.Types.{scalar_kind}
 use Rattle.wgsl.specs.Round.{limit}
 use Rattle.wgsl.specs.Size.{present, width_of}
 use Rattle.wgsl.specs.Said.{Said, good, refused}
-use Rattle.wgsl.specs.Path as path
 use Rattle.wgsl.specs.BitFieldCall.{is_integer, FoundInteger, word_of}
 use Rattle.wgsl.specs.Place.{word_places, store_words}
 use Rattle.wgsl.specs.BitField.{inserted}

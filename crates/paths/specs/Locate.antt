@@ -32,8 +32,8 @@ pub record Viewable (f ms : List ℕ) (table : List (List ℕ)) (e : ℕ) (l : V
   pub types : List Ty
   pub basis : Basis f types ms table
   pub there : get_elem? types e ≡ some t
-  pub layout_is_here : l ≡ value_at table e
-  pub has_layout_lem : has_layout t ≡ true
+  pub is_layout : l ≡ value_at table e
+  pub is_laid_out : has_layout t ≡ true
 
 -- .. whose tail is x
 pub record Opening (t : Ty) (x : Rest) : Type 0 where

@@ -13,7 +13,7 @@ use Rattle.wgsl.specs.Path.{Target, enter}
 use Rattle.wgsl.specs.Rule.{count_of}
 use Rattle.wgsl.specs.Site.{block_entry, member_of, clear_call, without_bit, zero_of, mask_after}
 use Rattle.wgsl.proofs.Said.{then_good, then_is, then_refused}
-use Rattle.wgsl.proofs.Site.{block_struct, entry_is_lem, member_low}
+use Rattle.wgsl.proofs.Site.{block_struct, is_entry, member_low}
 use Rattle.site.specs.Clear.{there_in, can_clear}
 
 -- ---- a member that is there, or not
@@ -68,7 +68,7 @@ module _ (f : List ℕ) (e k mask : ℕ) where
       let q = then_good _ _ (sym h) in
       let t = q.value in
       let m = then_good _ _ q.after in
-      let s = block_struct mask t (entry_is_lem q.first).block in
+      let s = block_struct mask t (is_entry q.first).block in
       let count = member_low s.kind s.members k m.value (rw (← s.is) m.first) in
       omega (arith, count, leb-true (count_of s.members) 64 s.few)
 

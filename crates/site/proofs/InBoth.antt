@@ -1,21 +1,20 @@
 -- 15 for either buffer (crates/wgsl, specs/Site, `block_in`), by the lengths that the code has.
 -- Assumes nothing.
-use Prim.Native.Nat.{ℕ, ◌≤◌, max}
+use Prim.Native.Nat.{ℕ, max}
 use mathlib.Core.Bool.{Bool, true, false, ◌&&◌, ◌||◌}
 use mathlib.Core.List.{List}
-use mathlib.Core.Path.{◌≡◌, refl, ap, sym, ◌∙◌}
-use native.Mathlib.Omega.{arith}
+use mathlib.Core.Path.{◌≡◌, refl, ap, ◌∙◌}
 use borrow.Author.Tests.{lt-ltb, leb-true, leb-false}
 use lib.Dec.{leb, ltb}
 use lib.ListN.{length}
-use Rattle.wgsl.specs.Types.{Ty, is_open}
+use Rattle.wgsl.specs.Types.{Ty}
 use Rattle.wgsl.specs.Size.{present, size_of}
-use Rattle.wgsl.specs.Said.{good, refused, ◌>>=◌}
+use Rattle.wgsl.specs.Said.{good, refused}
 use Rattle.wgsl.specs.Call.{is_short}
 use Rattle.wgsl.specs.Site.{block_entry, block_in}
 use Rattle.wgsl.proofs.Absent.{both_hold}
 use Rattle.wgsl.proofs.Said.{then_is, then_refused, refuse_yes}
-use Rattle.wgsl.proofs.Site.{block_struct, entry_is_lem, block_if}
+use Rattle.wgsl.proofs.Site.{block_struct, is_entry, block_if}
 
 or-true : (a b : Bool) → b ≡ true → (a || b) ≡ true
 or-true true b e = refl
@@ -32,7 +31,7 @@ module _ (f : List ℕ) (e mask : ℕ) (a b : List ℕ) where
 
     short_is : (c : List ℕ) → is_short t c ≡ ltb (length c) size
     unfolding is_short
-    short_is c = rw (block_struct mask t (entry_is_lem block).block).closed refl
+    short_is c = rw (block_struct mask t (is_entry block).block).closed refl
 
     pub in_short : (leb size (length a) && leb size (length b)) ≡ false → block_in f e mask a b ≡ refused 15 0
     unfolding block_in
@@ -47,7 +46,7 @@ module _ (f : List ℕ) (e mask : ℕ) (a b : List ℕ) where
 
     pub in_both : (leb size (length a) && leb size (length b)) ≡ true → block_in f e mask a b ≡ good t
     in_both h =
-        let x = entry_is_lem block in
+        let x = is_entry block in
         let room = both_hold _ _ h in
         block_if (record {
           entry = x.entry;

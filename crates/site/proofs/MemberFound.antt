@@ -10,9 +10,8 @@ use native.Mathlib.Omega.{arith}
 use borrow.Author.Tests.{leb-true}
 use lib.ListN.{length, take, drop}
 use Rattle.wgsl.specs.Round.{limit}
-use Rattle.wgsl.specs.Types.{Ty}
 use Rattle.wgsl.specs.Said.{Said, good, refused, ◌>>=◌}
-use Rattle.wgsl.specs.Place.{Shape, shape_of, span_of}
+use Rattle.wgsl.specs.Place.{span_of}
 use Rattle.wgsl.specs.Path as path
 use Rattle.wgsl.specs.Path.{walk}
 use Rattle.wgsl.specs.Rule.{count_of}

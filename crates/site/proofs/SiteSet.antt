@@ -2,21 +2,19 @@
 --
 -- In order: the member and the target, found or not; the words, stored or not.
 -- Assumes nothing.
-use Prim.Native.Nat.{ℕ, ◌+◌, ◌<◌, ◌≤◌}
+use Prim.Native.Nat.{ℕ}
 use mathlib.Core.Bool.{Bool}
 use mathlib.Core.List.{List, map}
 use mathlib.Core.Path.{◌≡◌, refl, ap, sym, ◌∙◌}
 use native.Mathlib.Omega.{arith}
 use lib.ListN.{length}
-use Rattle.wgsl.specs.Round.{limit}
 use Rattle.wgsl.specs.Said.{Said, good, refused, ◌>>=◌}
-use Rattle.wgsl.specs.Place.{span_of}
 use Rattle.wgsl.specs.Path as path
 use Rattle.wgsl.specs.Path.{walk, step_of}
 use Rattle.wgsl.specs.Call.{Done, answer_of, contents_of, set_target}
 use Rattle.wgsl.specs.BitField.{bit_at}
-use Rattle.wgsl.specs.Site.{block_in, member_of, member_call, copied_in, SiteDone, site_set_call, with_bit, site_answer, site_after, mask_set}
-use Rattle.wgsl.proofs.Said.{then_good, then_is, then_refused, then_cases, good_not_refused}
+use Rattle.wgsl.specs.Site.{member_call, copied_in, SiteDone, site_set_call, with_bit, site_answer, site_after, mask_set}
+use Rattle.wgsl.proofs.Said.{then_good, then_is, good_not_refused}
 use Rattle.wgsl.proofs.Path.{target_inside}
 use Rattle.wgsl.proofs.Site.{block_is, member_inside}
 use Rattle.said.specs.Target.{target_is}

@@ -13,18 +13,17 @@ use lib.ListN.{length}
 use Rattle.wgsl.specs.Round.{limit}
 use Rattle.wgsl.specs.Types.{Ty, is_open, everywhere}
 use Rattle.wgsl.specs.Size.{present, size_of, has_layout, is_storable, is_plain}
-use Rattle.wgsl.specs.Said.{good, refused, ◌>>=◌}
-use Rattle.wgsl.specs.Place.{shape_of, span_of}
+use Rattle.wgsl.specs.Said.{good, refused}
+use Rattle.wgsl.specs.Place.{shape_of}
 use Rattle.wgsl.specs.Site.{block_entry, block_in, settings_of}
 use Rattle.wgsl.specs.Rule.{is_well_formed, count_of}
 use Rattle.wgsl.proofs.Entry.{size_limit}
 use Rattle.wgsl.proofs.Absent.{both_hold}
-use Rattle.wgsl.proofs.Said.{Then, good_not_refused, then_good, then_cases, then_is, then_refused}
+use Rattle.wgsl.proofs.Said.{good_not_refused, then_good, then_cases, then_is, then_refused}
 use Rattle.wgsl.proofs.EntryFor.{entry_sound}
 use Rattle.wgsl.proofs.Tail.{closed_extent}
-use Rattle.wgsl.proofs.Site.{Block, block_struct, entry_is_lem}
+use Rattle.wgsl.proofs.Site.{Block, block_struct, is_entry}
 use Rattle.layout_table.specs.declared.Ground.{Ground}
-use Rattle.layout_table.specs.Table.{ground_in}
 use Rattle.layout_values.specs.declared.value.Value.{Value}
 use Rattle.layout_values.specs.Value.{value_of, parts_of}
 use Rattle.walk_decide.specs.Meant.{members_part}
@@ -39,14 +38,14 @@ use Rattle.site.specs.Spot.{spot_at, spot_call}
 pub ground_refused : (f : List ℕ) (e mask bytes : ℕ) {number place : ℕ} → refused number place ≡ block_ground f e mask bytes → block_entry f e mask bytes ≡ refused number place
 unfolding block_ground
 ground_refused f e mask bytes h =
-    then_cases _ _ (sym h) (λ q. q) (λ q. good_not_refused (entry_is_lem q.first).entry (entry_missing f e (sym q.after)))
+    then_cases _ _ (sym h) (λ q. q) (λ q. good_not_refused (is_entry q.first).entry (entry_missing f e (sym q.after)))
 
 pub ground_at : (f : List ℕ) (e mask bytes : ℕ) (g : Ground) (table : List (List ℕ)) → good (record { ground = g; table = table }) ≡ block_ground f e mask bytes → (t : Ty) × BlockAt f e g table mask bytes t
 unfolding block_ground
 ground_at f e mask bytes g table h =
     let q = then_good _ _ (sym h) in
     let x = entry_found f e table g (sym q.after) in
-    let same : x.0 ≡ q.value = cc (x.1.entry_is_lem, (entry_is_lem q.first).entry) in
+    let same : x.0 ≡ q.value = cc (x.1.is_entry, (is_entry q.first).entry) in
     (x.0, record { meant = x.1; block = q.first ∙ ap good (sym same) })
 
 -- ---- what a walk in it asks
@@ -65,13 +64,13 @@ members_are b = rw b.is refl
 
 module _ {f : List ℕ} {e : ℕ} {g : Ground} {table : List (List ℕ)} {mask bytes : ℕ} {t : Ty} (x : BlockAt f e g table mask bytes t) where
   pub closed : is_open t ≡ false
-  closed = (block_struct mask t (entry_is_lem x.block).block).closed
+  closed = (block_struct mask t (is_entry x.block).block).closed
 
   pub standing : Standing f x.meant.types (members_part f g) table 0 (Entry e) (shape_of 0 t)
   unfolding is_storable
   standing =
-      let layout = (both_hold (has_layout t) (everywhere is_plain t) (entry_is_lem x.block).storable).0 in
-      let span = (entry_sound f e t x.meant.entry_is_lem layout 0).1 in
+      let layout = (both_hold (has_layout t) (everywhere is_plain t) (is_entry x.block).storable).0 in
+      let span = (entry_sound f e t x.meant.is_entry layout 0).1 in
       record {
         basis = entry_site x.meant;
         stands = at_entry x.meant.there layout;
@@ -87,13 +86,13 @@ module _ {f : List ℕ} {e : ℕ} {g : Ground} {table : List (List ℕ)} {mask b
   pub count_is : g.value.count ≡ settings_of t
   unfolding value_of parts_of settings_of
   count_is =
-      let b = block_struct mask t (entry_is_lem x.block).block in
+      let b = block_struct mask t (is_entry x.block).block in
       ap (λ (l : Value). l.count) (entry_value x.meant) ∙ rw b.is refl
 
   -- "at most 64 members"
   pub count_low : g.value.count ≤ 64
   count_low =
-      let b = block_struct mask t (entry_is_lem x.block).block in
+      let b = block_struct mask t (is_entry x.block).block in
       omega (arith, count_is, members_are b, leb-true (count_of b.members) 64 b.few)
 
 -- the block, in buffers of these lengths

@@ -4,7 +4,7 @@
 -- Assumes nothing.
 use Prim.Native.Nat.{ℕ}
 use mathlib.Core.List.{List, map}
-use mathlib.Core.Path.{◌≡◌, refl, ap, sym, ◌∙◌}
+use mathlib.Core.Path.{◌≡◌, refl, sym}
 use Rattle.wgsl.specs.Said.{Said, good, refused, ◌>>=◌}
 use Rattle.wgsl.specs.Place.{Shape}
 use Rattle.wgsl.specs.Path as path

@@ -2,18 +2,12 @@
 --
 -- In order: an inheriting block; the bytes copied; a fresh block.
 -- Assumes nothing.
-use Prim.Native.Nat.{ℕ, suc, ◌+◌, ◌-◌, ◌^◌, ◌≤◌, max}
-use mathlib.Core.Bool.{true, false, ◌&&◌}
-use mathlib.Core.List.{List, [], ◌∷◌, ◌++◌}
-use mathlib.Core.Path.{◌≡◌, refl, ap, sym, ◌∙◌}
-use native.Mathlib.Omega.{arith}
-use lib.Dec.{leb}
-use lib.ListN.{length, take, drop}
-use lib.Seq.{sets}
+use Prim.Native.Nat.{ℕ}
+use mathlib.Core.List.{List}
+use mathlib.Core.Path.{◌≡◌}
 use Rattle.wgsl.specs.Types.{Ty}
-use Rattle.wgsl.specs.Size.{present, size_of}
-use Rattle.wgsl.specs.Said.{good, refused, ◌>>=◌}
-use Rattle.wgsl.specs.Site.{block_entry, block_in, settings_of, every_bit, copied_whole, inheriting_call, fresh_call}
+use Rattle.wgsl.specs.Said.{good, refused}
+use Rattle.wgsl.specs.Site.{block_entry, block_in, every_bit, copied_whole, inheriting_call, fresh_call}
 use Rattle.wgsl.proofs.Said.{then_is, then_refused}
 
 -- ---- an inheriting block

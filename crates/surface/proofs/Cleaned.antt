@@ -1,7 +1,7 @@
 -- What cleaning changed, or a refusal, as it crosses (specs/Crossing).
 -- Assumes nothing.
 use Prim.Native.Nat.{ℕ}
-use mathlib.Core.Path.{◌≡◌, refl, ap, sym}
+use mathlib.Core.Path.{◌≡◌, refl, sym}
 use Rattle.wgsl.specs.Said.{Said, good, refused}
 use Rattle.wgsl.specs.Clean.{CleanDone, changed_of, first_after}
 use Rattle.wgsl.proofs.Said.{good_not_refused}

@@ -61,7 +61,7 @@ pub record AllCross (f : List ℕ) : Type 0 where
   pub check : CrossesWhole (check_of f)
   pub size : (e : ℕ) → CrossesWhole (size_call f e)
   pub align : (e : ℕ) → CrossesWhole (align_call f e)
-  pub min_size_here : (e : ℕ) → CrossesWhole (min_size_call f e)
+  pub minimum_size : (e : ℕ) → CrossesWhole (min_size_call f e)
   pub layout : (e : ℕ) → CrossesWhole (told (layout_call f e))
   pub read : (e : ℕ) (b ws : List ℕ) → CrossesWhole (answer_of (read_call f e b ws))
   pub write : (e : ℕ) (ws b : List ℕ) → CrossesWhole (answer_of (write_call f e ws b))

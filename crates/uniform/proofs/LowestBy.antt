@@ -2,13 +2,13 @@
 --
 -- In order: the lowest number told of some entries; one more entry; upward from entry 0; the answer.
 -- Assumes nothing.
-use Prim.Native.Nat.{ℕ, ◌+◌, ◌<◌, ◌≤◌, min}
+use Prim.Native.Nat.{ℕ, ◌+◌, ◌<◌, ◌≤◌}
 use mathlib.Core.Bool.{true, false, not}
 use mathlib.Core.List.Memᴰ
 use mathlib.Core.List.{List, [], ◌∷◌, Memᴰ}
-use mathlib.Core.Logic.{◌⊎◌, inl, inr, ⊎_elim}
+use mathlib.Core.Logic.{⊎_elim}
 use mathlib.Core.Option.{Option, none, some}
-use mathlib.Core.Path.{◌≡◌, refl, sym, ap, ◌∙◌}
+use mathlib.Core.Path.{◌≡◌, refl, ap, ◌∙◌}
 use native.Mathlib.Omega.{arith}
 use native.Mathlib.Decide.{dec_le}
 use native.Mathlib.Nat.{lt_of_not-le}
@@ -17,7 +17,7 @@ use lib.Dec.{ltb}
 use lib.ListN.{length, get_or, set, get_elem?}
 use lib.Seq.{get_or-set_same, get_or-set_other}
 use Rattle.wgsl.specs.Types.{bool, Ty, scalar}
-use Rattle.wgsl.specs.Said.{good, refused, ◌>>◌}
+use Rattle.wgsl.specs.Said.{good, ◌>>◌}
 use Rattle.wgsl.specs.Uniform.{refers_to, keeps_uniform, is_broken, lowest_broken, refuse_broken}
 use Rattle.wgsl.specs.Claim.{Reaches, itself, onward}
 use Rattle.wgsl.proofs.Absent.{true_not_false, yes_or_no}
@@ -25,12 +25,10 @@ use Rattle.wgsl.proofs.Accepted.{accepted}
 use Rattle.wgsl.proofs.AtEntry.{get_elem_get_d}
 use Rattle.wgsl.proofs.Reach.{refers_lower, reached_there, reach_cases}
 use Rattle.wgsl.proofs.Uniform.{broken_is, Asked, broken_some, broken_none}
-use Rattle.layout_values.specs.Value.{value_at}
 use Rattle.walk_shapes.specs.Basis.{Basis}
 use Rattle.walk_shapes.proofs.Basis.{basis_inside}
-use Rattle.uniform_rules.specs.Keeps.{keeps_by}
 use Rattle.uniform_rules.proofs.KeepsBy.{keeps_ask, keeps_is}
-use Rattle.uniform.specs.Lowest.{refers_by, lowest_among, lowest_by, LowestAsks, IsLowest, verdict_of}
+use Rattle.uniform.specs.Lowest.{lowest_among, lowest_by, LowestAsks, IsLowest, verdict_of}
 use Rattle.uniform.proofs.RefersBy.{refers_is, refers_inside}
 
 -- ---- the lowest number told of some entries

@@ -4,14 +4,14 @@
 -- Assumes nothing.
 use Prim.Native.Nat.{ℕ, zero, suc, ◌+◌, ◌*◌, ◌<◌, ◌≤◌}
 use mathlib.Core.Bool.{false}
-use mathlib.Core.List.{List, [], ◌∷◌}
+use mathlib.Core.List.{List}
 use mathlib.Core.Option.{some}
 use mathlib.Core.Path.{◌≡◌, refl, sym, ap, ◌∙◌}
 use native.Mathlib.Nat.{suc-mul}
 use native.Mathlib.Omega.{arith}
 use lib.ListN.{take, get_elem?}
-use Rattle.wgsl.specs.Types.{Ty, scalar, vector, matrix, array, runtime, atomic, struct, Members, scalar_kind, is_scalar_kind, kind_of, struct_kind}
-use Rattle.wgsl.specs.File.{trailer_of, MemberEntry, member_entry_at, type_entry_at}
+use Rattle.wgsl.specs.Types.{Ty, struct, Members, is_scalar_kind, kind_of, struct_kind}
+use Rattle.wgsl.specs.File.{trailer_of, MemberEntry, type_entry_at}
 use Rattle.wgsl.specs.Rule.{members_from}
 use Rattle.wgsl.specs.Uniform.{member_types, refers_to}
 use Rattle.wgsl.proofs.Absent.{true_not_false}

@@ -4,7 +4,7 @@
 -- In order: what an entry refers to, by its value; the lowest number told of some entries; what is told of an entry; what it means; the
 -- answer.
 -- Definitions only. Assumes nothing.
-use Rattle.std.specs.Prelude.{ℕ, zero, suc, ◌+◌, ◌*◌, ◌<◌, ◌≤◌, min, ◌≡◌, Bool, true, false, cond, List, [], ◌∷◌, eqb, ltb, length, get_or}
+use Rattle.std.specs.Prelude.{ℕ, zero, suc, ◌+◌, ◌*◌, ◌<◌, ◌≤◌, min, ◌≡◌, true, false, cond, List, [], ◌∷◌, eqb, ltb, length, get_or}
 use Rattle.wgsl.specs.Types.{Ty, is_scalar_kind, struct_kind}
 use Rattle.wgsl.specs.File.{most_types, member_fields_length}
 use Rattle.wgsl.specs.Said.{Said, good, refused}

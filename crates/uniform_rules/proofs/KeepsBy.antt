@@ -2,7 +2,7 @@
 --
 -- In order: the members of a struct, one in front of those after it, and all of them; every entry.
 -- Assumes nothing.
-use Prim.Native.Nat.{ℕ, zero, suc, ◌+◌, ◌*◌, ◌%◌, ◌<◌, ◌≤◌, max}
+use Prim.Native.Nat.{ℕ, zero, suc, ◌+◌, ◌*◌, ◌%◌, ◌≤◌, max}
 use mathlib.Core.Bool.{true, ◌&&◌}
 use mathlib.Core.List.{List}
 use mathlib.Core.Logic.{⊎_elim}
@@ -14,10 +14,10 @@ use borrow.Author.Tests.{ne_eqb}
 use lib.Dec.{leb}
 use lib.ListN.{take, get_elem?}
 use Rattle.wgsl.specs.Round.{up}
-use Rattle.wgsl.specs.Types.{Ty, scalar, vector, matrix, array, runtime, atomic, struct, Members, no_more, member, is_runtime, everywhere, scalar_kind, kind_of, struct_kind}
+use Rattle.wgsl.specs.Types.{Ty, struct, Members, no_more, member, is_runtime, everywhere, scalar_kind, kind_of, struct_kind}
 use Rattle.wgsl.specs.Size.{is_present, present, given_or, size_of, align_of, member_start, member_end}
 use Rattle.wgsl.specs.File.{trailer_of, member_entry_at, given_size, given_align, type_entry_at}
-use Rattle.wgsl.specs.Rule.{is_last, count_of, members_from, is_multiple, is_well_formed, given_align_fits}
+use Rattle.wgsl.specs.Rule.{is_last, members_from, is_multiple, is_well_formed, given_align_fits}
 use Rattle.wgsl.specs.Uniform.{uniform_align, earliest_after, members_keep, keeps_uniform}
 use Rattle.wgsl.proofs.Round.{up_multiple}
 use Rattle.wgsl.proofs.Absent.{some_present, given_present}
@@ -83,9 +83,9 @@ module _ {f : List ℕ} {ts : List Ty} {ms : List ℕ} {table : List (List ℕ)}
       let own = first_ruled x in
       let multiple = own_multiple lo t align own.own own.well own.own_is own.align_fits in
       let here : (earliest : ℕ) → start_keeps (member_value (member_bytes f) table (m * member_length f)) earliest s.start ≡ (is_multiple (uniform_align t) start && leb earliest start) =
-      λ earliest. rw (first_start r x, r.layout_is_here) (start_is _ _ t own.own start earliest own.well own.own_is multiple) in
+      λ earliest. rw (first_start r x, r.is_layout) (start_is _ _ t own.own start earliest own.well own.own_is multiple) in
       let next : (earliest : ℕ) → earliest_by (member_value (member_bytes f) table (m * member_length f)) earliest s.start ≡ max earliest (earliest_after start t) =
-      λ earliest. rw (first_start r x, r.layout_is_here) (earliest_is _ _ t start earliest) in
+      λ earliest. rw (first_start r x, r.is_layout) (earliest_is _ _ t start earliest) in
       let after = rest_kept c m lo t ns r are x more in
       record {
         slots_all = (first_placeable r x, after.0);

@@ -2,17 +2,17 @@
 --
 -- In order: rounding an alignment up to the unit; whether a member may start there; where those after it may.
 -- Assumes nothing.
-use Prim.Native.Nat.{ℕ, ◌%◌, ◌<◌, ◌≤◌, max}
+use Prim.Native.Nat.{ℕ, ◌%◌, ◌≤◌, max}
 use mathlib.Core.Bool.{Bool, true, false, ◌&&◌}
 use mathlib.Core.Logic.{⊎_elim}
 use mathlib.Core.Option.{some}
-use mathlib.Core.Path.{◌≡◌, refl, sym, ap, ◌∙◌}
+use mathlib.Core.Path.{◌≡◌, refl, ◌∙◌}
 use native.Mathlib.Omega.{arith}
 use borrow.Author.Tests.{eq-eqb, ne_eqb, le-leb, lt-leb}
 use lib.Dec.{eqb, leb}
 use Rattle.wgsl.specs.Round.{IsPower, up}
 use Rattle.wgsl.specs.Types.{Scalar, Ty, scalar, vector, matrix, array, runtime, atomic, struct, everywhere, scalar_kind, kind_of}
-use Rattle.wgsl.specs.Size.{both, present, size_of, align_of}
+use Rattle.wgsl.specs.Size.{both, align_of}
 use Rattle.wgsl.specs.Rule.{is_multiple, is_well_formed}
 use Rattle.wgsl.specs.Uniform.{uniform_align, earliest_after}
 use Rattle.wgsl.proofs.Round.{up_multiple, up_not_below, up_least}

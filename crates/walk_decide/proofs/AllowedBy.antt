@@ -29,9 +29,9 @@ module _ (t : Ty) (l : Value) (is : l ≡ value_of l.stride l.reference t) (w : 
   there none h = absurd (omega arith)
 
   -- What has an alignment has a layout.
-  pub has_layout_lem : 0 < l.align → has_layout t ≡ true
+  pub is_laid_out : 0 < l.align → has_layout t ≡ true
   unfolding has_layout value_of
-  has_layout_lem h =
+  is_laid_out h =
       let same : l.align ≡ present (align_of t) = ap (λ (x : Value). x.align) is in
       let a : is_present (align_of t) ≡ true = there (align_of t) (omega arith) in
       rw a (go (is_open t) refl)
@@ -52,18 +52,18 @@ module _ (t : Ty) (l : Value) (is : l ≡ value_of l.stride l.reference t) (w : 
     -- past 9 only 10 is left
     past : (stored : Bool) → (l.align ≡ 0 → ⊥) → allowed stored t bytes ≡ refuse 10 0 (stored && not (is_storable t))
     unfolding allowed within_limit ◌>>◌ refuse
-    past stored h = rw (le-leb bytes limit fits, has_layout_lem (omega arith)) refl
+    past stored h = rw (le-leb bytes limit fits, is_laid_out (omega arith)) refl
 
     pub storable : (stored : Bool) → (l.align ≡ 0 → ⊥) → (l.narrow ≡ 0 → ⊥) → allowed stored t bytes ≡ good tt
     unfolding is_storable refuse
     storable true h e =
-        past true h ∙ rw (has_layout_lem (omega arith), plain_is t, ← narrow_is, ne_eqb l.narrow 0 e) refl
+        past true h ∙ rw (is_laid_out (omega arith), plain_is t, ← narrow_is, ne_eqb l.narrow 0 e) refl
     storable false h e = past false h
 
     pub unstorable : (l.align ≡ 0 → ⊥) → l.narrow ≡ 0 → allowed true t bytes ≡ refused 10 0
     unfolding is_storable refuse
     unstorable h e =
-        past true h ∙ rw (has_layout_lem (omega arith), plain_is t, ← narrow_is, eq-eqb l.narrow 0 e) refl
+        past true h ∙ rw (is_laid_out (omega arith), plain_is t, ← narrow_is, eq-eqb l.narrow 0 e) refl
 
     -- what is not to be stored need not be storable
     pub not_stored : (l.align ≡ 0 → ⊥) → allowed false t bytes ≡ good tt

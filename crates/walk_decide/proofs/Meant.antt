@@ -55,7 +55,7 @@ entry_found f e table g p =
         types = y.value;
         basis = record { good_file = y.first; members_are = refl; table_is = sym (ap (λ (s : InTable). s.table) both) };
         there = there;
-        entry_is_lem = x.first;
+        is_entry = x.first;
         ground_is = ground;
         bytes_inside = rw ground (members_inside f y.value e x.value y.first);
       },

@@ -35,7 +35,7 @@ module _ {ms : List ℕ} {table : List (List ℕ)} {e : ℕ} {l : Value} {t : Ty
 
   pub size_is : l.size ≡ present (size_of t)
   unfolding value_of
-  size_is = ap (λ (x : Value). x.size) r.layout_is_here
+  size_is = ap (λ (x : Value). x.size) r.is_layout
 
 module _ {ms : List ℕ} {table : List (List ℕ)} {e : ℕ} {l : Value} {t : Ty} (x : Tailed ms table e l t) where
   -- It is open.

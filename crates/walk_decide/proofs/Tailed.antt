@@ -55,7 +55,7 @@ module _ {f : List ℕ} {ts : List Ty} {ms : List ℕ} {table : List (List ℕ)}
   unfolding places
   ready_at t there storable =
       record {
-        layout_is_here = layout_value t there;
+        is_layout = layout_value t there;
         well_formed = basis_well_formed basis e t there;
         storable = storable;
         counted = (run_asks basis e t there).counted;
@@ -72,7 +72,7 @@ module _ {f : List ℕ} {ts : List Ty} {ms : List ℕ} {table : List (List ℕ)}
   -- the tail of entry e, of the type t, is entry i, a runtime array of elements of the type u
   pub record TailFound (t : Ty) (i : ℕ) (u : Ty) : Type 0 where
     pub findable : Findable ms table (value_at table e)
-    pub layout_is_here : (rest_from ms table (value_at table e)).value ≡ value_at table i
+    pub is_layout : (rest_from ms table (value_at table e)).value ≡ value_at table i
     pub there : get_elem? ts i ≡ some (runtime u)
     pub opened : Opened t u (record { offset = (rest_from ms table (value_at table e)).offset; stride = present (stride_of u) })
     pub fixed_is : has_layout t ≡ true → word_count 0 t ≡ (rest_from ms table (value_at table e)).fixed
@@ -81,7 +81,7 @@ module _ {f : List ℕ} {ts : List Ty} {ms : List ℕ} {table : List (List ℕ)}
   stride_is : {t u : Ty} {i : ℕ} → TailFound t i u → (rest_from ms table (value_at table e)).value.stride ≡ present (stride_of u)
   unfolding value_of stride_in parts_of
   stride_is {u = u} {i = i} x =
-      ap (λ (l : Value). l.stride) (x.layout_is_here ∙ basis_layout basis i (runtime u) x.there)
+      ap (λ (l : Value). l.stride) (x.is_layout ∙ basis_layout basis i (runtime u) x.there)
 
   -- Its tail, with the stride that the table has.
   pub found_opened : {t u : Ty} {i : ℕ} (x : TailFound t i u) → Opened t u (record { offset = (rest_from ms table (value_at table e)).offset; stride = (rest_from ms table (value_at table e)).value.stride })
@@ -94,7 +94,7 @@ module _ {f : List ℕ} {ts : List Ty} {ms : List ℕ} {table : List (List ℕ)}
       let k = kept (runtime u) well (x.storable h) in
       let y = runtime_element k in
       let unit : (rest_from ms table (value_at table e)).value.unit ≡ fixed_words u =
-      ap (λ (l : Value). l.unit) (x.layout_is_here ∙ basis_layout basis i (runtime u) x.there) ∙ rw (kept_layout k) in
+      ap (λ (l : Value). l.unit) (x.is_layout ∙ basis_layout basis i (runtime u) x.there) ∙ rw (kept_layout k) in
       let unit_words : (n : ℕ) → word_count n u ≡ (rest_from ms table (value_at table e)).value.unit =
       λ n. count_words n u ∙ ap shape_words (element_shape y n) ∙ sym (unit ∙ kept_words y.element) in
       record {
@@ -103,7 +103,7 @@ module _ {f : List ℕ} {ts : List Ty} {ms : List ℕ} {table : List (List ℕ)}
         element = u;
         opened = found_opened x;
         fixed_is = x.fixed_is (both_hold (has_layout t) (everywhere is_plain t) h).0;
-        many = λ n. rw x.layout_is_here (runtime_many basis i u x.there (x.storable h) n);
+        many = λ n. rw x.is_layout (runtime_many basis i u x.there (x.storable h) n);
         unit_is = unit_words;
         unit_above = omega (arith, unit_words 1, words_positive 1 u (runtime_passed u well).aligned (runtime_passed u well).below (runtime_passed u well).aligned_is (λ o. omega arith));
       }
@@ -125,7 +125,7 @@ module _ {f : List ℕ} {ts : List Ty} {ms : List ℕ} {table : List (List ℕ)}
       let tail = tail_here kind in
       record {
         findable = record { some_members = λ q. absurd (q kind); slots_ask = λ q. absurd (q kind); inside = λ q. absurd (q kind) };
-        layout_is_here = ap (λ (x : declared.Rest). x.value) tail;
+        is_layout = ap (λ (x : declared.Rest). x.value) tail;
         there = there;
         opened = rw tail (runtime_opened u);
         fixed_is = λ h. omega (arith, word_count_runtime 0 u, ap (λ (x : declared.Rest). x.fixed) tail);
@@ -193,7 +193,7 @@ module _ {f : List ℕ} {ts : List Ty} {ms : List ℕ} {table : List (List ℕ)}
                 slots_ask = λ q. rw (basis.members_are, less, numbers.0, numbers.2) x.slots_ask;
                 inside = λ q. basis_inside basis _ (runtime u) there';
               };
-          layout_is_here = ap (λ (y : declared.Rest). y.value) found;
+          is_layout = ap (λ (y : declared.Rest). y.value) found;
           there = there';
           opened = rw (found, ← start) opened;
           fixed_is = λ h. rw found (sym (struct_unit ns there h));

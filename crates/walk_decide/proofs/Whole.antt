@@ -37,15 +37,15 @@ use Rattle.walk_decide.specs.Whole.{Ready, Tailed, Whole}
 -- ---- a storable type
 
 module _ {ms : List ℕ} {table : List (List ℕ)} {e : ℕ} {l : Value} {t : Ty} (r : Ready ms table e l t) where
-  has_layout_lem : has_layout t ≡ true
+  is_laid_out : has_layout t ≡ true
   unfolding is_storable
-  has_layout_lem = (both_hold (has_layout t) (everywhere is_plain t) r.storable).0
+  is_laid_out = (both_hold (has_layout t) (everywhere is_plain t) r.storable).0
 
   -- Its shape takes its extent.
   pub ready_span : (n : ℕ) → span_of (shape_of n t) ≡ extent_of n t
   unfolding has_layout
   ready_span n =
-      let both = both_hold (is_present (align_of t)) (is_open t || is_present (size_of t)) has_layout_lem in
+      let both = both_hold (is_present (align_of t)) (is_open t || is_present (size_of t)) is_laid_out in
       let a = present_some (align_of t) both.0 in
       (laid n t a.0 r.well_formed a.1 both.1).span
 
@@ -53,13 +53,13 @@ module _ {ms : List ℕ} {table : List (List ℕ)} {e : ℕ} {l : Value} {t : Ty
   pub ready_ordered : (n : ℕ) → Ordered (places n t) 0 (extent_of n t)
   unfolding has_layout places
   ready_ordered n =
-      let both = both_hold (is_present (align_of t)) (is_open t || is_present (size_of t)) has_layout_lem in
+      let both = both_hold (is_present (align_of t)) (is_open t || is_present (size_of t)) is_laid_out in
       let a = present_some (align_of t) both.0 in
       rw (← ready_span n) (rw zero-add at (places_ordered (shape_of n t) 0 (laid n t a.0 r.well_formed a.1 both.1).sound))
 
   -- Its layout counts its fixed words.
   pub ready_words : word_count 0 t ≡ words_in l
-  ready_words = sym (ap words_in r.layout_is_here ∙ value_words l.stride l.reference t ∙ words_fixed t has_layout_lem)
+  ready_words = sym (ap words_in r.is_layout ∙ value_words l.stride l.reference t ∙ words_fixed t is_laid_out)
 
   -- ---- a type of fixed size
 

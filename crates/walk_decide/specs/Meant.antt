@@ -20,6 +20,6 @@ pub record Meant (f : List ℕ) (e : ℕ) (g : Ground) (table : List (List ℕ))
   pub types : List Ty
   pub basis : Basis f types (member_bytes f) table
   pub there : get_elem? types e ≡ some t
-  pub entry_is_lem : entry_of f e ≡ good t
+  pub is_entry : entry_of f e ≡ good t
   pub ground_is : g ≡ ground_of f e t
   pub bytes_inside : (g.start ≤ g.end) × (g.end ≤ length f)

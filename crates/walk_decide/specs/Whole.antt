@@ -27,7 +27,7 @@ pub record Covered (t : Ty) (n width : ℕ) : Type 0 where
 
 -- entry e, of the storable type t and the value l
 pub record Ready (ms : List ℕ) (table : List (List ℕ)) (e : ℕ) (l : Value) (t : Ty) : Type 0 where
-  pub layout_is_here : l ≡ value_of l.stride l.reference t
+  pub is_layout : l ≡ value_of l.stride l.reference t
   pub well_formed : everywhere is_well_formed t ≡ true
   pub storable : is_storable t ≡ true
   pub counted : Counted l

@@ -8,14 +8,14 @@ use mathlib.Core.Bool.{true, ◌||◌}
 use mathlib.Core.List.{List}
 use mathlib.Core.Logic.{◌⊎◌, inl, inr, ⊎_elim}
 use mathlib.Core.Option.{Option, some, some-injective}
-use mathlib.Core.Path.{◌≡◌, refl, ap, ◌∙◌, sym}
+use mathlib.Core.Path.{◌≡◌, refl, ◌∙◌, sym}
 use native.Mathlib.Nat.{suc-mul}
 use native.Mathlib.Omega.{arith}
 use lib.ListN.{length, take, get_elem?}
 use Rattle.wgsl.specs.Round.{limit}
 use Rattle.wgsl.specs.Types.{Ty, scalar, vector, matrix, array, runtime, atomic, struct, Members, no_more, is_runtime, is_open, kind_of, struct_kind}
 use Rattle.wgsl.specs.Types as types
-use Rattle.wgsl.specs.Size.{is_present, present, size_of, align_of, has_layout}
+use Rattle.wgsl.specs.Size.{is_present, size_of, align_of, has_layout}
 use Rattle.wgsl.specs.Said.{good, refused}
 use Rattle.wgsl.specs.File.{trailer_of, member_entry_at, given_size, given_align, type_entry_at}
 use Rattle.wgsl.specs.Rule.{is_last, count_of, members_from}
@@ -31,7 +31,7 @@ use Rattle.layout_values.specs.Value.{value_at}
 use Rattle.wgsl.proofs.ScalarKind.{no_scalar_kind}
 use Rattle.walk_trees.specs.Slot.{slot_at, SlotAsks, slot_in, SlotsAsk}
 use Rattle.walk_shapes.specs.Basis.{Basis}
-use Rattle.walk_shapes.proofs.Basis.{basis_inside, basis_layout, basis_well_formed, basis_refers}
+use Rattle.walk_shapes.proofs.Basis.{basis_inside, basis_well_formed, basis_refers}
 use Rattle.walk_shapes.proofs.Says.{struct_says}
 use Rattle.walk_shapes.proofs.MemberRead.{Ruled, struct_ruled, first_ruled, rest_ruled, last_none, count_from, Read, read, first_placeable, first_start, first_end}
 use Rattle.walk_path.specs.declared.enter.Stand.TheVariants.{Entry}

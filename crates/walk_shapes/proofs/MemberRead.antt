@@ -111,12 +111,12 @@ or_own_lem given own n e = rw e
 
 -- member m of a struct with the entry e has the type t
 pub record Read (f : List ℕ) (ts : List Ty) (table : List (List ℕ)) (e m : ℕ) (t : Ty) : Type 0 where
-  pub entry_is_lem : member_at (member_bytes f) (m * member_length f) ≡ member_entry_at f m
+  pub is_entry : member_at (member_bytes f) (m * member_length f) ≡ member_entry_at f m
   pub inside : m * member_length f + member_fields_length ≤ length (member_bytes f)
   pub lower_is : (member_at (member_bytes f) (m * member_length f)).type < e
   pub there : get_elem? ts (member_at (member_bytes f) (m * member_length f)).type ≡ some t
   pub type_inside : (member_at (member_bytes f) (m * member_length f)).type < length table
-  pub layout_is_here : member_value (member_bytes f) table (m * member_length f) ≡ value_of (member_length f) (type_entry_at f (member_at (member_bytes f) (m * member_length f)).type).reference t
+  pub is_layout : member_value (member_bytes f) table (m * member_length f) ≡ value_of (member_length f) (type_entry_at f (member_at (member_bytes f) (m * member_length f)).type).reference t
 
 pub read : {f : List ℕ} {ts : List Ty} {ms : List ℕ} {table : List (List ℕ)} → Basis f ts ms table → {e : ℕ} (m : ℕ) (t : Ty) → m < (trailer_of f).members → lower (take e ts) (member_entry_at f m).type ≡ some t → Read f ts table e m t
 unfolding lower
@@ -127,12 +127,12 @@ read {f} {ts} basis {e} m t h is =
     let down : (member_at (member_bytes f) (m * member_length f)).type < e = rw type found.0 in
     let there : get_elem? ts (member_at (member_bytes f) (m * member_length f)).type ≡ some t = rw type found.1 in
     record {
-      entry_is_lem = same;
+      is_entry = same;
       inside = rw (length_member_bytes f ts basis.good_file) (member_inside f m h);
       lower_is = down;
       there = there;
       type_inside = basis_inside basis _ t there;
-      layout_is_here = basis_layout basis _ t there;
+      is_layout = basis_layout basis _ t there;
     }
 
 -- ---- its alignment, size and place
@@ -141,15 +141,15 @@ module _ {f : List ℕ} {ts : List Ty} {table : List (List ℕ)} {e m : ℕ} {t 
   align_is : (own a : ℕ) → align_of t ≡ some own → given_or (given_align (member_entry_at f m)) (align_of t) ≡ some a → member_align (member_bytes f) table (m * member_length f) ≡ a
   unfolding value_of
   align_is own a h is =
-      ap (λ (q : Value). or_own (given_align (member_at (member_bytes f) (m * member_length f))) q.align) r.layout_is_here
-      ∙ ap (λ (x : MemberEntry). or_own (given_align x) (present (align_of t))) r.entry_is_lem
+      ap (λ (q : Value). or_own (given_align (member_at (member_bytes f) (m * member_length f))) q.align) r.is_layout
+      ∙ ap (λ (x : MemberEntry). or_own (given_align x) (present (align_of t))) r.is_entry
       ∙ or_own_lem (given_align (member_entry_at f m)) (align_of t) own h ∙ ap present is ∙ present_is a
 
   size_is : (own a : ℕ) → size_of t ≡ some own → given_or (given_size (member_entry_at f m)) (size_of t) ≡ some a → member_size (member_bytes f) table (m * member_length f) ≡ a
   unfolding value_of
   size_is own a h is =
-      ap (λ (q : Value). or_own (given_size (member_at (member_bytes f) (m * member_length f))) q.size) r.layout_is_here
-      ∙ ap (λ (x : MemberEntry). or_own (given_size x) (present (size_of t))) r.entry_is_lem
+      ap (λ (q : Value). or_own (given_size (member_at (member_bytes f) (m * member_length f))) q.size) r.is_layout
+      ∙ ap (λ (x : MemberEntry). or_own (given_size x) (present (size_of t))) r.is_entry
       ∙ or_own_lem (given_size (member_entry_at f m)) (size_of t) own h ∙ ap present is ∙ present_is a
 
   module _ {lo : ℕ} {ms : Members} (x : Ruled (some lo) (member t (given_size (member_entry_at f m)) (given_align (member_entry_at f m)) ms)) where
@@ -161,7 +161,7 @@ module _ {f : List ℕ} {ts : List Ty} {table : List (List ℕ)} {e m : ℕ} {t 
 
     -- The words of a member's type are within the limit.
     member_counted : Counted (member_value (member_bytes f) table (m * member_length f))
-    member_counted = rw (r.layout_is_here, value_words _ _ t) (fixed_counted t (first_ruled x).well)
+    member_counted = rw (r.is_layout, value_words _ _ t) (fixed_counted t (first_ruled x).well)
 
     pub first_placeable : SlotAsks (member_bytes f) table (m * member_length f) lo
     first_placeable =

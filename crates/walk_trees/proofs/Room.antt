@@ -81,9 +81,9 @@ module _ {ms : List ℕ} {table : List (List ℕ)} {m end : ℕ} {y : Shape} {at
   member_room = rw is ready.room
 
   -- Its words lie one after the other, if its type's layout r says so.
-  module _ {r : Value} (layout_is_here : r ≡ value_at table p.ty) (run : packed_as r ≡ 4) where
+  module _ {r : Value} (is_layout : r ≡ value_at table p.ty) (run : packed_as r ≡ 4) where
     runs_on : packed_as (value_at table p.ty) ≡ 4
-    runs_on = rw layout_is_here at run
+    runs_on = rw is_layout at run
 
     pub run_places_lem : {z : Shape} → Tree ms table (slot_at ms table m end).ty z → (q : ℕ) → places_of z q ≡ run_places (slot_at ms table m end).words 4 q
     run_places_lem t q = rw (← is, words_is) ((tree_valued (rw (← is) at t)).run_is runs_on q)

@@ -16,22 +16,22 @@ use Rattle.walk_trees.specs.Slot.{member_at, member_value, member_align, member_
 
 -- the member at m has the entry x, its type is ty and that type's layout r
 pub record MemberFound (ms : List ℕ) (table : List (List ℕ)) (m : ℕ) (x : MemberEntry) (ty : ℕ) (r : Value) : Type 0 where
-  pub entry_is_lem : x ≡ member_at ms m
+  pub is_entry : x ≡ member_at ms m
   pub type_is : ty ≡ x.type
-  pub layout_is_here : r ≡ value_at table ty
+  pub is_layout : r ≡ value_at table ty
 
 module _ {ms : List ℕ} {table : List (List ℕ)} {m ty : ℕ} {x : MemberEntry} {r : Value} (f : MemberFound ms table m x ty r) where
   pub type_found : ty ≡ (member_at ms m).type
-  type_found = f.type_is ∙ ap (λ (y : MemberEntry). y.type) f.entry_is_lem
+  type_found = f.type_is ∙ ap (λ (y : MemberEntry). y.type) f.is_entry
 
   pub layout_found : r ≡ member_value ms table m
-  layout_found = f.layout_is_here ∙ ap (value_at table) type_found
+  layout_found = f.is_layout ∙ ap (value_at table) type_found
 
   pub given_align_lem : {a : ℕ} → a ≡ or_own (given_align x) r.align → a ≡ member_align ms table m
-  given_align_lem e = rw (← layout_found, ← f.entry_is_lem) e
+  given_align_lem e = rw (← layout_found, ← f.is_entry) e
 
   pub given_size_lem : {a : ℕ} → a ≡ or_own (given_size x) r.size → a ≡ member_size ms table m
-  given_size_lem e = rw (← layout_found, ← f.entry_is_lem) e
+  given_size_lem e = rw (← layout_found, ← f.is_entry) e
 
   -- A member without flags has its type's own alignment and size.
   pub own_align : x.flags ≡ 0 → r.align ≡ member_align ms table m

@@ -9,7 +9,6 @@ use mathlib.Core.List.{List, [], ◌∷◌}
 use mathlib.Core.Option.{none, some}
 use mathlib.Core.Path.{◌≡◌, refl, sym, ◌∙◌}
 use native.Mathlib.Omega.{arith}
-use borrow.Author.Tests.{leb-true, leb-false}
 use lib.ListN.{length, take, get_or, get_elem?}
 use Rattle.wgsl.specs.Types.{Scalar, Ty, scalar, vector, matrix, array, runtime, atomic, struct, Members, scalar_kind, is_scalar_kind}
 use Rattle.wgsl.specs.Said.{good}
@@ -81,8 +80,8 @@ module _ {f : List ℕ} {ts : List Ty} {k : ℕ} {t : Ty} {x : TypeEntry} (at : 
   made : type_of_entry f (take k ts) k ≡ some t
   made = entry_made f ts at.good_file k t at.type_is
 
-  pub scalar_at_lem : is_scalar_kind x.kind ≡ true → (s : Scalar) × (t ≡ scalar s) × (scalar_kind s ≡ x.kind)
-  scalar_at_lem h = rw at.fields_are (scalar_entry f (take k ts) k t made (rw at.fields_are at h))
+  pub scalar_lies_at : is_scalar_kind x.kind ≡ true → (s : Scalar) × (t ≡ scalar s) × (scalar_kind s ≡ x.kind)
+  scalar_lies_at h = rw at.fields_are (scalar_entry f (take k ts) k t made (rw at.fields_are at h))
 
   pub vector_at : x.kind ≡ 7 → OverScalar ts x.reference t (vector x.rows)
   vector_at h = rw at.fields_are (whole_scalar k ts (vector_entry f (take k ts) k t made (rw at.fields_are at h)))
@@ -168,7 +167,7 @@ refers {f} {ts} {k} {t} {x} at = go (is_scalar_kind x.kind) refl
     over (suc (suc (suc (suc (suc (suc n)))))) e high = absurd (omega arith)
 
     go : (b : Bool) → is_scalar_kind x.kind ≡ b → Refers f ts k x t
-    go true q = let (s, is, of) = scalar_at_lem at q in rw is (to_none s)
+    go true q = let (s, is, of) = scalar_lies_at at q in rw is (to_none s)
     go false q =
         let h : 6 < x.kind = (other_range _ q).0 in
         over (x.kind - 7) (omega arith) (kind_high at q)

@@ -3,14 +3,14 @@
 -- In order: member entries; the trailer; the file.
 -- Assumes nothing.
 use Prim.Native.Nat.{ℕ, zero, suc, ◌+◌, ◌-◌, ◌*◌, ◌<◌, ◌≤◌}
-use mathlib.Core.List.{List, [], ◌++◌}
-use mathlib.Core.Path.{◌≡◌, refl, ap, ap₂, sym, ◌∙◌}
+use mathlib.Core.List.{List}
+use mathlib.Core.Path.{◌≡◌, refl, ap}
 use native.Mathlib.Omega.{arith}
 use native.Mathlib.Nat.{suc-mul, mul_comm, mul-zero, zero-mul}
 use lib.ListN.{length, get_or, take, drop, take-append-drop, length-drop}
 use lib.Seq.{take-add, drop-drop, take_all}
-use Rattle.wgsl.specs.Number.{load, bytes_of}
-use Rattle.wgsl.specs.File.{Trailer, trailer_of, trailer_length, member_entry_length, member_fields_length, length_by}
+use Rattle.wgsl.specs.Number.{load}
+use Rattle.wgsl.specs.File.{Trailer, trailer_of, trailer_length, member_entry_length, length_by}
 use Rattle.wgsl.specs.Form.{member_place, entries_with, trailer_as, moved_to}
 use Rattle.wgsl.proofs.Number.{bytes_load}
 use Rattle.wgsl.proofs.Trailed.{Trailed}
@@ -39,9 +39,9 @@ module _ {f : List ℕ} {r : Trailer} (t : Trailed f r) (form : ℕ) (name : Lis
     unfolding trailer_as trailer_of
     trailer_back =
         let at : ℕ = length f - 10 in
-        let form_is_here : r.form ≡ load 2 f (at + 8) = ap (λ (x : Trailer). x.form) t.is in
+        let is_form : r.form ≡ load 2 f (at + 8) = ap (λ (x : Trailer). x.form) t.is in
         let all : length (drop at f) ≤ 10 = rw length-drop (omega arith) in
-        rw (moved_trailer t form name low high wide, form_is_here, bytes_load 2 f (at + 8) (omega (arith, t.bytes)) bytes, ← drop-drop 8 at f, ← take-add 8 2 (drop at f), take_all 10 (drop at f) all) refl
+        rw (moved_trailer t form name low high wide, is_form, bytes_load 2 f (at + 8) (omega (arith, t.bytes)) bytes, ← drop-drop 8 at f, ← take-add 8 2 (drop at f), take_all 10 (drop at f) all) refl
 
     pub there_and_back : moved_to r.form back moved ≡ f
     unfolding moved_to member_place length_by

@@ -4,25 +4,25 @@
 -- Assumes nothing.
 use Prim.Native.Nat.{ℕ, ◌+◌, ◌-◌, ◌<◌, ◌≤◌}
 use mathlib.Core.List.{List, [], ◌∷◌, map}
-use mathlib.Core.Bool.{Bool, true, false, cond, not, ◌&&◌, ◌||◌, or-false, and-true, and-false}
+use mathlib.Core.Bool.{Bool, true, false, cond, not, or-false, and-true, and-false}
 use mathlib.Core.Path.{◌≡◌, refl, ap, sym, ◌∙◌}
 use mathlib.Core.Logic.{◌⊎◌, ⊎_elim, ⊎_map}
 use native.Mathlib.Omega.{arith}
-use borrow.Author.Tests.{eqb-true, eqb-false, eq-eqb, ne_eqb, not-true, not-false}
+use borrow.Author.Tests.{eqb-true, eqb-false, not-true}
 use lib.Dec.{eqb}
-use lib.ListN.{length, get_or, take, drop}
+use lib.ListN.{length, get_or, drop}
 use lib.Seq.{get_or-take, get_or-drop}
 use Rattle.wgsl.specs.Types.{Ty}
-use Rattle.wgsl.specs.Said.{Said, good, refused, ◌>>=◌, ◌>>◌, refuse, or_refuse}
+use Rattle.wgsl.specs.Said.{Said, good, refused, ◌>>=◌, ◌>>◌}
 use Rattle.wgsl.specs.Place.{span_of, word_places, store_words}
 use Rattle.wgsl.specs.Path.{Target, walk, step_of}
-use Rattle.wgsl.specs.Call.{Done, answer_of, scalar_at, set_scalar, set_target}
+use Rattle.wgsl.specs.Call.{Done, answer_of, set_scalar, set_target}
 use Rattle.wgsl.specs.BitField.{bit_at}
-use Rattle.wgsl.specs.Site.{with_bit, without_bit, block_entry, block_in, member_of, member_call, shown_in, SiteDone, copied_in, site_set_call, site_answer, site_after, mask_set, clear_call, zero_of, mask_after}
-use Rattle.wgsl.specs.SiteClaim.{bytes_in, shown_bytes, IsBlock, SetOnSite, Cleared}
+use Rattle.wgsl.specs.Site.{with_bit, without_bit, member_of, member_call, shown_in, SiteDone, copied_in, site_set_call, site_answer, site_after, mask_set, clear_call, zero_of, mask_after}
+use Rattle.wgsl.specs.SiteClaim.{bytes_in, shown_bytes, IsBlock}
 use Rattle.wgsl.specs.StartClaim.{Kept, Change, set, clear, answer_to, left_by, answers_to, left_after, is_clear, is_set, never_clears, never_sets}
 use Rattle.wgsl.proofs.Absent.{both_hold, true_not_false}
-use Rattle.wgsl.proofs.Said.{good_not_refused, then_good, then_is, then_refused}
+use Rattle.wgsl.proofs.Said.{good_not_refused, then_is, then_refused}
 use Rattle.wgsl.proofs.Word.{length_store_words}
 use Rattle.wgsl.proofs.Site.{entry_if, block_is, block_if, member_inside, cleared, words_same, part_same, can_store, shown_room, site_set, site_done}
 

@@ -14,7 +14,7 @@ use lib.ListN.{length, get_or, take, drop, get_elem?}
 use Rattle.wgsl.specs.Number.{load, store}
 use Rattle.wgsl.specs.Round.{IsUp, up, IsPower, is_power, limit}
 use Rattle.wgsl.specs.Types.{Scalar, Ty, struct, Members, is_open, everywhere}
-use Rattle.wgsl.specs.Size.{present, width_of, align_of, offsets_of, numbers_of, has_layout}
+use Rattle.wgsl.specs.Size.{align_of, offsets_of, numbers_of, has_layout}
 use Rattle.wgsl.specs.Said.{good, refused}
 use Rattle.wgsl.specs.Rule.{is_well_formed, judged, types_below, types_of}
 use Rattle.wgsl.specs.Place.{extent_of, elements_in, shape_of, Place, places, word_count, word_places}

@@ -104,7 +104,7 @@ module _ {f : List ℕ} {e : ℕ} {b : List ℕ} {t : Ty} (stored : Stored f e b
       let there = covered_place (places n t) i e' in
       let found = place_path 0 x there.0 sound there.1 in
       let s = found.scalar_is in
-      let a = found.scalar_at_lem in
+      let a = found.scalar_lies_at in
       let steps = found.steps in
       let has = (both_hold (is_present (align_of t)) (is_open t || is_present (size_of t)) stored.layout).1 in
       let below = steps_below 0 0 x steps (target a (one s)) (2 ^ 31) (entry_small n t well has elements_few) (found.leads 0) in

@@ -90,8 +90,8 @@ module _ (f : List ℕ) (ts : List Ty) (good_file : types_of f ≡ good ts) wher
       let (e, i, is) = mathlib.Core.List.Memᴰ.of_map candidate es m in
       rw (← is) (refl, i)
 
-  entry_is_lem : {e : ℕ} → e < length ts → entry_of f e ≡ good (candidate e).type
-  entry_is_lem {e} low = there_entry f e good_file (get_elem_get_d ts e (scalar bool) low)
+  is_entry : {e : ℕ} → e < length ts → entry_of f e ≡ good (candidate e).type
+  is_entry {e} low = there_entry f e good_file (get_elem_get_d ts e (scalar bool) low)
 
   -- ---- answers alike
 
@@ -116,7 +116,7 @@ module _ (f : List ℕ) (ts : List Ty) (good_file : types_of f ≡ good ts) wher
   mapped_are : (es : List ℕ) → AllLow es → (c : Candidate) → Memᴰ c (map candidate es) → entry_of f c.number ≡ good c.type
   mapped_are es all c m =
       let (e, i, is) = mathlib.Core.List.Memᴰ.of_map candidate es m in
-      rw (← is) (entry_is_lem (all e i))
+      rw (← is) (is_entry (all e i))
 
   order_alike : (es fs : List ℕ) → SameMembers es fs → Alike f (common_call f es) (common_call f fs)
   order_alike es fs h =
@@ -327,7 +327,7 @@ common_is f es c h =
       among = among;
       above = λ e m.
           let v = g.above (each e) (mathlib.Core.List.Memᴰ.map each m) in
-          (v.rank, rank_is_lem f e c (entry_is_lem f ts good_file (low e m)) (entry_is_lem f ts good_file (low c among)) (ap (rank_of (each e).type) (sym type) ∙ v.has));
+          (v.rank, rank_is_lem f e c (is_entry f ts good_file (low e m)) (is_entry f ts good_file (low c among)) (ap (rank_of (each e).type) (sym type) ∙ v.has));
     }
 
 pub common_good_if : (f es : List ℕ) → GoodIf (common_call f es) ((c : ℕ) × IsCommon f c es)
@@ -345,8 +345,8 @@ common_good_if f es = record { if_so = λ x. answered_so x.0 x.1; only_if = λ c
         let above : (b : Candidate) → Memᴰ b (map each es) → Converts b.type (each c).type = λ b m.
         let (e, i, is) = mathlib.Core.List.Memᴰ.of_map each es m in
         let r = ranked f e c _ (k.above e i).1 in
-        let from : r.from ≡ (each e).type = cc (r.from_is, entry_is_lem f ts good_file (low e i)) in
-        let to : r.to ≡ (each c).type = cc (r.to_is, entry_is_lem f ts good_file (low c k.among)) in
+        let from : r.from ≡ (each e).type = cc (r.from_is, is_entry f ts good_file (low e i)) in
+        let to : r.to ≡ (each c).type = cc (r.to_is, is_entry f ts good_file (low c k.among)) in
         rw (← is) (record { rank = (k.above e i).0; has = rw (from, to) at r.has }) in
         let g : Greatest (each c) (map each es) = record { among = mathlib.Core.List.Memᴰ.map each k.among; above = above } in
         let (d, found_it) = part_common (map each es) (record { first = each c; has = mathlib.Core.List.Memᴰ.map each k.among; there = λ b m. m }) g in

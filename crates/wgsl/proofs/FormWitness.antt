@@ -3,9 +3,9 @@
 --
 -- The files are those of specs/FormCase: u32 and a struct of two, three members, five bytes before them; in form 2 without names.
 -- Assumes nothing.
-use Prim.Native.Nat.{ℕ, zero, suc, ◌+◌, ◌*◌, ◌<◌, ◌≤◌}
+use Prim.Native.Nat.{ℕ, zero, suc, ◌<◌}
 use mathlib.Core.Bool.{Bool, true, ◌&&◌}
-use mathlib.Core.List.{List, [], ◌∷◌, ◌++◌}
+use mathlib.Core.List.{List, [], ◌∷◌}
 use mathlib.Core.Path.{◌≡◌, refl}
 use native.Mathlib.Omega.{arith}
 use borrow.Author.Tests.{ltb-true}
@@ -61,8 +61,8 @@ byte_at (b ∷ bs) h (suc i) = byte_at bs (both_hold (ltb b 256) (all_bytes bs) 
 pub form_witnesses : FormWitnesses
 unfolding all_bytes load bytes_of up within_limit is_runtime ends_in_runtime is_open everywhere every_member both given_or is_present present width_of vec3_align vector_size vector_align start_after end_after member_start member_end size_of align_of members_align members_end stride_of own_stride_of min_size_of offsets_of inner_numbers_of numbers_of within_limits fits_limit has_layout is_stored is_plain is_storable refuse or_refuse trailer_of length_by member_entry_length type_entry_from type_entry_at member_entry_from member_entry_at size_is_given align_is_given given_size given_align rest_is_zero between check_trailer when and_then unused scalar_of_kind is_scalar_kind scalar_in lower members_from scalar_made vector_made matrix_made runtime_made atomic_made struct_made over_made type_made type_of_entry is_matrix_scalar is_atomic_scalar is_last count_of member_allowed members_allowed is_allowed at_least given_size_fits is_multiple given_align_fits members_given_fit given_fits judged types_below names_member is_named all_named types_of tail_at members_tail tail_of extent_by extent_of elements_by elements_in shape_of fields_of span_of words_over words_for word_places repeated places_of places word_count step_of enter walk scalar_kind check_of entry_of size_call answer_of contents_of allowed entry_for is_short target_in target_call view_call offset_of member_step type_entry member_given member_entry column ◌>>=◌ ◌>>◌ member_place name_at nameless entries_with trailer_as moved_to to_form2 to_form1 form_is filled put_out move_on_call move_back_call trailer_at named_member two_entries plain_file named_file old_trailer
 form_witnesses =
-    let one : OfForm 1 plain_file = record { form_is_here = refl; types = _; accepted = refl } in
-    let two : OfForm 2 (named_file 0 0 0) = record { form_is_here = refl; types = _; accepted = refl } in
+    let one : OfForm 1 plain_file = record { is_form = refl; types = _; accepted = refl } in
+    let two : OfForm 2 (named_file 0 0 0) = record { is_form = refl; types = _; accepted = refl } in
     let on : CanMoveOn plain_file room = (requests.move_on_good_if plain_file room).only_if _ refl in
     let back : CanMoveBack (named_file 0 0 0) room = (requests.move_back_good_if (named_file 0 0 0) room).only_if _ refl in
     record {

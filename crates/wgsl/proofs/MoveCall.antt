@@ -2,19 +2,18 @@
 --
 -- In order: files of a form; names; the file in the other form; when a move is good; there and back; an old reader.
 -- Assumes nothing.
-use Prim.Native.Nat.{ℕ, zero, suc, ◌+◌, ◌-◌, ◌*◌, ◌<◌, ◌≤◌}
-use mathlib.Core.List.{List, [], ◌∷◌, ◌++◌}
-use mathlib.Core.Bool.{Bool, true, false, not, ◌&&◌}
+use Prim.Native.Nat.{ℕ, zero, suc, ◌+◌, ◌*◌, ◌<◌, ◌≤◌}
+use mathlib.Core.List.{List, [], ◌++◌}
+use mathlib.Core.Bool.{Bool, true, false, not}
 use mathlib.Core.Path.{◌≡◌, refl, ap, sym, ◌∙◌}
 use native.Mathlib.Omega.{arith}
-use borrow.Author.Tests.{ltb-false, eqb-true, eqb-false, eq-eqb, ne_eqb, le-ltb, not-false}
-use lib.Dec.{eqb, ltb}
-use lib.ListN.{length, get_or, take, drop, replicate}
+use borrow.Author.Tests.{ltb-false, eqb-true, eqb-false, eq-eqb, le-ltb, not-false}
+use lib.Dec.{eqb}
+use lib.ListN.{length, get_or, take, drop}
 use lib.Seq.{take-append_seam, length-take-le}
 use Rattle.wgsl.specs.Number.{load, bytes_of}
-use Rattle.wgsl.specs.Types.{Ty}
 use Rattle.wgsl.specs.Said.{Said, good, refused, refuse, ◌>>◌, ◌>>=◌}
-use Rattle.wgsl.specs.File.{Trailer, trailer_of, trailer_length, length_by, member_entry_length, member_fields_length, check_trailer}
+use Rattle.wgsl.specs.File.{Trailer, trailer_of, length_by, member_entry_length, check_trailer}
 use Rattle.wgsl.specs.Rule.{types_of}
 use Rattle.wgsl.specs.Call.{Done}
 use Rattle.wgsl.specs.Form.{member_place, name_at, nameless, no_name, entries_with, trailer_as, moved_to, to_form2, to_form1, form_is, filled, put_out, move_on_call, move_back_call, old_trailer}
@@ -35,7 +34,7 @@ trailed_of {f = f} o = (accepted f o.types o.accepted).trailer_good
 
 pub form_good : {form : ℕ} {f : List ℕ} → OfForm form f → form_is form f ≡ good tt
 unfolding form_is refuse ◌>>◌ ◌>>=◌
-form_good {form} {f} o = rw (le-ltb (length f) 10 (trailed_of o).bytes, eq-eqb (trailer_of f).form form o.form_is_here, o.accepted) refl
+form_good {form} {f} o = rw (le-ltb (length f) 10 (trailed_of o).bytes, eq-eqb (trailer_of f).form form o.is_form, o.accepted) refl
 
 pub form_only : (form : ℕ) (f : List ℕ) → form_is form f ≡ good tt → OfForm form f
 unfolding form_is
@@ -43,7 +42,7 @@ form_only form f h =
     let one = refuse_good 1 0 _ _ h in
     let two = refuse_good 2 0 _ _ one.1 in
     let x = then_good (types_of f) _ two.1 in
-    record { form_is_here = eqb-true (trailer_of f).form form (not-false (eqb (trailer_of f).form form) two.0); types = x.value; accepted = x.first }
+    record { is_form = eqb-true (trailer_of f).form form (not-false (eqb (trailer_of f).form form) two.0); types = x.value; accepted = x.first }
 
 -- ---- names
 
@@ -90,7 +89,7 @@ module _ {from form : ℕ} {name f : List ℕ} (o : OfForm from f) (x : Form for
   -- it has that form, and its types are those that it had
   moved_form : OfForm form (moved_to form name f)
   moved_form = record {
-    form_is_here = rw (trailer_moved t form name x.low x.high x.wide) refl;
+    is_form = rw (trailer_moved t form name x.low x.high x.wide) refl;
     types = o.types;
     accepted = moved_types t form name x.low x.high x.wide ∙ o.accepted;
   }
@@ -146,15 +145,15 @@ module _ {f : List ℕ} (bytes : (i : ℕ) → get_or f i 0 < 256) where
   on_and_back o =
       let x = form_2 in
       let y = form_1 in
-      rw o.form_is_here at (there_and_back (trailed_of o) 2 no_name x.low x.high x.wide [] (rw o.form_is_here y.wide) (λ m h. refl) bytes)
+      rw o.is_form at (there_and_back (trailed_of o) 2 no_name x.low x.high x.wide [] (rw o.is_form y.wide) (λ m h. refl) bytes)
 
   pub back_and_on : OfForm 2 f → ((m : ℕ) → m < (trailer_of f).members → name_at f m ≡ 0) → to_form2 (to_form1 f) ≡ f
   unfolding to_form1 to_form2 name_at bytes_of
   back_and_on o none =
       let x = form_1 in
       let y = form_2 in
-      let long : member_entry_length (trailer_of f).form ≡ 16 = rw o.form_is_here (sym y.wide) in
-      rw o.form_is_here at (there_and_back (trailed_of o) 1 [] x.low x.high x.wide no_name (rw o.form_is_here y.wide) (λ m h.
+      let long : member_entry_length (trailer_of f).form ≡ 16 = rw o.is_form (sym y.wide) in
+      rw o.is_form at (there_and_back (trailed_of o) 1 [] x.low x.high x.wide no_name (rw o.is_form y.wide) (λ m h.
       sym (bytes_load 4 f (member_place f m + 12) (omega (arith, entry_inside (trailed_of o) m h, long)) bytes) ∙ ap (bytes_of 4) (none m h)) bytes)
 
 -- ---- when a move is good, and what it leaves
@@ -253,4 +252,4 @@ pub old_reader : {f : List ℕ} → OfForm 2 f → old_trailer f ≡ refused 2 0
 unfolding old_trailer
 old_reader {f} o =
     refuse_no 1 0 (le-ltb (length f) 10 (trailed_of o).bytes)
-    ∙ refuse_yes _ (rw o.form_is_here refl)
+    ∙ refuse_yes _ (rw o.is_form refl)

@@ -2,18 +2,15 @@
 --
 -- In order: numbers in lists that are put together; lengths; member entries; the trailer; all entries.
 -- Assumes nothing.
-use Prim.Native.Nat.{ℕ, zero, suc, ◌+◌, ◌-◌, ◌*◌, ◌^◌, ◌<◌, ◌≤◌}
-use mathlib.Core.List.{List, [], ◌++◌}
-use mathlib.Core.Path.{◌≡◌, refl, ap, ap₂, sym, ◌∙◌}
+use Prim.Native.Nat.{ℕ, zero, suc, ◌+◌, ◌-◌, ◌*◌, ◌<◌, ◌≤◌}
+use mathlib.Core.List.{List, ◌++◌}
+use mathlib.Core.Path.{◌≡◌, refl, ap, sym, ◌∙◌}
 use native.Mathlib.Omega.{arith}
 use native.Mathlib.Nat.{suc-mul, mul_comm, mul-zero, zero-mul, zero-add, add-zero, mul-le-mul_left}
-use borrow.Author.Tests.{eq-eqb, ne_eqb}
-use lib.Dec.{eqb}
-use mathlib.Core.Bool.{Bool, true, false, cond}
-use lib.ListN.{length, get_or, take, drop, length-append, length-drop, get_or-append}
+use lib.ListN.{length, take, drop, length-append, length-drop, get_or-append}
 use lib.Seq.{length-take-le, get_or-append-add, get_or-take, get_or-drop, ext_get_or, take-append_seam}
 use Rattle.wgsl.specs.Number.{load, bytes_of}
-use Rattle.wgsl.specs.File.{Trailer, TypeEntry, MemberEntry, trailer_of, trailer_length, type_entry_length, member_entry_length, member_fields_length, length_by, type_entry_from, type_entry_at, member_entry_from, member_entry_at}
+use Rattle.wgsl.specs.File.{Trailer, trailer_of, trailer_length, member_entry_length, member_fields_length, length_by, type_entry_from, type_entry_at, member_entry_from, member_entry_at}
 use Rattle.wgsl.specs.Rule.{types_of}
 use Rattle.wgsl.specs.Form.{member_place, entries_with, trailer_as, moved_to}
 use Rattle.wgsl.proofs.Number.{length_bytes_of}

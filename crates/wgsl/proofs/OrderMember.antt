@@ -20,7 +20,7 @@ use Rattle.wgsl.proofs.Power.{exponent_small}
 use Rattle.wgsl.proofs.Align.{align_power}
 use Rattle.wgsl.proofs.Passed.{struct_passed}
 use Rattle.wgsl.proofs.Tail.{runtime_unsized}
-use Rattle.wgsl.proofs.Members.{Member, first_member}
+use Rattle.wgsl.proofs.Members.{first_member}
 use Rattle.wgsl.proofs.Entry.{align_limit}
 
 -- ---- a member there

@@ -101,9 +101,9 @@ found off (whole z) p sound m = absurd (Memᴰ.not-nil m)
 pub record PlacePath (x : Shape) (off : ℕ) (p : Place) : Type 0 where
   pub scalar_is : Scalar
   pub steps : List Step
-  pub scalar_at_lem : ℕ
-  pub leads : (k : ℕ) → walk k off x steps ≡ good (target scalar_at_lem (one scalar_is))
-  pub one_of_its : Memᴰ p (word_places scalar_is scalar_at_lem)
+  pub scalar_lies_at : ℕ
+  pub leads : (k : ℕ) → walk k off x steps ≡ good (target scalar_lies_at (one scalar_is))
+  pub one_of_its : Memᴰ p (word_places scalar_is scalar_lies_at)
 
 -- Every place of a sound shape has a path that leads to it.
 pub place_path : (off : ℕ) (x : Shape) (p : Place) → Sound x → Memᴰ p (places_of x off) → PlacePath x off p
@@ -112,7 +112,7 @@ place_path off x p sound m =
     record {
       scalar_is = f.0;
       steps = f.2;
-      scalar_at_lem = f.1;
+      scalar_lies_at = f.1;
       leads = λ k. leads_walk f.3 k;
       one_of_its = f.4;
     }

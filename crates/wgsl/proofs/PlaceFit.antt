@@ -25,7 +25,7 @@ use Rattle.wgsl.specs.Uniform.{may_live, uniform_call}
 use Rattle.wgsl.specs.Form.{to_form2, to_form1, form_is, put_out, move_on_call, move_back_call}
 use Rattle.wgsl.specs.Site.{block_entry, block_in, member_of, inheriting_call, fresh_call, member_call, copied_in, site_set_call, clear_call}
 use Rattle.wgsl.specs.Clean.{clean_type, clean_call}
-use Rattle.wgsl.specs.Order.{members_in, struct_members, new_end, plan_members, plan_call, order_call}
+use Rattle.wgsl.specs.Order.{struct_members, plan_members, plan_call, order_call}
 use Rattle.wgsl.specs.Claim.{PlaceFits, PlacesFit}
 use Rattle.wgsl.proofs.LiteralCall.{convert_refuses}
 use Rattle.wgsl.proofs.Said.{good_not_refused, then_cases, refuse_cases, or_refuse_good, or_refuse_refused}
@@ -266,7 +266,7 @@ places_fit f =
       check = fits_then (types_of f) _ (fits_types f) (λ ts q. fits_good _);
       size = λ e. fits_asked f e _ (λ t. fits_or _ _ _ zero_fits);
       align = λ e. fits_asked f e _ (λ t. fits_or _ _ _ zero_fits);
-      min_size_here = λ e. fits_asked f e _ (λ t. fits_or _ _ _ zero_fits);
+      minimum_size = λ e. fits_asked f e _ (λ t. fits_or _ _ _ zero_fits);
       layout = λ e. fits_asked f e _ (λ t. fits_good _);
       read = fits_read f;
       write = fits_write f;

@@ -24,7 +24,7 @@ use Rattle.wgsl.specs.Claim.{Reaches, itself, onward}
 use Rattle.wgsl.proofs.Absent.{either_holds, true_not_false}
 use Rattle.wgsl.proofs.Said.{when_some, and_then_some}
 use Rattle.wgsl.proofs.ScalarKind.{other_range}
-use Rattle.wgsl.proofs.AtEntry.{get_elem_first, At, scalar_at_lem, vector_at, matrix_at, array_at, runtime_at, atomic_at, struct_at, kind_high, Refers, to_none, to_vector, to_matrix, to_array, to_runtime, to_atomic, to_members, refers}
+use Rattle.wgsl.proofs.AtEntry.{get_elem_first, At, scalar_lies_at, vector_at, matrix_at, array_at, runtime_at, atomic_at, struct_at, kind_high, Refers, to_none, to_vector, to_matrix, to_array, to_runtime, to_atomic, to_members, refers}
 
 -- ---- one of some numbers
 
@@ -67,7 +67,7 @@ links_at {f} {ts} {k} {t} at = go (is_scalar_kind (type_entry_at f k).kind) refl
     over q (suc (suc (suc (suc (suc (suc n)))))) e high = absurd (omega arith)
 
     go : (b : Bool) → is_scalar_kind (type_entry_at f k).kind ≡ b → refers_to f k ≡ links_of f (type_entry_at f k) t
-    go true q = let (s, is, of) = scalar_at_lem at q in rw (is, q)
+    go true q = let (s, is, of) = scalar_lies_at at q in rw (is, q)
     go false q =
         let h : 6 < (type_entry_at f k).kind = (other_range _ q).0 in
         over q ((type_entry_at f k).kind - 7) (omega arith) (kind_high at q)

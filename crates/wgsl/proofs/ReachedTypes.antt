@@ -12,7 +12,7 @@ use mathlib.Core.Option.{some, some-injective}
 use mathlib.Core.Path.{◌≡◌, refl, sym, ◌∙◌}
 use native.Mathlib.Omega.{arith}
 use lib.ListN.{take, get_elem?}
-use Rattle.wgsl.specs.Types.{Scalar, Ty, scalar, vector, matrix, array, runtime, atomic, struct, Members, no_more, everywhere, every_member}
+use Rattle.wgsl.specs.Types.{Scalar, Ty, scalar, array, runtime, struct, Members, no_more, everywhere, every_member}
 use Rattle.wgsl.specs.Said.{good}
 use Rattle.wgsl.specs.File.{type_entry_at, member_entry_at}
 use Rattle.wgsl.specs.Rule.{lower, members_from, types_of}

@@ -29,8 +29,8 @@ use Rattle.wgsl.specs.BitFieldCall.{is_integer, is_signed, FoundInteger, integer
 use Rattle.wgsl.specs.Uniform.{reaches, uniform_call}
 use Rattle.wgsl.specs.File.{Trailer, trailer_of, check_trailer}
 use Rattle.wgsl.specs.Form.{member_place, name_at, to_form1, to_form2, filled, move_on_call, move_back_call, old_trailer}
-use Rattle.wgsl.specs.Claim.{IsAccepted, Stray, Holds, together, IsStride, ByElement, HoldsBool, LaidOut, Stored, HasRoom, GoodIf, CanField, Reaches, CanUniform, LowestBroken, SameReached, SameAnswers, OfForm, CanMoveOn, CanMoveBack, PlaceFits, member_step}
-use Rattle.wgsl.specs.Site.{block_in, member_of, SiteDone, inheriting_call, fresh_call, member_call, site_set_call, clear_call}
+use Rattle.wgsl.specs.Claim.{IsAccepted, Stray, Holds, together, IsStride, ByElement, HoldsBool, LaidOut, Stored, HasRoom, GoodIf, CanField, Reaches, CanUniform, LowestBroken, SameReached, SameAnswers, OfForm, CanMoveOn, CanMoveBack, member_step}
+use Rattle.wgsl.specs.Site.{block_in, member_of, SiteDone, inheriting_call, fresh_call, site_set_call, clear_call}
 use Rattle.wgsl.specs.SiteClaim.{bytes_in, shown_bytes, IsBlock, SetOnSite, Cleared}
 use Rattle.wgsl.specs.StartClaim.{Fresh, Kept, made_fresh, made_inheriting, Change, answers_to, left_after, never_sets, ShowAlike, Independent}
 use Rattle.wgsl.specs.Clean.{is_covered, CleanDone, clean_call}

@@ -3,7 +3,7 @@
 -- In order: what an entry refers to; the uniform call; all calls.
 -- Assumes nothing.
 use Prim.Native.Nat.{ℕ, zero, suc, ◌+◌, ◌<◌, ◌≤◌, max}
-use mathlib.Core.List.{List, [], ◌∷◌}
+use mathlib.Core.List.{List}
 use mathlib.Core.Bool.{Bool, true, false}
 use mathlib.Core.Option.{Option, some, none}
 use mathlib.Core.Path.{◌≡◌, refl, ap, sym, ◌∙◌}
@@ -11,7 +11,7 @@ use native.Mathlib.Omega.{arith}
 use lib.ListN.{length, get_elem?}
 use Rattle.wgsl.specs.Types.{Ty}
 use Rattle.wgsl.specs.Said.{Said, good, refused, ◌>>=◌, or_refuse}
-use Rattle.wgsl.specs.File.{TypeEntry, trailer_of, type_entry_at, member_entry_at, check_trailer}
+use Rattle.wgsl.specs.File.{TypeEntry, trailer_of, type_entry_at}
 use Rattle.wgsl.specs.Rule.{types_of}
 use Rattle.wgsl.specs.Call.{check_of, entry_of, entry_for, size_call, align_call, min_size_call, layout_call, read_call, write_call, target_call, view_call, set_call, rank_call, common_call}
 use Rattle.wgsl.specs.BitFieldCall.{integer_at, extract_call, insert_call}
@@ -19,8 +19,7 @@ use Rattle.wgsl.specs.Uniform.{member_types, refers_to, uniform_call}
 use Rattle.wgsl.specs.Site.{block_entry, block_in, inheriting_call, fresh_call, member_call, site_set_call, clear_call}
 use Rattle.wgsl.specs.Clean.{clean_call}
 use Rattle.wgsl.specs.Order.{struct_members, plan_call, order_call}
-use Rattle.wgsl.specs.Claim.{Reaches, SameReached, SameAnswers}
-use Rattle.wgsl.proofs.Said.{then_refused}
+use Rattle.wgsl.specs.Claim.{SameReached, SameAnswers}
 use Rattle.wgsl.proofs.Accepted.{accepted}
 use Rattle.wgsl.proofs.AtEntry.{get_elem_low, Refers, to_none, to_vector, to_matrix, to_array, to_runtime, to_atomic, to_members, refers}
 use Rattle.wgsl.proofs.Reach.{at, links_of, links, reached_there}
@@ -114,7 +113,7 @@ module _ {f g : List ℕ} (same : SameEntries f g) (types : types_of f ≡ types
     check = rw types refl;
     size = λ e. rw (entry_same e) refl;
     align = λ e. rw (entry_same e) refl;
-    min_size_here = λ e. rw (entry_same e) refl;
+    minimum_size = λ e. rw (entry_same e) refl;
     layout = λ e. rw (entry_same e) refl;
     read = λ e b ws. rw (for_same true e b) refl;
     write = λ e ws b. rw (for_same true e b) refl;

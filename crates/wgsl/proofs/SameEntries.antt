@@ -12,8 +12,8 @@ use borrow.Author.Tests.{leb-true}
 use lib.Dec.{leb}
 use Rattle.wgsl.specs.Types.{Ty, struct, Members}
 use Rattle.wgsl.specs.Said.{Said, good, refused, ◌>>=◌}
-use Rattle.wgsl.specs.File.{Trailer, TypeEntry, MemberEntry, trailer_of, type_entry_at, member_entry_at, check_trailer}
-use Rattle.wgsl.specs.Rule.{when, and_then, unused, lower, members_from, struct_made, type_made, type_of_entry, judged, types_below, is_named, all_named, types_of}
+use Rattle.wgsl.specs.File.{Trailer, TypeEntry, trailer_of, type_entry_at, member_entry_at, check_trailer}
+use Rattle.wgsl.specs.Rule.{when, and_then, unused, members_from, struct_made, type_made, type_of_entry, judged, types_below, is_named, all_named, types_of}
 use Rattle.wgsl.proofs.Said.{then_is}
 use Rattle.wgsl.proofs.Trailed.{trailed}
 

@@ -3,7 +3,7 @@
 -- In order: what a block is; where its members lie; clearing; a path through a member; an inheriting block; bytes; setting a scalar.
 -- Not here: the mask bit by bit (`SiteMask`).
 -- Assumes nothing.
-use Prim.Native.Nat.{ℕ, zero, suc, ◌+◌, ◌-◌, ◌^◌, ◌<◌, ◌≤◌, max}
+use Prim.Native.Nat.{ℕ, zero, suc, ◌+◌, ◌-◌, ◌^◌, ◌<◌, ◌≤◌}
 use mathlib.Core.List.{List, [], ◌∷◌, map}
 use mathlib.Core.Bool.{Bool, true, false, cond, ◌||◌, or-true, or-false}
 use mathlib.Core.Option.{Option, some}
@@ -89,9 +89,9 @@ pub record IsEntry (f : List ℕ) (e mask bytes : ℕ) (t : Ty) : Type 0 where
   pub within : bytes ≤ limit
 
 -- A call that gets past 21 is about such an entry,
-pub entry_is_lem : {f : List ℕ} {e mask bytes : ℕ} {t : Ty} → block_entry f e mask bytes ≡ good t → IsEntry f e mask bytes t
+pub is_entry : {f : List ℕ} {e mask bytes : ℕ} {t : Ty} → block_entry f e mask bytes ≡ good t → IsEntry f e mask bytes t
 unfolding block_entry allowed within_limit
-entry_is_lem {mask = mask} {bytes = bytes} {t = t} h =
+is_entry {mask = mask} {bytes = bytes} {t = t} h =
     let s = then_good _ _ h in
     let u = s.value in
     let pass = next_good _ _ s.after in
@@ -137,7 +137,7 @@ block_is {mask = mask} {factory = factory} {site = site} {t = t} h =
     let s = then_good _ _ h in
     let last = refuse_good 15 0 _ _ s.after in
     let same : s.value ≡ t = cc last.1 in
-    let x = rw same at (entry_is_lem s.first) in
+    let x = rw same at (is_entry s.first) in
     let long = rw same at (neither (is_short s.value factory) (is_short s.value site) last.0) in
     let closed = (block_struct mask t x.block).closed in
     record {
@@ -202,7 +202,7 @@ unfolding clear_call
 cleared {f} {e} {k} {mask} {after} h =
     let s = then_good _ _ h in
     let t = s.value in
-    let x = entry_is_lem s.first in
+    let x = is_entry s.first in
     let m = then_good _ _ s.after in
     let is : without_bit mask k ≡ after = cc m.after in
     let b = block_struct mask t x.block in

@@ -3,8 +3,8 @@
 --
 -- The file is that of specs/SiteCase: a struct of a u32 with a given size of 8, a vec2 and an f16, and its two buffers.
 -- Assumes nothing.
-use Prim.Native.Nat.{ℕ, ◌+◌, ◌≤◌}
-use mathlib.Core.Bool.{true, false}
+use Prim.Native.Nat.{◌+◌, ◌≤◌}
+use mathlib.Core.Bool.{false}
 use mathlib.Core.List.{[], ◌∷◌, map}
 use mathlib.Core.Option.{none, some}
 use mathlib.Core.Path.{◌≡◌, refl}

@@ -5,7 +5,7 @@
 -- Assumes nothing.
 use Prim.Native.Nat.{ℕ, ◌+◌, ◌-◌, ◌^◌, ◌<◌, ◌≤◌}
 use mathlib.Core.List.{List, ◌++◌}
-use mathlib.Core.Bool.{Bool, true, false, cond}
+use mathlib.Core.Bool.{Bool, true, cond}
 use mathlib.Core.Path.{◌≡◌, refl, ap, sym, ◌∙◌}
 use mathlib.Core.Logic.{⊎_elim}
 use native.Mathlib.Omega.{arith}
@@ -16,12 +16,12 @@ use lib.Seq.{get_or-take, get_or-drop, get_or-append-add}
 use lib.Pow.{pow_pos}
 use Rattle.wgsl.specs.Types.{Ty}
 use Rattle.wgsl.specs.Size.{present, size_of}
-use Rattle.wgsl.specs.Said.{good, ◌>>=◌}
+use Rattle.wgsl.specs.Said.{good}
 use Rattle.wgsl.specs.Rule.{count_of}
 use Rattle.wgsl.specs.Place.{span_of}
 use Rattle.wgsl.specs.Path.{Target}
 use Rattle.wgsl.specs.BitField.{bit_at}
-use Rattle.wgsl.specs.Site.{is_block, block_in, member_of, shown_in, SiteDone, settings_of, every_bit, copied_whole, fresh_call}
+use Rattle.wgsl.specs.Site.{block_in, member_of, shown_in, SiteDone, settings_of, every_bit, copied_whole, fresh_call}
 use Rattle.wgsl.specs.Claim.{GoodIf}
 use Rattle.wgsl.specs.SiteClaim.{bytes_in, shown_bytes, IsBlock}
 use Rattle.wgsl.specs.StartClaim.{Fresh}

@@ -3,24 +3,20 @@
 --
 -- The struct and its two buffers are those of SiteWitness; the other factory sheet is that of specs/StartCase.
 -- Assumes nothing.
-use Prim.Native.Nat.{ℕ, ◌+◌, ◌≤◌}
-use mathlib.Core.Bool.{true, false}
 use mathlib.Core.List.{List, [], ◌∷◌}
-use mathlib.Core.Option.{none, some}
 use mathlib.Core.Path.{◌≡◌, refl}
-use native.Mathlib.Omega.{arith}
 use Rattle.wgsl.specs.Number.{load, bytes_of, store}
 use Rattle.wgsl.specs.Round.{up, within_limit}
-use Rattle.wgsl.specs.Types.{u32, f16, Ty, scalar, vector, struct, no_more, member, is_runtime, ends_in_runtime, is_open, everywhere, every_member, is_scalar_kind, scalar_kind}
+use Rattle.wgsl.specs.Types.{Ty, is_runtime, ends_in_runtime, is_open, everywhere, every_member, is_scalar_kind, scalar_kind}
 use Rattle.wgsl.specs.Size.{both, given_or, is_present, present, width_of, vec3_align, vector_size, vector_align, start_after, end_after, member_start, member_end, size_of, align_of, members_align, members_end, stride_of, own_stride_of, min_size_of, offsets_of, inner_numbers_of, numbers_of, within_limits, fits_limit, has_layout, is_stored, is_plain, is_storable}
 use Rattle.wgsl.specs.Said.{good, ◌>>=◌, ◌>>◌, refuse, or_refuse}
 use Rattle.wgsl.specs.File.{trailer_of, length_by, type_entry_from, type_entry_at, member_entry_from, member_entry_at, size_is_given, align_is_given, given_size, given_align, rest_is_zero, between, check_trailer, member_entry_length}
 use Rattle.wgsl.specs.Rule.{when, and_then, unused, scalar_of_kind, scalar_in, lower, members_from, scalar_made, vector_made, matrix_made, runtime_made, atomic_made, struct_made, over_made, type_made, type_of_entry, is_matrix_scalar, is_atomic_scalar, is_last, count_of, member_allowed, members_allowed, is_allowed, at_least, given_size_fits, is_multiple, given_align_fits, members_given_fit, given_fits, judged, types_below, names_member, is_named, all_named, types_of}
 use Rattle.wgsl.specs.Place.{column, tail_at, members_tail, tail_of, extent_by, extent_of, elements_by, elements_in, shape_of, fields_of, span_of, words_over, words_for, word_places, repeated, store_words, can_hold, check_words}
-use Rattle.wgsl.specs.Path.{Target, step_of, enter, walk}
+use Rattle.wgsl.specs.Path.{step_of, enter, walk}
 use Rattle.wgsl.specs.Call.{entry_of, allowed, is_short, scalar_at, set_scalar, set_target}
 use Rattle.wgsl.specs.BitField.{bit_at}
-use Rattle.wgsl.specs.Site.{SiteDone, with_bit, without_bit, is_block, block_entry, block_in, settings_of, every_bit, copied_whole, inheriting_call, fresh_call, member_of}
+use Rattle.wgsl.specs.Site.{SiteDone, is_block, block_entry, block_in, settings_of, every_bit, copied_whole, inheriting_call, fresh_call, member_of}
 use Rattle.wgsl.specs.Case.{type_entry, member_given, member_entry, trailer}
 use Rattle.wgsl.specs.SiteCase.{settings, factory_bytes, site_bytes}
 use Rattle.wgsl.specs.SiteClaim.{shown_bytes, bytes_in}

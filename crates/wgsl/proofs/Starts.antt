@@ -4,19 +4,18 @@
 -- Assumes nothing.
 use Prim.Native.Nat.{ℕ}
 use mathlib.Core.List.{List}
-use mathlib.Core.Bool.{Bool, true, false, cond}
+use mathlib.Core.Bool.{Bool, true, cond}
 use mathlib.Core.Logic.{inl, inr}
 use mathlib.Core.Path.{◌≡◌, refl, ap, sym, ◌∙◌}
 use Rattle.wgsl.specs.Types.{Ty}
 use Rattle.wgsl.specs.Said.{good}
 use Rattle.wgsl.specs.Path.{Target}
-use Rattle.wgsl.specs.BitField.{bit_at}
-use Rattle.wgsl.specs.Site.{block_in, member_of, shown_in, SiteDone, inheriting_call, fresh_call}
-use Rattle.wgsl.specs.SiteClaim.{bytes_in, shown_bytes, IsBlock}
-use Rattle.wgsl.specs.StartClaim.{Fresh, Kept, made_fresh, made_inheriting, Change, answers_to, left_after, never_clears, never_sets, ShowAlike, Independent}
-use Rattle.wgsl.proofs.Site.{block_is, block_if, block_struct, zero_bits, inheriting_shows}
+use Rattle.wgsl.specs.Site.{block_in, shown_in, SiteDone, inheriting_call, fresh_call}
+use Rattle.wgsl.specs.SiteClaim.{bytes_in, shown_bytes}
+use Rattle.wgsl.specs.StartClaim.{Kept, made_fresh, made_inheriting, Change, answers_to, left_after, never_sets, ShowAlike, Independent}
+use Rattle.wgsl.proofs.Site.{block_is, block_if, block_struct, inheriting_shows}
 use Rattle.wgsl.proofs.Start.{every_bit_lem, member_bit, fresh_did}
-use Rattle.wgsl.proofs.Changes.{in_type, AlikeAt, left_blocks, list_answers, list_alike, stays_set, stays_clear}
+use Rattle.wgsl.proofs.Changes.{in_type, left_blocks, list_answers, list_alike, stays_set, stays_clear}
 
 -- ---- both starts agree
 

@@ -2,22 +2,21 @@
 --
 -- In order: one that is named; all of them; the lowest that is not.
 -- Assumes nothing.
-use Prim.Native.Nat.{ℕ, zero, suc, ◌+◌, ◌<◌, ◌≤◌}
-use mathlib.Core.Bool.{Bool, true, false, not, ◌&&◌, ◌||◌}
+use Prim.Native.Nat.{ℕ, zero, suc, ◌+◌, ◌<◌}
+use mathlib.Core.Bool.{Bool, true, false, not, ◌||◌}
 use mathlib.Core.List.{List}
 use mathlib.Core.Logic.{⊎_elim}
-use mathlib.Core.Path.{◌≡◌, refl, ap, sym, ◌∙◌}
+use mathlib.Core.Path.{◌≡◌, refl, sym, ◌∙◌}
 use native.Mathlib.Nat.{eq-or-lt_of_le}
 use native.Mathlib.Omega.{arith}
 use borrow.Author.Tests.{eqb-true, leb-true, ltb-true, eq-eqb, le-leb, lt-ltb}
-use lib.Dec.{eqb, leb, ltb}
 use Rattle.wgsl.specs.Types.{struct_kind}
 use Rattle.wgsl.specs.Said.{Said, good, refused, ◌>>◌, refuse}
-use Rattle.wgsl.specs.File.{TypeEntry, type_entry_at}
+use Rattle.wgsl.specs.File.{type_entry_at}
 use Rattle.wgsl.specs.Rule.{names_member, is_named, all_named}
 use Rattle.wgsl.specs.Claim.{NamedBy}
 use Rattle.wgsl.proofs.Absent.{both_hold, true_not_false}
-use Rattle.wgsl.proofs.Said.{good_not_refused, next_good, next_is, refuse_not, refuse_no}
+use Rattle.wgsl.proofs.Said.{good_not_refused, next_good, next_is, refuse_not}
 
 -- ---- one that is named
 

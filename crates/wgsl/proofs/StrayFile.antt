@@ -1,14 +1,13 @@
 -- A file with members that nobody names (specs/Rule, `types_of`; specs/Claim, `IsAccepted`, `Stray`).
 -- Assumes nothing.
-use Prim.Native.Nat.{ℕ, ◌<◌}
+use Prim.Native.Nat.{ℕ}
 use mathlib.Core.Bool.{Bool, true, false}
 use mathlib.Core.List.{List}
-use mathlib.Core.Path.{◌≡◌, refl, ap, sym, ◌∙◌}
+use mathlib.Core.Path.{◌≡◌, refl, ap, ◌∙◌}
 use native.Mathlib.Omega.{arith}
-use Rattle.wgsl.specs.Types.{Ty}
-use Rattle.wgsl.specs.Said.{good, refused, ◌>>=◌, ◌>>◌}
+use Rattle.wgsl.specs.Said.{good, refused, ◌>>◌}
 use Rattle.wgsl.specs.File.{trailer_of, check_trailer}
-use Rattle.wgsl.specs.Rule.{types_below, is_named, all_named, types_of}
+use Rattle.wgsl.specs.Rule.{types_below, is_named, types_of}
 use Rattle.wgsl.specs.Claim.{GoodIf, NamedBy, Stray, IsAccepted}
 use Rattle.wgsl.proofs.Absent.{true_not_false}
 use Rattle.wgsl.proofs.Said.{then_cases, then_is, then_refused, next_is}

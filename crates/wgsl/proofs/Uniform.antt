@@ -4,11 +4,11 @@
 -- may live in a uniform buffer; what 19 names.
 -- Assumes nothing.
 use Prim.Native.Nat.{ℕ, zero, suc, ◌+◌, ◌<◌, ◌≤◌}
-use mathlib.Core.Bool.{Bool, true, false, cond, not, ◌&&◌, ◌||◌}
+use mathlib.Core.Bool.{Bool, true, false, not, ◌&&◌, ◌||◌}
 use mathlib.Core.List.{List}
-use mathlib.Core.Logic.{◌⊎◌, inl, inr, ⊎_elim}
+use mathlib.Core.Logic.{⊎_elim}
 use mathlib.Core.Option.{Option, none, some, some-injective}
-use mathlib.Core.Path.{◌≡◌, refl, sym, ap, ◌∙◌}
+use mathlib.Core.Path.{◌≡◌, refl, sym, ◌∙◌}
 use native.Mathlib.Omega.{arith}
 use native.Mathlib.Nat.{eq-or-lt_of_le, lt_of_not-le}
 use native.Mathlib.Decide.{dec_le}
@@ -19,11 +19,11 @@ use Rattle.wgsl.specs.Size.{is_present, size_of, align_of, has_layout, is_plain,
 use Rattle.wgsl.specs.Said.{Said, good, refused, ◌>>=◌, ◌>>◌, refuse, or_refuse}
 use Rattle.wgsl.specs.Rule.{is_well_formed, types_of}
 use Rattle.wgsl.specs.Call.{entry_of}
-use Rattle.wgsl.specs.Uniform.{keeps_uniform, is_uniform, reaches_by, reaches, is_broken_type, is_broken, lowest_from, lowest_broken, refuse_broken, may_live, uniform_call}
+use Rattle.wgsl.specs.Uniform.{keeps_uniform, is_uniform, reaches, is_broken_type, is_broken, lowest_from, lowest_broken, refuse_broken, may_live, uniform_call}
 use Rattle.wgsl.specs.File.{check_trailer}
-use Rattle.wgsl.specs.Claim.{Broken, no_type, not_allowed, not_given, too_large, GoodIf, Reaches, CanUniform, LowestBroken}
-use Rattle.wgsl.proofs.Absent.{both_hold, hold_both, either_holds, true_not_false, yes_or_no, some_not_none, present_some}
-use Rattle.wgsl.proofs.Said.{good_not_refused, then_good, then_is, then_refused, next_good, then_cases, refuse_good, refuse_not, refuse_cases, or_refuse_good, or_refuse_refused}
+use Rattle.wgsl.specs.Claim.{GoodIf, Reaches, CanUniform, LowestBroken}
+use Rattle.wgsl.proofs.Absent.{both_hold, hold_both, true_not_false, yes_or_no, some_not_none, present_some}
+use Rattle.wgsl.proofs.Said.{good_not_refused, then_good, then_is, then_refused, next_good, then_cases, refuse_good, refuse_not, or_refuse_good, or_refuse_refused}
 use Rattle.wgsl.proofs.Passed.{everywhere_here}
 use Rattle.wgsl.proofs.Accepted.{trailer_number, broken_number, refused_by, accepted, accepted_well_formed}
 use Rattle.wgsl.proofs.AtEntry.{get_elem_low}

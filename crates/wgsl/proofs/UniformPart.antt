@@ -1,17 +1,13 @@
 -- The uniform profile of parts (specs/Uniform): what a good entry reaches is never named, and what is not reached never matters.
 -- Assumes nothing.
 use Prim.Native.Nat.{ℕ, zero, suc}
-use mathlib.Core.Bool.{Bool, true, false, cond, ◌&&◌, ◌||◌}
+use mathlib.Core.Bool.{Bool, true, false, ◌&&◌, ◌||◌}
 use mathlib.Core.List.{List, [], ◌∷◌, Memᴰ}
-use mathlib.Core.Option.{some}
 use mathlib.Core.Path.{◌≡◌, refl, ap, ◌∙◌}
 use lib.Dec.{eqb}
-use lib.ListN.{get_elem?}
-use Rattle.wgsl.specs.Types.{Ty}
-use Rattle.wgsl.specs.Said.{Said, good, refused, ◌>>=◌}
-use Rattle.wgsl.specs.Rule.{types_of}
+use Rattle.wgsl.specs.Said.{good, refused, ◌>>=◌}
 use Rattle.wgsl.specs.Uniform.{refers_to, any_of, reaches_by, reaches, is_broken, lowest_from, lowest_broken, uniform_call}
-use Rattle.wgsl.specs.Claim.{Reaches, itself, onward, LowestBroken, SameReached}
+use Rattle.wgsl.specs.Claim.{Reaches, itself, onward, SameReached}
 use Rattle.wgsl.proofs.Absent.{true_not_false, yes_or_no}
 use Rattle.wgsl.proofs.Reach.{reach_sound}
 use Rattle.wgsl.proofs.Uniform.{broken_none, call_good, uniform_names}

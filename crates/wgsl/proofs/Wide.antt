@@ -2,7 +2,7 @@
 --
 -- In order: a set of their words, by the number that these are; their ranks; no bit fields.
 -- Assumes nothing.
-use Prim.Native.Nat.{ℕ, ◌+◌, ◌≤◌}
+use Prim.Native.Nat.{ℕ, ◌≤◌}
 use mathlib.Core.Bool.{Bool, true, false}
 use mathlib.Core.List.{List}
 use mathlib.Core.Option.{none, some}
@@ -14,7 +14,7 @@ use lib.ListN.{length}
 use Rattle.wgsl.specs.Number.{load}
 use Rattle.wgsl.specs.Types.{Scalar, bool, i32, u32, f32, f16, abstract_int, abstract_float, i64, u64, f64, scalar_kind}
 use Rattle.wgsl.specs.Size.{present, width_of}
-use Rattle.wgsl.specs.Said.{good, refused, ◌>>=◌, ◌>>◌, refuse, or_refuse}
+use Rattle.wgsl.specs.Said.{refused, ◌>>=◌, ◌>>◌, refuse, or_refuse}
 use Rattle.wgsl.specs.Place.{one, word_places, word_count, words_read}
 use Rattle.wgsl.specs.Path.{Target}
 use Rattle.wgsl.specs.Call.{scalar_at}

@@ -315,7 +315,7 @@ pub record PlacesFit (f : List ℕ) : Type 0 where
   pub check : PlaceFits (check_of f)
   pub size : (e : ℕ) → PlaceFits (size_call f e)
   pub align : (e : ℕ) → PlaceFits (align_call f e)
-  pub min_size_here : (e : ℕ) → PlaceFits (min_size_call f e)
+  pub minimum_size : (e : ℕ) → PlaceFits (min_size_call f e)
   pub layout : (e : ℕ) → PlaceFits (layout_call f e)
   pub read : (e : ℕ) (b ws : List ℕ) → PlaceFits (read_call f e b ws)
   pub write : (e : ℕ) (ws b : List ℕ) → PlaceFits (write_call f e ws b)
@@ -346,7 +346,7 @@ pub record SameAnswers (f g : List ℕ) : Type 0 where
   pub check : check_of f ≡ check_of g
   pub size : (e : ℕ) → size_call f e ≡ size_call g e
   pub align : (e : ℕ) → align_call f e ≡ align_call g e
-  pub min_size_here : (e : ℕ) → min_size_call f e ≡ min_size_call g e
+  pub minimum_size : (e : ℕ) → min_size_call f e ≡ min_size_call g e
   pub layout : (e : ℕ) → layout_call f e ≡ layout_call g e
   pub read : (e : ℕ) (b ws : List ℕ) → read_call f e b ws ≡ read_call g e b ws
   pub write : (e : ℕ) (ws b : List ℕ) → write_call f e ws b ≡ write_call g e ws b
@@ -371,7 +371,7 @@ pub record SameAnswers (f g : List ℕ) : Type 0 where
 
 -- f has this form, and none of 1 to 7 and 24 is due
 pub record OfForm (form : ℕ) (f : List ℕ) : Type 0 where
-  pub form_is_here : (trailer_of f).form ≡ form
+  pub is_form : (trailer_of f).form ≡ form
   pub types : List Ty
   pub accepted : types_of f ≡ good types
 

@@ -2,7 +2,7 @@
 --
 -- Through the bytes of a file and the definition of the call. One test, `clean_cases_pass`, which the checker computes.
 -- Definitions only. Assumes nothing.
-use Rattle.std.specs.Prelude.{ℕ, List, [], ◌∷◌, ◌++◌, Bool, true, false, ◌&&◌, replicate, eqb}
+use Rattle.std.specs.Prelude.{ℕ, List, [], ◌∷◌, ◌++◌, Bool, false, ◌&&◌, replicate, eqb}
 use Rattle.wgsl.specs.Said.{Said, good, refused}
 use Rattle.wgsl.specs.Clean.{CleanDone, clean_call}
 use Rattle.wgsl.specs.Case.{type_entry, member_entry, member_given, trailer, all_pass}

@@ -64,7 +64,7 @@ pub record OnePath {f : List ℕ} {e : ℕ} {b : List ℕ} (g : Given f e b) (p 
   pub path : List ℕ
   pub scalar_is : Scalar
   pub numbers : Words path
-  pub scalar_at_lem : ℕ
-  pub leads : Leading f e b path scalar_at_lem scalar_is
-  pub one_of_its : Memᴰ p (word_places scalar_is scalar_at_lem)
+  pub scalar_lies_at : ℕ
+  pub leads : Leading f e b path scalar_lies_at scalar_is
+  pub one_of_its : Memᴰ p (word_places scalar_is scalar_lies_at)
   pub only : (q : List ℕ) (c : ℕ) (u : Scalar) → Words q → Leading f e b q c u → Memᴰ p (word_places u c) → q ≡ path

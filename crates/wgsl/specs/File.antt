@@ -6,7 +6,7 @@
 use Rattle.std.specs.Prelude.{ℕ, ◌+◌, ◌-◌, ◌*◌, ◌/◌, ◌%◌, List, Bool, cond, not, ◌&&◌, ◌||◌, length, eqb, ltb, leb}
 use Rattle.std.proofs.Math.Option.{Option, none, some}
 use Rattle.wgsl.specs.Number.{load}
-use Rattle.wgsl.specs.Said.{Said, good, ◌>>=◌, ◌>>◌, refuse}
+use Rattle.wgsl.specs.Said.{Said, good, ◌>>◌, refuse}
 
 -- "a 10-byte trailer: types T (u16), members M (u16), start S (u32), form (u16, always 1)"
 pub record Trailer : Type 0 where

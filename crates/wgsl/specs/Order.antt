@@ -7,7 +7,7 @@ use Rattle.std.specs.Prelude.{ℕ, zero, suc, ◌^◌, List, [], ◌∷◌, ◌+
 use Rattle.std.proofs.Math.Option.{Option, none, some}
 use Rattle.wgsl.specs.Types.{Ty, scalar, vector, matrix, array, runtime, atomic, struct, Members, no_more, member, is_runtime}
 use Rattle.wgsl.specs.Size.{given_or, present, align_of}
-use Rattle.wgsl.specs.Said.{Said, good, refused, ◌>>=◌, ◌>>◌, refuse, or_refuse}
+use Rattle.wgsl.specs.Said.{Said, good, ◌>>=◌, ◌>>◌, refuse, or_refuse}
 use Rattle.wgsl.specs.Rule.{count_of, is_well_formed, when, and_then}
 use Rattle.wgsl.specs.Place.{extent_of}
 use Rattle.wgsl.specs.Call.{Done, entry_of}

@@ -2,7 +2,7 @@
 --
 -- Through the bytes of a file and the definitions of the calls. One test, `order_cases_pass`, which the checker computes.
 -- Definitions only. Assumes nothing.
-use Rattle.std.specs.Prelude.{ℕ, List, [], ◌∷◌, ◌++◌, Bool, true, false, ◌&&◌, eqb}
+use Rattle.std.specs.Prelude.{ℕ, List, [], ◌∷◌, ◌++◌, Bool, false, ◌&&◌, eqb}
 use Rattle.wgsl.specs.Said.{Said, good, refused}
 use Rattle.wgsl.specs.Call.{Done, answer_of}
 use Rattle.wgsl.specs.Order.{plan_call, order_call}

@@ -2,7 +2,7 @@
 --
 -- Through the bytes of files and the definitions of the calls. One test, `site_cases_pass`, which the checker computes.
 -- Definitions only. Assumes nothing.
-use Rattle.std.specs.Prelude.{ℕ, zero, suc, ◌^◌, ◌-◌, List, [], ◌∷◌, ◌++◌, Bool, cond, ◌&&◌, replicate, eqb}
+use Rattle.std.specs.Prelude.{ℕ, zero, suc, ◌^◌, ◌-◌, List, [], ◌∷◌, ◌++◌, Bool, ◌&&◌, replicate, eqb}
 use Rattle.wgsl.specs.Number.{bytes_of}
 use Rattle.wgsl.specs.Said.{Said, good, refused}
 use Rattle.wgsl.specs.Path.{Target}

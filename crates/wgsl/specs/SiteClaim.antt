@@ -2,7 +2,7 @@
 --
 -- In order: bytes of a member; when a call is good; what a set did; what clearing did.
 -- Definitions only. Assumes nothing.
-use Rattle.std.specs.Prelude.{ℕ, ◌+◌, ◌<◌, ◌≤◌, max, List, map, true, not, ◌&&◌, ◌||◌, ◌≡◌, length, get_or, take, drop, eqb}
+use Rattle.std.specs.Prelude.{ℕ, ◌≤◌, max, List, map, true, not, ◌&&◌, ◌||◌, ◌≡◌, length, get_or, take, drop, eqb}
 use Rattle.wgsl.specs.Round.{limit}
 use Rattle.wgsl.specs.Types.{Ty}
 use Rattle.wgsl.specs.Size.{present, size_of, is_storable}
@@ -12,7 +12,7 @@ use Rattle.wgsl.specs.Path.{Target, walk, step_of}
 use Rattle.wgsl.specs.Call.{Done, entry_of, set_target}
 use Rattle.wgsl.specs.BitField.{bit_at}
 use Rattle.wgsl.specs.Claim.{Outside}
-use Rattle.wgsl.specs.Site.{is_block, block_entry, block_in, member_of, member_call, shown_in, SiteDone, site_set_call, clear_call}
+use Rattle.wgsl.specs.Site.{is_block, block_in, member_call, shown_in, SiteDone}
 
 -- the bytes of a member in a buffer
 abbrev pub bytes_in : Target → List ℕ → List ℕ

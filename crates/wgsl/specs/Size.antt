@@ -75,10 +75,10 @@ end_after end align size = both ◌+◌ (start_after end align) size
 -- Where a member starts and where it ends: its align and its size are those that the file gives, else those of its type. All that asks
 -- where members lie asks these two: the size of a struct, the offsets, the shape that is written, read and walked, and its tail.
 unfoldable pub member_start : Option ℕ → Option ℕ → Option ℕ → Option ℕ
-member_start end align typeAlign = start_after end (given_or align typeAlign)
+member_start end align type_align = start_after end (given_or align type_align)
 
 unfoldable pub member_end : Option ℕ → Option ℕ → Option ℕ → Option ℕ → Option ℕ → Option ℕ
-member_end end align typeAlign size typeSize = end_after end (given_or align typeAlign) (given_or size typeSize)
+member_end end align type_align size type_size = end_after end (given_or align type_align) (given_or size type_size)
 
 unfoldable mutual
   pub size_of : Ty → Option ℕ

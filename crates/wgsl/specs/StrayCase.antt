@@ -3,7 +3,6 @@
 -- Through the bytes of files and the definitions of the calls. One test, `stray_cases_pass`, which the checker computes.
 -- Definitions only. Assumes nothing.
 use Rattle.std.specs.Prelude.{ℕ, zero, suc, List, [], ◌∷◌, ◌++◌, Bool, replicate}
-use Rattle.wgsl.specs.Number.{bytes_of}
 use Rattle.wgsl.specs.Said.{good, refused}
 use Rattle.wgsl.specs.Call.{answer_of, check_of, size_call}
 use Rattle.wgsl.specs.Form.{move_on_call, move_back_call}

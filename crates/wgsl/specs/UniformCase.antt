@@ -4,7 +4,7 @@
 -- Definitions only. Assumes nothing.
 use Rattle.std.specs.Prelude.{ℕ, List, [], ◌∷◌, ◌++◌, Bool, not}
 use Rattle.std.proofs.Math.Option.{none, some}
-use Rattle.wgsl.specs.Types.{bool, u32, f32, f16, Ty, scalar, vector, matrix, array, atomic, struct, no_more, member}
+use Rattle.wgsl.specs.Types.{u32, f32, f16, Ty, scalar, vector, matrix, array, atomic, struct, no_more, member}
 use Rattle.wgsl.specs.Said.{good, refused}
 use Rattle.wgsl.specs.Uniform.{is_uniform, uniform_call}
 use Rattle.wgsl.specs.Case.{says, plain, type_entry, member_entry, member_given, trailer, open_struct, all_pass}

@@ -1,7 +1,6 @@
 -- The test is the minimum's.
 use native.Mathlib.Omega.{arith}
 use Rattle.wgsl.specs.BitField.{bits_of}
-use borrow.Author.Rules.{rules}
 use Rattle.bits.proofs.bits_of.Goals as goal
 
 pub returns-then-count-left : goal.returns-then-count-left

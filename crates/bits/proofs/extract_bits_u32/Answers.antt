@@ -1,6 +1,5 @@
 -- The field at o and c.
 use Rattle.wgsl.specs.BitField.{extracted_u32}
-use borrow.Author.Rules.{rules}
 use Rattle.bits.proofs.extract_bits_u32.Goals as goal
 
 pub returns : goal.returns

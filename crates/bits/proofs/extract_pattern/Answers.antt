@@ -1,6 +1,5 @@
 -- The field at o and c, with its top bit repeated.
 use Rattle.wgsl.specs.BitField.{extracted_u32, extracted_i32}
-use borrow.Author.Rules.{rules}
 use Rattle.bits.proofs.extract_pattern.Goals as goal
 
 pub returns : goal.returns

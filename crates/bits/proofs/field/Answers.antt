@@ -3,8 +3,7 @@ use mathlib.Core.Path.{refl}
 use native.Mathlib.Nat.{lt_of_lt_of_le}
 use lib.Pow.{pow_mono}
 use Rattle.wgsl.proofs.FieldAt.{field_bounded}
-use Rattle.bits.proofs.FieldAt.{mask_fits, field_masked}
-use borrow.Author.Rules.{rules}
+use Rattle.bits.proofs.FieldAt.{field_masked}
 use Rattle.bits.proofs.field.Goals as goal
 
 pub returns : goal.returns

@@ -4,7 +4,6 @@ use native.Mathlib.Omega.{arith}
 use Rattle.wgsl.specs.BitField.{inserted}
 use Rattle.wgsl.proofs.BitField.{field_within}
 use Rattle.bits.proofs.FieldAt.{Put, put_sum}
-use borrow.Author.Rules.{rules}
 use Rattle.bits.proofs.insert_bits_u32.Goals as goal
 
 put : (c : goal.After-wide)

@@ -1,6 +1,5 @@
 -- Of a number below 0, -1 less it is not below 0, and its bits are all the others (`Signs`).
 use mathlib.Core.Path.{ap, sym}
-use native.Mathlib.Omega.{arith}
 use mir.Facts.{to_z-of_z}
 use Rattle.wgsl.specs.BitField.{pattern_of}
 use Rattle.bits.proofs.PatternOf.{Low, low, High, high}

@@ -1,7 +1,6 @@
 -- The top bit is repeated by a sum and a difference (`Words`).
 use Rattle.wgsl.proofs.FieldAt.{repeated_word}
 use Rattle.bits.proofs.FieldAt.{repeated_sum}
-use borrow.Author.Rules.{rules}
 use mathlib.Core.Path.{refl}
 use Rattle.bits.proofs.repeated.Goals as goal
 

@@ -8,7 +8,6 @@ use mir.Facts.{to_z-of_z}
 use lib.IntN.{negsuc}
 use Rattle.wgsl.specs.BitField.{signed_of}
 use Rattle.bits.proofs.PatternOf.{flipped}
-use borrow.Author.Rules.{rules}
 use Rattle.bits.proofs.signed.Goals as goal
 
 turned : (c : goal.Else-p-lt2147483648) → SFits w32 (negsuc (4294967295 - c.args.p))

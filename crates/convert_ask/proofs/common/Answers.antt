@@ -7,7 +7,6 @@ use Rattle.wgsl.specs.Said.{or_refuse}
 use Rattle.convert_common.specs.Chosen.{chosen_is}
 use Rattle.layout_table.proofs.SaidTable.{Taken, told}
 use Rattle.convert_ask.proofs.Calls.{common_refused, common_past, common_empty, list_there, common_is}
-use borrow.Author.Rules.{rules}
 use Rattle.convert_ask.proofs.common.Goals as goal
 
 file : (c : goal.Then-not-all_below) → Taken c.args.file.now c.in-Types.trailer

@@ -5,7 +5,6 @@ use Rattle.wgsl.specs.Said.{or_refuse}
 use Rattle.convert_rank.specs.Ranked.{rank_is}
 use Rattle.layout_table.proofs.SaidTable.{Taken, told}
 use Rattle.convert_ask.proofs.Calls.{rank_refused, rank_past, rank_past_second, pair_there, rank_is_lem}
-use borrow.Author.Rules.{rules}
 use Rattle.convert_ask.proofs.rank.Goals as goal
 
 file : (c : goal.Then-types-a) → Taken c.args.file.now c.in-Types.trailer

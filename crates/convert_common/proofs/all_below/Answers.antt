@@ -1,10 +1,6 @@
 -- The loop's invariant: what is left of the list passes the test just when the list does.
-use Prim.Native.Nat.{◌-◌, ◌≤◌}
-use mathlib.Core.Path.{◌≡◌, refl, sym, ◌∙◌}
+use mathlib.Core.Path.{sym, ◌∙◌}
 use native.Mathlib.Omega.{arith}
-use borrow.Author.Rules.{rules}
-use lib.ListN.{length, drop}
-use Rattle.convert_common.specs.Chosen.{all_below}
 use Rattle.convert_common.proofs.CommonOfAll.{all_below_end, all_below_step, all_below_bad}
 use Rattle.convert_common.proofs.all_below.Goals as goal
 

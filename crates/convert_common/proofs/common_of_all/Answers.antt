@@ -1,13 +1,8 @@
 -- The loop's invariant: the common type of the list is that of what was found and of what is left.
-use Prim.Native.Nat.{◌-◌, ◌≤◌}
-use mathlib.Core.List.{List}
 use mathlib.Core.Path.{ap, sym, ◌∙◌}
 use native.Mathlib.Omega.{arith}
-use borrow.Author.Rules.{rules}
-use lib.ListN.{length}
-use Rattle.wgsl.specs.Types.{Ty}
-use Rattle.convert_common.specs.Chosen.{chosen_is, Listed}
-use Rattle.convert_common.proofs.CommonOfAll.{Folded, folded_start, folded_end, folded_pair, folded_step, folded_none}
+use Rattle.convert_common.specs.Chosen.{chosen_is}
+use Rattle.convert_common.proofs.CommonOfAll.{folded_start, folded_end, folded_pair, folded_step, folded_none}
 use Rattle.convert_common.proofs.common_of_all.Goals as goal
 
 pub loop-i-init : goal.loop-i-init

@@ -1,12 +1,9 @@
 use Prim.Native.Nat.{◌-◌, ◌≤◌}
 use mathlib.Core.List.{List}
-use mathlib.Core.Path.{ap, sym, ◌∙◌}
-use native.Mathlib.Omega.{arith}
-use borrow.Author.Rules.{rules}
 use lib.ListN.{length}
 use Rattle.wgsl.specs.Types.{Ty}
-use Rattle.convert_common.specs.Chosen.{chosen_is, Listed}
-use Rattle.convert_common.proofs.CommonOfAll.{Folded, folded_start, folded_end, folded_pair, folded_step, folded_none}
+use Rattle.convert_common.specs.Chosen.{Listed}
+use Rattle.convert_common.proofs.CommonOfAll.{Folded}
 use Rattle.convert_common.proofs.common_of_all.Given as goal
 
 abbrev pub invariant-loop-i : goal.invariant-loop-i

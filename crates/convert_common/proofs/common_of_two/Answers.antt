@@ -1,8 +1,7 @@
 -- The rank of each entry to the other is what `entry_rank` ensures, at the types that the two numbers name.
 use mathlib.Core.Path.{ap}
 use Rattle.convert_rank.specs.Ranked.{rank_is}
-use borrow.Author.Rules.{rules}
-use Rattle.convert_common.proofs.PairNamed.{swapped, renamed, rank_named}
+use Rattle.convert_common.proofs.PairNamed.{swapped, rank_named}
 use Rattle.convert_common.proofs.CommonOfAll.{common_second, common_first, common_none}
 use Rattle.convert_common.proofs.common_of_two.Goals as goal
 

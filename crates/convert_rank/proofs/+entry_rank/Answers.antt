@@ -5,7 +5,6 @@ use mathlib.Core.Option.{some}
 use mathlib.Core.Path.{◌≡◌, sym, ◌∙◌}
 use mathlib.Core.Bool.{Bool}
 use native.Mathlib.Omega.{arith}
-use borrow.Author.Rules.{rules}
 use lib.ListN.{get_elem?}
 use Rattle.wgsl.specs.Types.{bool, Ty, scalar}
 use Rattle.wgsl.specs.Said.{good}
@@ -14,12 +13,6 @@ use Rattle.file.specs.Fields.{entry_is}
 use Rattle.convert_rank.specs.Ranked.{Pair}
 use Rattle.wgsl.proofs.AtEntry.{get_elem_get_d}
 use Rattle.convert_rank.proofs.PairRank.{first_inside, second_inside, Two, lower_pair, scalars_rank, scalar_other, kinds_other, structs_same, structs_other, arrays_other, arrays_rank, runtimes_rank, over_scalars_rank}
-use Rattle.convert_rank.proofs.entry_rank.Reads as entry-rank
-use Rattle.convert_rank.proofs.entry_of.Reads as entry-of-reads
-use Rattle.convert_rank.proofs.over_scalar_rank.Reads as over-scalar-rank-reads
-use Rattle.convert_rank.proofs.scalar.scalar_rank.Reads as scalar-rank-reads
-use Rattle.file.proofs.kinds.is_scalar.Reads as is-scalar-reads
-use Rattle.numbers.proofs.wide.wide.Reads as wide-reads
 use Rattle.convert_rank.proofs.+entry_rank.Goals as goal
 
 -- what a test tells, by what it ensures

@@ -1,5 +1,4 @@
 -- `type_entry_at` begins where the trailer says.
-use borrow.Author.Rules.{rules}
 use Rattle.wgsl.specs.File.{type_entry_at}
 use Rattle.convert_rank.proofs.entry_of.Goals as goal
 

@@ -1,6 +1,5 @@
 -- Each answer is a law of `OverScalar`, by what was tested.
 use mathlib.Core.Path.{sym, ◌∙◌}
-use borrow.Author.Rules.{rules}
 use Rattle.convert_rank.proofs.OverScalar.{vectors_rank, vectors_other, matrices_rank, columns_other, rows_other, atomics_same, atomics_other}
 use Rattle.convert_rank.proofs.over_scalar_rank.Goals as goal
 

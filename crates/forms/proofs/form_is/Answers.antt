@@ -1,7 +1,6 @@
 -- Each answer is a law of `FormIs`, at the trailer that was read.
-use mathlib.Core.Path.{◌≡◌, sym, ap, ◌∙◌}
+use mathlib.Core.Path.{sym, ap, ◌∙◌}
 use native.Mathlib.Omega.{arith}
-use borrow.Author.Rules.{rules}
 use Rattle.wgsl.specs.File as wgsl
 use Rattle.forms.proofs.FormIs.{form_short, form_other, form_taken}
 use Rattle.forms.proofs.form_is.Goals as goal

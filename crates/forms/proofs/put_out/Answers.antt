@@ -1,12 +1,10 @@
 -- Room or none (`PutOut`).
 use Prim.Native.Nat.{◌+◌, ◌*◌}
-use mathlib.Core.Path.{◌≡◌, sym, ap, ◌∙◌}
+use mathlib.Core.Path.{◌≡◌, ◌∙◌}
 use native.Mathlib.Omega.{arith}
-use borrow.Author.Rules.{rules}
 use Rattle.wgsl.proofs.Trailed.{trailed}
 use Rattle.wgsl.proofs.MemberLength.{length_least}
 use Rattle.said.proofs.Answered.{answered_refused}
-use Rattle.puts.specs.Put.{Put}
 use Rattle.forms.proofs.PutOut.{given_long, new_file, new_long, new_fits, no_room, put_whole}
 use Rattle.forms.proofs.put_out.Goals as goal
 

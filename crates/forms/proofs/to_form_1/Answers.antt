@@ -1,9 +1,7 @@
 -- A file of form 2 without names is put out (`back_goes`).
-use Prim.Native.Nat.{◌+◌, ◌*◌}
-use mathlib.Core.Path.{◌≡◌, refl, ap, sym, ◌∙◌}
+use mathlib.Core.Path.{refl, ap, sym, ◌∙◌}
 use mathlib.Core.Bool.{not}
 use native.Mathlib.Omega.{arith}
-use borrow.Author.Rules.{rules}
 use Rattle.wgsl.specs.File.{member_entry_length}
 use Rattle.wgsl.specs.Number.{bytes_of}
 use Rattle.wgsl.specs.Form.{nameless}
@@ -20,7 +18,7 @@ is_named-requires c =
     let start = c.wide.ensures.0 in
     let types = c.wide-in-Types.ensures.0 in
     let members = c.wide-in-Types-2.ensures.0 in (
-      told.0.form_is_here,
+      told.0.is_form,
       omega (arith, start, types, entries_begin _ _ told.0 told.1),
       omega (arith, start, types, members, entries_inside _ _ told.0 told.1),
     )

@@ -1,7 +1,6 @@
 -- A file of form 1 is put out (`on_goes`).
-use mathlib.Core.Path.{◌≡◌, refl}
+use mathlib.Core.Path.{refl}
 use native.Mathlib.Omega.{arith}
-use borrow.Author.Rules.{rules}
 use Rattle.wgsl.specs.File.{member_entry_length}
 use Rattle.wgsl.specs.Number.{bytes_of}
 use Rattle.said.proofs.Answered.{answered_refused, answered_same}

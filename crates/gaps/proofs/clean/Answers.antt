@@ -1,12 +1,10 @@
 -- The entry that `find` finds, or its refusal, or the trailer's (crates/walk_decide, proofs/Meant). Assumes nothing.
-use mathlib.Core.Path.{sym}
 use Rattle.said.proofs.Answered.{cleaned_refused}
 use Rattle.wgsl.specs.Types.{Ty}
 use Rattle.walk_decide.specs.Meant.{Meant}
 use Rattle.walk_decide.proofs.Meant.{entry_found, entry_missing, trailer_refused}
 use Rattle.walk_decide.proofs.EntryFor.{for_missing}
 use Rattle.gaps.proofs.CleanType.{clean_refused}
-use borrow.Author.Rules.{rules}
 use Rattle.gaps.proofs.clean.Goals as goal
 
 -- the entry, found

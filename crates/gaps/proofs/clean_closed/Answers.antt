@@ -1,15 +1,11 @@
 -- By what is found (proofs/CleanType). Assumes nothing.
-use Prim.Native.Nat.{◌≤◌}
 use mathlib.Core.Path.{sym, ◌∙◌}
-use native.Mathlib.Omega.{arith}
-use lib.ListN.{length}
 use Rattle.wgsl.specs.Clean.{done_from}
 use Rattle.wgsl.proofs.Tail.{closed_extent}
 use Rattle.said.proofs.Answered.{cleaned_refused, cleaned_done}
 use Rattle.walk_decide.proofs.Whole.{ready_ordered, closed_whole}
 use Rattle.walk_decide.proofs.ReadyBounds.{size_is}
 use Rattle.gaps.proofs.CleanType.{few_bytes, all_cleaned}
-use borrow.Author.Rules.{rules}
 use Rattle.gaps.proofs.clean_closed.Goals as goal
 
 pub returns-then-buf-extent : goal.returns-then-buf-extent

@@ -15,7 +15,6 @@ use Rattle.walk_decide.proofs.EntryFor.{for_refused, for_stored}
 use Rattle.walk_decide.proofs.MeantReady.{entry_ready, entry_tailed}
 use Rattle.walk_decide.proofs.Meant.{entry_value, entry_well_formed}
 use Rattle.gaps.proofs.CleanType.{clean_refused, clean_allowed}
-use borrow.Author.Rules.{rules}
 use Rattle.gaps.proofs.clean_entry_at.Goals as goal
 
 -- 17, 9 and 10 let it pass
@@ -24,7 +23,7 @@ allowed : {t : Ty} (c : goal.After-clean_open-arg-1) →
     Meant a.file.now a.e a.g a.table.now t → (entry_for true a.file.now a.e a.buf.now ≡ good t) × (is_storable t ≡ true) × (length a.buf.now ≤ 4294967295)
 allowed {t} c x =
     let says = c.allow.ensures t (entry_value x) (entry_well_formed x) in
-    for_stored _ _ _ t x.entry_is_lem (rw c.in-Yes.is at says)
+    for_stored _ _ _ t x.is_entry (rw c.in-Yes.is at says)
 
 -- 17, 9 and 10 let it pass
 allowed_2 : {t : Ty} (c : goal.After-slice_known-then-opens-1) →
@@ -32,7 +31,7 @@ allowed_2 : {t : Ty} (c : goal.After-slice_known-then-opens-1) →
     Meant a.file.now a.e a.g a.table.now t → (entry_for true a.file.now a.e a.buf.now ≡ good t) × (is_storable t ≡ true) × (length a.buf.now ≤ 4294967295)
 allowed_2 {t} c x =
     let says = c.allow.ensures t (entry_value x) (entry_well_formed x) in
-    for_stored _ _ _ t x.entry_is_lem (rw c.in-Yes.is at says)
+    for_stored _ _ _ t x.is_entry (rw c.in-Yes.is at says)
 
 -- 17, 9 and 10 let it pass
 allowed_3 : {t : Ty} (c : goal.After-clean_closed-arg-1) →
@@ -40,7 +39,7 @@ allowed_3 : {t : Ty} (c : goal.After-clean_closed-arg-1) →
     Meant a.file.now a.e a.g a.table.now t → (entry_for true a.file.now a.e a.buf.now ≡ good t) × (is_storable t ≡ true) × (length a.buf.now ≤ 4294967295)
 allowed_3 {t} c x =
     let says = c.allow.ensures t (entry_value x) (entry_well_formed x) in
-    for_stored _ _ _ t x.entry_is_lem (rw c.in-Yes.is at says)
+    for_stored _ _ _ t x.is_entry (rw c.in-Yes.is at says)
 
 -- 17, 9 and 10 let it pass
 allowed_4 : {t : Ty} (c : goal.After-slice_known-in-Yes-1) →
@@ -48,7 +47,7 @@ allowed_4 : {t : Ty} (c : goal.After-slice_known-in-Yes-1) →
     Meant a.file.now a.e a.g a.table.now t → (entry_for true a.file.now a.e a.buf.now ≡ good t) × (is_storable t ≡ true) × (length a.buf.now ≤ 4294967295)
 allowed_4 {t} c x =
     let says = c.allow.ensures t (entry_value x) (entry_well_formed x) in
-    for_stored _ _ _ t x.entry_is_lem (rw c.in-Yes.is at says)
+    for_stored _ _ _ t x.is_entry (rw c.in-Yes.is at says)
 
 -- or one of them stops it
 stopped : {t : Ty} (c : goal.In-Refused) →
@@ -57,7 +56,7 @@ stopped : {t : Ty} (c : goal.In-Refused) →
     Meant a.file.now a.e a.g a.table.now t → clean_call a.file.now a.e a.buf.now ≡ refused (number_of r) (place_of r)
 stopped {t} c x =
     let says = c.allow.ensures t (entry_value x) (entry_well_formed x) in
-    clean_refused _ _ _ (for_refused _ _ _ _ t x.entry_is_lem (rw c.in-Refused.is at says))
+    clean_refused _ _ _ (for_refused _ _ _ _ t x.is_entry (rw c.in-Refused.is at says))
 
 -- whether it is open
 opened : {t : Ty} (c : goal.After-clean_open-arg-1) →

@@ -12,7 +12,6 @@ use Rattle.walk_decide.specs.Whole.{Tailed, TailedBy, Whole}
 use Rattle.walk_decide.proofs.Whole.{ready_ordered, open_whole}
 use Rattle.walk_decide.proofs.ReadyBounds.{stride_above, elements_few}
 use Rattle.gaps.proofs.CleanType.{no_elements, some_elements}
-use borrow.Author.Rules.{rules}
 use Rattle.gaps.proofs.clean_open.Goals as goal
 
 -- the tail that is found

@@ -3,7 +3,6 @@
 use Prim.Native.Nat.{◌≤◌}
 use mathlib.Core.Path.{ap, sym}
 use native.Mathlib.Omega.{arith}
-use borrow.Author.Rules.{rules}
 use Rattle.wgsl.specs.Place.{shape_of, word_count}
 use Rattle.wgsl.specs.Clean.{CleanDone, done_from}
 use Rattle.said.specs.Answer.{gaps_is}

@@ -3,62 +3,29 @@
 -- A walk goes down from an entry to the entries below it, which have lower numbers: that is the measure.
 -- The loops' invariants are `PartsSwept` and `MembersSwept` of proofs/SweepSteps: what is left, from here on, is the whole, from the start on.
 -- Assumes nothing.
-use borrow.Author.Rules.{rules}
-use Rattle.gaps_walk.proofs.sweep_entry.Reads as sweep-entry
-use Rattle.gaps_walk.proofs.sweep_many.Reads as sweep-many
-use Rattle.gaps_walk.proofs.sweep_struct.Reads as sweep-struct
-use Prim.Native.Nat.{ℕ, ◌+◌, ◌*◌, ◌<◌}
-use Rattle.walk_trees.proofs.Many.{depth}
-use Rattle.gaps_walk.proofs.sweep_entry.Reads as sweep-entry
-use Rattle.gaps_walk.proofs.sweep_many.Reads as sweep-many
-use Rattle.gaps_walk.proofs.sweep_struct.Reads as sweep-struct
+use Prim.Native.Nat.{ℕ, ◌+◌, ◌*◌}
 use Prim.Native.Nat.{ℕ}
 use mathlib.Core.Path.{sym, ◌∙◌}
 use native.Mathlib.Omega.{arith}
-use Rattle.walk_trees.proofs.Many.{tree_valued, tree_many, depth_below}
-use Rattle.gaps_walk.proofs.sweep_entry.Reads as sweep-entry
-use Rattle.gaps_walk.proofs.sweep_many.Reads as sweep-many
-use Rattle.gaps_walk.proofs.sweep_struct.Reads as sweep-struct
-use Rattle.gaps_sweep.proofs.parts.sweep_run.Reads as sweep-run-reads
-use Rattle.layout_values.proofs.value.value_at.Reads as value-at-reads
-use Rattle.layout_values.proofs.value.words_of.Reads as words-of-reads
-use Rattle.numbers.proofs.wide.wide.Reads as wide-reads
-use Rattle.walk_trees.proofs.packed.Reads as packed-reads
-use Prim.Native.Nat.{ℕ, ◌+◌, ◌-◌, ◌*◌}
+use Rattle.walk_trees.proofs.Many.{tree_valued, tree_many}
+use Prim.Native.Nat.{ℕ, ◌+◌, ◌*◌}
 use mathlib.Core.Path.{◌≡◌}
 use native.Mathlib.Omega.{arith}
 use lib.ListN.{length}
 use Rattle.wgsl.specs.Place.{Shape}
 use Rattle.walk_trees.specs.Slot.{part_width}
-use Rattle.walk_trees.specs.Tree.{Many, Tree, RunsOf, Room}
-use Rattle.walk_trees.proofs.Many.{many_each}
+use Rattle.walk_trees.specs.Tree.{Tree, Room}
 use Rattle.walk_trees.proofs.Room.{each_entry, each_room, Each}
-use Rattle.walk_trees.proofs.Rows.{runs_room}
-use Rattle.walk_pieces.specs.Piece.{Pieced, Listed}
+use Rattle.walk_pieces.specs.Piece.{Pieced}
 use Rattle.walk_pieces.proofs.Pass.{pieced_each, pieced_parts}
-use Rattle.gaps_sweep.specs.Sweep.{swept_of}
-use Rattle.gaps_walk.proofs.SweepSteps.{PartsSwept, parts_start, part_ready, parts_next, parts_none}
-use Rattle.gaps_walk.proofs.sweep_entry.Reads as sweep-entry
-use Rattle.gaps_walk.proofs.sweep_many.Reads as sweep-many
-use Rattle.gaps_sweep.proofs.parts.sweep_parts.Reads as sweep-parts-reads
-use Rattle.gaps_sweep.proofs.pieces.sweep_each.Reads as sweep-each-reads
-use Rattle.numbers.proofs.wide.wide.Reads as wide-reads
-use Rattle.walk_pieces.proofs.pieces_of.Reads as pieces-of-reads
-use Rattle.walk_trees.proofs.parts_of.Reads as parts-of-reads
-use Prim.Native.Nat.{ℕ, ◌≤◌}
+use Rattle.gaps_walk.proofs.SweepSteps.{part_ready, parts_next, parts_none}
+use Prim.Native.Nat.{ℕ}
 use mathlib.Core.Path.{◌≡◌}
-use native.Mathlib.Nat.{mul-le-mul}
 use native.Mathlib.Omega.{arith}
 use lib.ListN.{length}
 use Rattle.walk_trees.proofs.Room.{type_is, type_tree, member_room}
 use Rattle.walk_trees.proofs.TreeSteps.{walk_first}
-use Rattle.gaps_sweep.specs.Sweep.{swept_of}
-use Rattle.gaps_walk.proofs.SweepSteps.{MembersSwept, members_start_lem, member_ready, members_next, members_none}
-use Rattle.gaps_walk.proofs.sweep_entry.Reads as sweep-entry
-use Rattle.gaps_walk.proofs.sweep_struct.Reads as sweep-struct
-use Rattle.numbers.proofs.wide.wide.Reads as wide-reads
-use Rattle.walk_trees.proofs.slot_after.Reads as slot-after-reads
-use Rattle.walk_pieces.specs.Piece.{Listed}
+use Rattle.gaps_walk.proofs.SweepSteps.{members_start_lem, member_ready, members_next, members_none}
 use Rattle.gaps_walk.proofs.+sweep_entry_sweep_many_sweep_struct.Goals as goal
 
 -- the parts are no runs

@@ -1,33 +1,11 @@
-use borrow.Author.Rules.{rules}
-use Prim.Native.Nat.{ℕ, ◌+◌, ◌*◌, ◌<◌}
+use Prim.Native.Nat.{◌+◌, ◌*◌}
 use Rattle.walk_trees.proofs.Many.{depth}
-use Prim.Native.Nat.{ℕ}
-use mathlib.Core.Path.{sym, ◌∙◌}
-use native.Mathlib.Omega.{arith}
-use Rattle.walk_trees.proofs.Many.{tree_valued, tree_many, depth_below}
-use Prim.Native.Nat.{ℕ, ◌+◌, ◌-◌, ◌*◌}
-use mathlib.Core.Path.{◌≡◌}
-use native.Mathlib.Omega.{arith}
-use lib.ListN.{length}
-use Rattle.wgsl.specs.Place.{Shape}
-use Rattle.walk_trees.specs.Slot.{part_width}
-use Rattle.walk_trees.specs.Tree.{Many, Tree, RunsOf, Room}
-use Rattle.walk_trees.proofs.Many.{many_each}
-use Rattle.walk_trees.proofs.Room.{each_entry, each_room, Each}
-use Rattle.walk_trees.proofs.Rows.{runs_room}
-use Rattle.walk_pieces.specs.Piece.{Pieced, Listed}
-use Rattle.walk_pieces.proofs.Pass.{pieced_each, pieced_parts}
+use Prim.Native.Nat.{◌+◌, ◌-◌, ◌*◌}
+use Rattle.walk_pieces.specs.Piece.{Listed}
 use Rattle.gaps_sweep.specs.Sweep.{swept_of}
-use Rattle.gaps_walk.proofs.SweepSteps.{PartsSwept, parts_start, part_ready, parts_next, parts_none}
-use Prim.Native.Nat.{ℕ, ◌≤◌}
-use mathlib.Core.Path.{◌≡◌}
-use native.Mathlib.Nat.{mul-le-mul}
-use native.Mathlib.Omega.{arith}
-use lib.ListN.{length}
-use Rattle.walk_trees.proofs.Room.{type_is, type_tree, member_room}
-use Rattle.walk_trees.proofs.TreeSteps.{walk_first}
+use Rattle.gaps_walk.proofs.SweepSteps.{PartsSwept}
 use Rattle.gaps_sweep.specs.Sweep.{swept_of}
-use Rattle.gaps_walk.proofs.SweepSteps.{MembersSwept, members_start_lem, member_ready, members_next, members_none}
+use Rattle.gaps_walk.proofs.SweepSteps.{MembersSwept}
 use Rattle.walk_pieces.specs.Piece.{Listed}
 use Rattle.gaps_walk.proofs.+sweep_entry_sweep_many_sweep_struct.Given as goal
 

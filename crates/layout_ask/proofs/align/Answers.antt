@@ -1,7 +1,6 @@
 -- Each answer is a law of `Calls`, over what `layout_of` and `alone` ensure.
 use Rattle.wgsl.specs.Call.{align_call}
 use Rattle.layout_ask.proofs.Calls.{ask_refused, ask_align}
-use borrow.Author.Rules.{rules}
 use Rattle.layout_ask.proofs.align.Goals as goal
 
 pub returns-in-Is : goal.returns-in-Is

@@ -1,6 +1,5 @@
 -- Each answer is a law of `Calls`, over what `accept` ensures.
 use Rattle.layout_ask.proofs.Calls.{check_types, check_refused}
-use borrow.Author.Rules.{rules}
 use Rattle.layout_ask.proofs.check.Goals as goal
 
 pub returns-in-Types : goal.returns-in-Types

@@ -1,7 +1,6 @@
 -- Each answer is a law of `Calls`, over what `value_of`, `mark`, `least` and `stride_of` ensure.
 use Rattle.wgsl.specs.Call.{layout_call}
 use Rattle.layout_ask.proofs.Calls.{ask_refused, ask_layout}
-use borrow.Author.Rules.{rules}
 use Rattle.layout_ask.proofs.layout.Goals as goal
 
 pub returns-in-Is : goal.returns-in-Is

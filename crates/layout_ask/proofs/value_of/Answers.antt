@@ -1,6 +1,5 @@
 -- A refusal of the trailer is the file's; otherwise `find` says which layout the entry has, or that it has none (proofs/Calls).
 use mathlib.Core.Path.{sym, ap, ◌∙◌}
-use borrow.Author.Rules.{rules}
 use Rattle.file.specs.Fields.{said_trailer}
 use Rattle.layout_ask.proofs.Calls.{found_no_trailer, found_ground, found_no_ground}
 use Rattle.layout_ask.proofs.value_of.Goals as goal

@@ -2,7 +2,6 @@
 use mathlib.Core.Bool.{not}
 use mathlib.Core.Path.{ap}
 use mathlib.Core.Path.{sym, ◌∙◌}
-use borrow.Author.Rules.{rules}
 use borrow.Author.Tests.{not-true, not-false}
 use Rattle.layout_members.proofs.GivenFits.{align_not_given, align_no_power, align_multiple}
 use Rattle.layout_members.proofs.align_fits.Goals as goal

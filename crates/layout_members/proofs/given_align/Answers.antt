@@ -1,5 +1,4 @@
 use mathlib.Core.Path.{sym}
-use borrow.Author.Rules.{rules}
 use Rattle.layout_members.specs.Given.{or_own}
 use Rattle.wgsl.specs.Size.{given_or, present}
 use Rattle.wgsl.specs.File.{given_align}

@@ -1,15 +1,14 @@
 -- Each answer is a law of `Flags`; past the test of the size, a size is given or zero.
 use mathlib.Core.Bool.{not}
 use mathlib.Core.Path.{ap}
-use mathlib.Core.Logic.{◌⊎◌, inl, inr, ⊎_elim}
+use mathlib.Core.Logic.{◌⊎◌, inl, inr}
 use mathlib.Core.Path.{◌≡◌, sym, ◌∙◌}
 use mathlib.Core.Bool.{true}
 use native.Mathlib.Omega.{arith}
-use borrow.Author.Tests.{not-true, not-false}
+use borrow.Author.Tests.{not-true}
 use Rattle.wgsl.specs.File.{size_is_given}
 use Rattle.file.specs.Fields.{member_is}
 use Rattle.layout_members.proofs.Flags.{rest_bits, rest_size, rest_align_given, rest_align_zero}
-use borrow.Author.Rules.{rules}
 use Rattle.layout_members.proofs.rest_is_zero.Goals as goal
 use Rattle.layout_members.proofs.rest_is_zero.Goals.{then-not-size_given+else-m-ne0-2, else-not-size_given}
 

@@ -2,7 +2,6 @@
 use mathlib.Core.Bool.{not}
 use mathlib.Core.Path.{ap}
 use mathlib.Core.Path.{sym, ◌∙◌}
-use borrow.Author.Rules.{rules}
 use borrow.Author.Tests.{not-true, not-false}
 use Rattle.layout_members.proofs.GivenFits.{size_not_given, size_not_on_runtime, size_at_least}
 use Rattle.layout_members.proofs.size_fits.Goals as goal

@@ -10,7 +10,6 @@ use Rattle.wgsl.specs.Rule.{unused, is_well_formed}
 use Rattle.layout_values.specs.Value.{value_of}
 use Rattle.layout_values.proofs.Unused.{unused_two, denied, granted}
 use Rattle.layout_referring.proofs.ArrayMade.{array_used, array_empty, array_open, array_large, array_words, array_laid}
-use borrow.Author.Rules.{rules}
 use Rattle.layout_referring.proofs.array.Goals as goal
 
 -- the fields that the kind doesn't use are zero

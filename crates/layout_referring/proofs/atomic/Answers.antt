@@ -5,7 +5,6 @@ use mathlib.Core.Path.{sym}
 use native.Mathlib.Omega.{arith}
 use Rattle.layout_values.proofs.Unused.{unused_three, denied, granted}
 use Rattle.layout_referring.proofs.AtomicMade.{atomic_used, atomic_low, atomic_high, atomic_laid}
-use borrow.Author.Rules.{rules}
 use Rattle.layout_referring.proofs.atomic.Goals as goal
 
 pub returns-then-not-zeros : goal.returns-then-not-zeros

@@ -5,9 +5,7 @@ use mathlib.Core.Path.{sym, ◌∙◌}
 use borrow.Author.Tests.{not-true, not-false}
 use native.Mathlib.Omega.{arith}
 use Rattle.layout_values.proofs.Unused.{unused_one, denied, granted}
-use Rattle.layout_values.proofs.VectorAlign.{times_fits}
 use Rattle.layout_referring.proofs.MatrixMade.{matrix_used, matrix_over, columns_low, columns_high, rows_low, rows_high, matrix_laid}
-use borrow.Author.Rules.{rules}
 use Rattle.layout_referring.proofs.matrix.Goals as goal
 
 pub returns-then-not-zeros : goal.returns-then-not-zeros

@@ -2,7 +2,6 @@
 use mathlib.Core.Path.{sym, ◌∙◌}
 use native.Mathlib.Omega.{arith}
 use Rattle.layout_referring.proofs.OverMade.{over_vector, over_matrix, over_array, over_runtime, over_atomic, over_none}
-use borrow.Author.Rules.{rules}
 use Rattle.layout_referring.proofs.over_entry.Goals as goal
 
 pub returns-then-kind-eq-VECTOR : goal.returns-then-kind-eq-VECTOR

@@ -11,7 +11,6 @@ use Rattle.layout_values.specs.Value.{value_of}
 use Rattle.layout_values.proofs.Unused.{unused_three, denied, granted}
 use Rattle.layout_values.proofs.ValueOf.{unaligned, Element, element, words_within}
 use Rattle.layout_referring.proofs.RuntimeMade.{runtime_used, runtime_open, runtime_unaligned, runtime_laid}
-use borrow.Author.Rules.{rules}
 use Rattle.layout_referring.proofs.runtime.Goals as goal
 
 -- the fields that the kind doesn't use are zero

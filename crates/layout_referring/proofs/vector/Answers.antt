@@ -4,9 +4,7 @@ use mathlib.Core.Path.{ap}
 use mathlib.Core.Path.{sym}
 use native.Mathlib.Omega.{arith}
 use Rattle.layout_values.proofs.Unused.{unused_two, denied, granted}
-use Rattle.layout_values.proofs.VectorAlign.{times_fits}
 use Rattle.layout_referring.proofs.VectorMade.{vector_used, vector_over, vector_low, vector_high, vector_laid}
-use borrow.Author.Rules.{rules}
 use Rattle.layout_referring.proofs.vector.Goals as goal
 
 pub returns-then-not-zeros : goal.returns-then-not-zeros

@@ -1,6 +1,5 @@
 -- The marks tell (`Named`).
 use mathlib.Core.Path.{refl}
-use borrow.Author.Rules.{rules}
 use Rattle.layout_strays.proofs.Named.{marks_none}
 use Rattle.layout_strays.proofs.lowest_stray.Goals as goal
 

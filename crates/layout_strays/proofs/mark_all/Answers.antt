@@ -1,10 +1,7 @@
 -- The marks are those of the entries that were passed (`Named`).
-use Prim.Native.Nat.{◌-◌, ◌≤◌}
-use mathlib.Core.Path.{◌≡◌, refl, ◌∙◌}
+use mathlib.Core.Path.{◌∙◌}
 use native.Mathlib.Omega.{arith}
 use borrow.Author.Rules.{rules}
-use lib.ListN.{length}
-use Rattle.layout_strays.specs.Strays.{Marks}
 use Rattle.layout_strays.proofs.Named.{entry_there, marks_next}
 use Rattle.layout_strays.proofs.mark_all.Goals as goal
 

@@ -1,10 +1,7 @@
 use Prim.Native.Nat.{◌-◌, ◌≤◌}
-use mathlib.Core.Path.{◌≡◌, refl, ◌∙◌}
-use native.Mathlib.Omega.{arith}
-use borrow.Author.Rules.{rules}
+use mathlib.Core.Path.{◌≡◌}
 use lib.ListN.{length}
 use Rattle.layout_strays.specs.Strays.{Marks}
-use Rattle.layout_strays.proofs.Named.{entry_there, marks_next}
 use Rattle.layout_strays.proofs.mark_all.Given as goal
 
 abbrev pub invariant-loop-k : goal.invariant-loop-k

@@ -2,7 +2,6 @@
 use mathlib.Core.Bool.{Bool, ◌||◌}
 use mathlib.Core.Path.{ap, ◌∙◌}
 use native.Mathlib.Omega.{arith}
-use borrow.Author.Rules.{rules}
 use Rattle.file.specs.Fields.{entry_is}
 use Rattle.layout_strays.specs.Strays.{mark_at}
 use Rattle.layout_strays.proofs.Named.{not_struct, or_none, names_span, names_cut}

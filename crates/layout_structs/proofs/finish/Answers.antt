@@ -1,5 +1,5 @@
 -- Each verdict on the members is one law of `Ended`.
-use mathlib.Core.Path.{◌≡◌, refl, sym, subst}
+use mathlib.Core.Path.{◌≡◌, sym, subst}
 use native.Mathlib.Omega.{arith}
 use borrow.Author.Rules.{rules}
 use Rattle.wgsl.specs.Types.{Members}

@@ -7,7 +7,6 @@ use Rattle.file.specs.Fields.{member_is}
 use Rattle.layout_values.specs.Value.{words_in}
 use Rattle.layout_members.specs.Given.{or_own}
 use Rattle.layout_structs.proofs.Joins.{joins_power, joins_past, joins_open, joins_end_past, joins_closed, joins_words}
-use borrow.Author.Rules.{rules}
 use Rattle.layout_structs.proofs.join.Goals as goal
 
 align_is : (c : goal.After-given_size-size) →

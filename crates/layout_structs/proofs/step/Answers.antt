@@ -10,7 +10,6 @@ use Rattle.wgsl.specs.Rule.{member_allowed, given_size_fits, given_align_fits, i
 use Rattle.file.specs.Fields.{member_is}
 use Rattle.layout_values.specs.Value.{value_of}
 use Rattle.layout_structs.proofs.Meets.{steps_rest, steps_not_allowed, steps_next, steps_size, steps_align, steps_unfit, steps_joins, steps_large}
-use borrow.Author.Rules.{rules}
 use Rattle.layout_structs.proofs.step.Goals as goal
 
 rest : (c : goal.Then-not-size_fits) → rest_is_zero (member_is c.args.m) ≡ true

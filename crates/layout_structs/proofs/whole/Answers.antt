@@ -1,6 +1,5 @@
 -- Each way out is one law of `Ended`; the alignment of complete members is a power of two.
 use mathlib.Core.Path.{sym, ◌∙◌}
-use borrow.Author.Rules.{rules}
 use Rattle.layout_structs.proofs.Ended.{ended_power, ended_opens, ended_closes, ended_past}
 use Rattle.layout_structs.proofs.whole.Goals as goal
 

@@ -1,6 +1,5 @@
 -- A refusal of the trailer is the file's; a good one is what `fill` asks, since `check_trailer` says what `check_trailer` does.
 use mathlib.Core.Path.{sym, ap, ◌∙◌}
-use borrow.Author.Rules.{rules}
 use Rattle.file.specs.Fields.{said_trailer}
 use Rattle.layout_table.proofs.SaidTable.{trailer_refused, accepted_refused, table_trailer}
 use Rattle.layout_table.proofs.accept.Goals as goal

@@ -5,7 +5,6 @@ use mathlib.Core.Bool.{Bool, true}
 use mathlib.Core.List.{List, [], ◌∷◌}
 use mathlib.Core.Path.{◌≡◌, sym, ◌∙◌}
 use native.Mathlib.Omega.{arith}
-use borrow.Author.Rules.{rules}
 use Rattle.wgsl.specs.Types.{Ty}
 use Rattle.wgsl.specs.Rule.{unused}
 use Rattle.wgsl.proofs.ScalarKind.{low_scalar}
@@ -58,7 +57,7 @@ below_2 c ts low =
 pub returns-then-not-zeros : goal.returns-then-not-zeros
 returns-then-not-zeros c ts u =
     let a = c.args in
-    entry_used a.f.now ts a.k a.long a.e.reference u.entry_is_lem
+    entry_used a.f.now ts a.k a.long a.e.reference u.is_entry
     (denied (unused_two _ _ c.zeros.ensures) (ap not c.if-not-zeros.true))
 
 pub scalar_entry-requires : goal.scalar_entry-requires
@@ -69,14 +68,14 @@ returns-then-e-le-ABSTRACT_FLOAT c ts u =
     let z = c in
     let a = z.args in
     c.scalar_entry.ensures a.long
-    ∙ entry_scalar a.f.now ts a.k a.long a.e.reference u.entry_is_lem (zero_fields z) (low_scalar _ c.if-e-le-ABSTRACT_FLOAT.true)
+    ∙ entry_scalar a.f.now ts a.k a.long a.e.reference u.is_entry (zero_fields z) (low_scalar _ c.if-e-le-ABSTRACT_FLOAT.true)
 
 pub returns-then-e-eq-STRUCT : goal.returns-then-e-eq-STRUCT
 returns-then-e-eq-STRUCT c ts u =
     let z = c in
     let a = z.args in
     c.struct_entry.ensures ts u
-    ∙ entry_struct a.f.now ts a.k a.long a.e.reference u.entry_is_lem (zero_fields_2 z) c.if-e-eq-STRUCT.true
+    ∙ entry_struct a.f.now ts a.k a.long a.e.reference u.is_entry (zero_fields_2 z) c.if-e-eq-STRUCT.true
 
 pub returns-then-is_scalar : goal.returns-then-is_scalar
 returns-then-is_scalar c ts u =
@@ -84,7 +83,7 @@ returns-then-is_scalar c ts u =
     let z = s in
     let a = z.args in
     c.scalar_entry-then-is_scalar.ensures a.long
-    ∙ entry_scalar a.f.now ts a.k a.long a.e.reference u.entry_is_lem (zero_fields_3 z) (told s.is_scalar.ensures c.if-is_scalar.true)
+    ∙ entry_scalar a.f.now ts a.k a.long a.e.reference u.is_entry (zero_fields_3 z) (told s.is_scalar.ensures c.if-is_scalar.true)
 
 pub returns-then-k-r : goal.returns-then-k-r
 returns-then-k-r c ts u =
@@ -92,7 +91,7 @@ returns-then-k-r c ts u =
     let s = w in
     let z = s in
     let a = z.args in
-    entry_missing a.f.now ts a.k a.long a.e.reference u.entry_is_lem (zero_fields_4 z) (told s.is_scalar.ensures w.if-is_scalar.false)
+    entry_missing a.f.now ts a.k a.long a.e.reference u.is_entry (zero_fields_4 z) (told s.is_scalar.ensures w.if-is_scalar.false)
     s.if-e-eq-STRUCT.false (lower_past a.f.now a.table.now a.k ts a.e.reference u.lower
     (omega (arith, w.wide-r.ensures, c.if-k-r.true)))
 
@@ -111,5 +110,5 @@ returns c ts u =
     let a = z.args in
     let r = below_2 l ts u.lower in
     c.over_entry.ensures a.long r.type (simp l.value_at.ensures r.layout) r.well_formed
-    ∙ entry_over a.f.now ts a.k a.long a.e.reference u.entry_is_lem (zero_fields_5 z) (told s.is_scalar.ensures w.if-is_scalar.false)
+    ∙ entry_over a.f.now ts a.k a.long a.e.reference u.is_entry (zero_fields_5 z) (told s.is_scalar.ensures w.if-is_scalar.false)
     s.if-e-eq-STRUCT.false r.type w.wide-r.ensures.0 r.is

@@ -1,18 +1,16 @@
 -- The invariant is `Filled` (proofs/TableOf): the types below k are good, the table holds their values and is blank past them.
-use Prim.Native.Nat.{ℕ, ◌+◌, ◌-◌, ◌*◌, ◌<◌}
+use Prim.Native.Nat.{ℕ, ◌+◌, ◌*◌, ◌<◌}
 use mathlib.Core.List.{List}
 use mathlib.Core.Path.{◌≡◌, refl, sym, ap, ◌∙◌}
 use native.Mathlib.Omega.{arith}
 use borrow.Author.Rules.{rules}
-use lib.ListN.{length}
 use Rattle.wgsl.specs.Rule.{type_of_entry}
-use Rattle.file.specs.Fields.{trailer_is, entry_is}
+use Rattle.file.specs.Fields.{entry_is}
 use Rattle.file.specs.Members.{member_length}
 use Rattle.layout_values.specs.Value.{made_of}
 use Rattle.layout_table.specs.Table.{Upward}
 use Rattle.layout_table.proofs.Judged.{says}
-use Rattle.layout_strays.specs.Strays.{Entries}
-use Rattle.layout_table.proofs.TableOf.{Filled, blank_length, filled_none, filled_upward, filled_more, filled_refused, filled_entries, filled_stray, filled_named, filled_table}
+use Rattle.layout_table.proofs.TableOf.{filled_none, filled_upward, filled_more, filled_refused, filled_stray, filled_named, filled_table}
 use Rattle.layout_table.proofs.fill.Goals as goal
 
 -- the file
@@ -173,27 +171,27 @@ unfolding says
 returns-in-Rule c =
     let m = c in
     let x = m in
-    filled_refused x.loop-k.invariant (low_2 x) (upward_2 x).entry_is_lem (sym c.in-Rule.is ∙ made m) refl
+    filled_refused x.loop-k.invariant (low_2 x) (upward_2 x).is_entry (sym c.in-Rule.is ∙ made m) refl
 
 pub returns-in-Given : goal.returns-in-Given
 unfolding says
 returns-in-Given c =
     let m = c in
     let x = m in
-    filled_refused x.loop-k.invariant (low_3 x) (upward_3 x).entry_is_lem (sym c.in-Given.is ∙ made_2 m) refl
+    filled_refused x.loop-k.invariant (low_3 x) (upward_3 x).is_entry (sym c.in-Given.is ∙ made_2 m) refl
 
 pub returns-in-Large : goal.returns-in-Large
 unfolding says
 returns-in-Large c =
     let m = c in
     let x = m in
-    filled_refused x.loop-k.invariant (low_4 x) (upward_4 x).entry_is_lem (sym c.in-Large.is ∙ made_3 m) refl
+    filled_refused x.loop-k.invariant (low_4 x) (upward_4 x).is_entry (sym c.in-Large.is ∙ made_3 m) refl
 
 pub loop-k-preserved : goal.loop-k-preserved
 loop-k-preserved c =
     let m = c in
     let x = m in
-    filled_more x.loop-k.invariant (low_5 x) (upward_5 x).entry_is_lem (sym c.in-Laid.is ∙ made_4 m)
+    filled_more x.loop-k.invariant (low_5 x) (upward_5 x).is_entry (sym c.in-Laid.is ∙ made_4 m)
     c.row_of.ensures
 
 pub returns-then-stray-members : goal.returns-then-stray-members

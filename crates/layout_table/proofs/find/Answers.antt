@@ -1,5 +1,5 @@
 -- What `fill` says of the file, number 8, and the entry's value in the table that it left (proofs/GroundIn).
-use Prim.Native.Nat.{◌+◌, ◌*◌, ◌≤◌}
+use Prim.Native.Nat.{◌*◌}
 use mathlib.Core.Path.{◌≡◌, ap, ap₂, ◌∙◌}
 use native.Mathlib.Omega.{arith}
 use borrow.Author.Rules.{rules}

@@ -1,6 +1,6 @@
 -- The members one after the other: after each turn the loop knows what those so far come to (`Reached` of crates/layout_structs), whatever the
 -- types of the lower entries are.
-use Prim.Native.Nat.{ℕ, ◌+◌, ◌*◌, ◌-◌, ◌≤◌}
+use Prim.Native.Nat.{ℕ, ◌+◌, ◌*◌, ◌≤◌}
 use mathlib.Core.List.{List}
 use mathlib.Core.Path.{◌≡◌, sym, ap, ◌∙◌}
 use native.Mathlib.Nat.{mul-add, mul-le-mul_left}
@@ -13,8 +13,8 @@ use Rattle.wgsl.specs.File.{member_entry_from}
 use Rattle.file.specs.Fields.{member_is}
 use Rattle.wgsl.proofs.MemberLength.{length_least, entry_within}
 use Rattle.layout_structs.specs.SoFar.{Lower, stepped_to}
-use Rattle.layout_structs.proofs.Reached.{Reached, Coming, reached_none, coming, reached_meets, reached_next}
-use Rattle.layout_table.proofs.Upward.{members_past, members_rule, members_close, members_made}
+use Rattle.layout_structs.proofs.Reached.{Coming, reached_none, coming, reached_meets, reached_next}
+use Rattle.layout_table.proofs.Upward.{members_past, members_rule, members_made}
 use Rattle.layout_table.proofs.struct_entry.Goals as goal
 
 -- the members lie within the file

@@ -1,18 +1,8 @@
-use Prim.Native.Nat.{ℕ, ◌+◌, ◌*◌, ◌-◌, ◌≤◌}
+use Prim.Native.Nat.{◌-◌, ◌≤◌}
 use mathlib.Core.List.{List}
-use mathlib.Core.Path.{◌≡◌, sym, ap, ◌∙◌}
-use native.Mathlib.Nat.{mul-add, mul-le-mul_left}
-use native.Mathlib.Omega.{arith}
-use borrow.Author.Rules.{rules}
-use lib.Dec.{eqb}
-use lib.ListN.{length}
 use Rattle.wgsl.specs.Types.{Ty}
-use Rattle.wgsl.specs.File.{member_entry_from}
-use Rattle.file.specs.Fields.{member_is}
-use Rattle.wgsl.proofs.MemberLength.{length_least, entry_within}
-use Rattle.layout_structs.specs.SoFar.{Lower, stepped_to}
-use Rattle.layout_structs.proofs.Reached.{Reached, Coming, reached_none, coming, reached_meets, reached_next}
-use Rattle.layout_table.proofs.Upward.{members_past, members_rule, members_close, members_made}
+use Rattle.layout_structs.specs.SoFar.{Lower}
+use Rattle.layout_structs.proofs.Reached.{Reached}
 use Rattle.layout_table.proofs.struct_entry.Given as goal
 
 abbrev pub invariant-loop-i : goal.invariant-loop-i

@@ -1,8 +1,7 @@
 -- A listing has at most 11,283 bytes, so that it ends inside the buffer.
-use Rattle.std.proofs.Common.{rules, length, ◌≡◌, ◌≤◌}
+use Rattle.std.proofs.Common.{rules}
 use mathlib.Core.Path.{sym}
 use lib.Seq.{length-take-le}
-use native.Mathlib.Omega.{arith}
 use Rattle.listing_file.proofs.ListingLength.{listing_inside}
 use Rattle.listing.proofs.main.Goals as goal
 

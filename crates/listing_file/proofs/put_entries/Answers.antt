@@ -1,11 +1,11 @@
 -- The invariant is `Going` (proofs/ListingOf): the lines that are left, put from here, give what all give from the start.
-use Prim.Native.Nat.{◌-◌, ◌≤◌}
+use Prim.Native.Nat.{◌≤◌}
 use mathlib.Core.Path.{◌≡◌, ap, ◌∙◌}
 use native.Mathlib.Omega.{arith}
 use lib.ListN.{length}
 use borrow.Author.Rules.{rules}
 use Rattle.layout_values.proofs.ValuesOf.{length_table}
-use Rattle.listing_file.proofs.ListingOf.{Going, going_none, going_more, going_all}
+use Rattle.listing_file.proofs.ListingOf.{going_none, going_more, going_all}
 use Rattle.listing_file.proofs.put_entries.Goals as goal
 
 pub loop-k-init : goal.loop-k-init

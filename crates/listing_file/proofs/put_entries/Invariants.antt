@@ -1,10 +1,5 @@
-use Prim.Native.Nat.{◌-◌, ◌≤◌}
-use mathlib.Core.Path.{◌≡◌, ap, ◌∙◌}
-use native.Mathlib.Omega.{arith}
-use lib.ListN.{length}
-use borrow.Author.Rules.{rules}
-use Rattle.layout_values.proofs.ValuesOf.{length_table}
-use Rattle.listing_file.proofs.ListingOf.{Going, going_none, going_more, going_all}
+use Prim.Native.Nat.{◌-◌}
+use Rattle.listing_file.proofs.ListingOf.{Going}
 use Rattle.listing_file.proofs.put_entries.Given as goal
 
 abbrev pub invariant-loop-k : goal.invariant-loop-k

@@ -1,10 +1,8 @@
 -- The measure is the number: a tenth of it is put first, in at most nine digits, then its last digit.
-use Prim.Native.Nat.{ℕ, ◌/◌, ◌<◌}
+use Prim.Native.Nat.{◌/◌}
 use native.Mathlib.Omega.{arith}
-use borrow.Author.Rules.{rules}
 use Rattle.listing_text.proofs.Decimal.{decimal_length_nine}
 use Rattle.listing_text.proofs.PutDecimal.{put_digit, put_last}
-use Rattle.listing_text.proofs.put_decimal.Reads as reads
 use Rattle.listing_text.proofs.+put_decimal.Goals as goal
 
 pub returns-then-n-lt10 : goal.returns-then-n-lt10

@@ -2,7 +2,6 @@
 use Rattle.wgsl.specs.Listing.{space}
 use Rattle.listing_text.specs.Line.{marked_column}
 use Rattle.puts.proofs.PutLaws.{put_then}
-use borrow.Author.Rules.{rules}
 use Rattle.listing_text.proofs.put_column.Goals as goal
 
 pub returns : goal.returns

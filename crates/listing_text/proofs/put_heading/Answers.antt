@@ -4,7 +4,6 @@ use Rattle.wgsl.specs.Listing.{entries_text, newline}
 use Rattle.listing_text.specs.Line.{heading}
 use Rattle.listing_text.proofs.Decimal.{decimal_length}
 use Rattle.puts.proofs.PutLaws.{put_then}
-use borrow.Author.Rules.{rules}
 use Rattle.listing_text.proofs.put_heading.Goals as goal
 
 pub put-requires : goal.put-requires

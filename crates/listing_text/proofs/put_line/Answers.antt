@@ -7,7 +7,6 @@ use Rattle.listing_text.specs.Line.{line}
 use Rattle.listing_text.proofs.Decimal.{decimal_length}
 use Rattle.listing_text.proofs.Lines.{column_length}
 use Rattle.puts.proofs.PutLaws.{put_then}
-use borrow.Author.Rules.{rules}
 use Rattle.listing_text.proofs.put_line.Goals as goal
 
 -- the room that is left after the number

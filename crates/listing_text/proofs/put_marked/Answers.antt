@@ -2,7 +2,6 @@
 use Rattle.wgsl.specs.Listing.{dash}
 use Rattle.puts.specs.Put.{Put}
 use Rattle.listing_text.proofs.Lines.{marked_absent, marked_number}
-use borrow.Author.Rules.{rules}
 use Rattle.listing_text.proofs.put_marked.Goals as goal
 
 pub returns-then-n-eq0 : goal.returns-then-n-eq0

@@ -7,7 +7,6 @@ use Rattle.wgsl.specs.Listing.{refused_text, at_text, newline}
 use Rattle.listing_text.proofs.Decimal.{decimal_length}
 use Rattle.listing_text.proofs.Lines.{refused_line_plain, refused_line_place}
 use Rattle.puts.proofs.PutLaws.{put_then}
-use borrow.Author.Rules.{rules}
 use Rattle.listing_text.proofs.put_refused.Goals as goal
 
 -- the room that is left after the number

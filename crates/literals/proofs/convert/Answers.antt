@@ -2,7 +2,6 @@
 use mathlib.Core.Bool.{not}
 use mathlib.Core.Path.{◌≡◌, ap, sym, ◌∙◌}
 use native.Mathlib.Omega.{arith}
-use borrow.Author.Rules.{rules}
 use Rattle.wgsl.specs.Literal.{convert_call}
 use borrow.Author.Tests.{not-true, not-false}
 use Rattle.literals.proofs.Parts.{int_call, float_call, other_call, none_call, same_call}

@@ -1,11 +1,8 @@
 -- What is left, beside half of the divisor (`Shifts`).
-use Prim.Native.Nat.{ℕ, zero, suc, ◌*◌, ◌/◌, ◌%◌, ◌^◌, ◌-◌, ◌≤◌, ◌<◌}
-use native.Mathlib.Nat.{div-lt_iff_lt-mul, mul-le-mul_left}
+use Prim.Native.Nat.{ℕ, ◌*◌, ◌/◌, ◌%◌, ◌^◌, ◌-◌, ◌<◌}
 use mathlib.Core.Path.{◌≡◌, sym}
 use native.Mathlib.Omega.{arith}
-use borrow.Author.Rules.{rules}
 use lib.Bits.{and_mask}
-use lib.Pow.{pow_pos}
 use Rattle.literals_round.proofs.Shifts.{one_shl, masked, stepped_low, stepped_high, stepped_tie}
 use Rattle.literals_round.proofs.dropped.Goals as goal
 

@@ -1,9 +1,7 @@
 -- The loop marks what it passed (`Passed`): a number too large or marked already is refused, any other is marked.
 -- Assumes nothing.
-use Prim.Native.Nat.{◌-◌}
 use borrow.Author.Rules.{rules}
-use lib.ListN.{length}
-use Rattle.orders_check.proofs.Once.{Passed, passed_none, passed_large, passed_again, passed_next, passed_all}
+use Rattle.orders_check.proofs.Once.{passed_none, passed_large, passed_again, passed_next}
 use Rattle.orders_check.proofs.all_once.Goals as goal
 
 pub loop-i-init : goal.loop-i-init

@@ -1,7 +1,6 @@
 use Prim.Native.Nat.{◌-◌}
-use borrow.Author.Rules.{rules}
 use lib.ListN.{length}
-use Rattle.orders_check.proofs.Once.{Passed, passed_none, passed_large, passed_again, passed_next, passed_all}
+use Rattle.orders_check.proofs.Once.{Passed}
 use Rattle.orders_check.proofs.all_once.Given as goal
 
 abbrev pub invariant-loop-i : goal.invariant-loop-i

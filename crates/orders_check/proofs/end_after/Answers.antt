@@ -4,7 +4,6 @@ use Prim.Native.Nat.{ℕ}
 use mathlib.Core.Bool.{false}
 use mathlib.Core.Path.{◌≡◌, sym, ◌∙◌}
 use native.Mathlib.Omega.{arith}
-use borrow.Author.Rules.{rules}
 use Rattle.wgsl.specs.Types.{Ty, Members, is_open}
 use Rattle.file.specs.Fields.{member_is}
 use Rattle.layout_structs.specs.declared.Stepped.TheVariants.{Next}

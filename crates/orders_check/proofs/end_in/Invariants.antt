@@ -1,15 +1,7 @@
-use Prim.Native.Nat.{ℕ, ◌+◌, ◌-◌, ◌*◌, ◌≤◌}
-use mathlib.Core.Bool.{false}
-use mathlib.Core.Path.{◌≡◌, sym, ap, ◌∙◌}
-use native.Mathlib.Omega.{arith}
-use borrow.Author.Rules.{rules}
-use lib.ListN.{get_or, length}
+use Prim.Native.Nat.{◌-◌, ◌≤◌}
 use Rattle.wgsl.specs.Types.{Members}
-use Rattle.file.specs.Fields.{member_is}
-use Rattle.layout_structs.specs.SoFar.{stepped_to}
-use Rattle.orders_members.specs.Entries.{Struct}
-use Rattle.orders_check.proofs.Entries.{Coming, Ordered, struct_some, ordered, entry_inside, entry_type, coming}
-use Rattle.orders_check.proofs.Walked.{Walked, walked_none, walked_meets, walked_next, walked_rule, walked_last, walked_all}
+use Rattle.orders_check.proofs.Entries.{Ordered}
+use Rattle.orders_check.proofs.Walked.{Walked}
 use Rattle.orders_check.proofs.end_in.Given as goal
 
 abbrev pub invariant-loop-i : goal.invariant-loop-i

@@ -1,7 +1,6 @@
 -- By its entry and its type's value (proofs/KeyOf). Assumes nothing.
 use Prim.Native.Nat.{ℕ}
 use mathlib.Core.Path.{◌≡◌, ap, sym, ◌∙◌}
-use borrow.Author.Rules.{rules}
 use Rattle.wgsl.specs.File.{MemberEntry, given_align}
 use Rattle.layout_values.specs.declared.value.Value.{Value}
 use Rattle.layout_values.specs.Value.{value_at}

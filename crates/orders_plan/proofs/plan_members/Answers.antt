@@ -1,13 +1,8 @@
 -- What is left of the planned order, from the place that is reached on, makes of the list what the whole of it makes of the list as it was.
 -- Assumes nothing.
-use Prim.Native.Nat.{◌/◌, ◌^◌}
 use mathlib.Core.Path.{◌≡◌, refl}
 use native.Mathlib.Omega.{arith}
-use borrow.Author.Rules.{rules}
-use lib.Seq.{length-sets}
-use Rattle.wgsl.specs.Types.{Members}
-use Rattle.orders_members.specs.Entries.{Struct}
-use Rattle.orders_plan.proofs.Planned.{Plan, plan_starts, plan_long, next_key, plan_room, plan_next, last_room, plan_done}
+use Rattle.orders_plan.proofs.Planned.{plan_starts, next_key, plan_room, plan_next, last_room, plan_done}
 use Rattle.orders_plan.proofs.plan_members.Goals as goal
 
 pub loop-left-init : goal.loop-left-init

@@ -1,11 +1,8 @@
 use Prim.Native.Nat.{◌/◌, ◌^◌}
-use mathlib.Core.Path.{◌≡◌, refl}
-use native.Mathlib.Omega.{arith}
-use borrow.Author.Rules.{rules}
-use lib.Seq.{length-sets}
+use mathlib.Core.Path.{◌≡◌}
 use Rattle.wgsl.specs.Types.{Members}
 use Rattle.orders_members.specs.Entries.{Struct}
-use Rattle.orders_plan.proofs.Planned.{Plan, plan_starts, plan_long, next_key, plan_room, plan_next, last_room, plan_done}
+use Rattle.orders_plan.proofs.Planned.{Plan}
 use Rattle.orders_plan.proofs.plan_members.Given as goal
 
 abbrev pub invariant-loop-left : goal.invariant-loop-left

@@ -1,17 +1,14 @@
 -- The loop's invariant: the positions of the members that are left, from the place that is reached on, make of the list what those of all
 -- members make of the list as it was; and for those of the members that the caller knows of there is room. Assumes nothing.
-use Prim.Native.Nat.{◌+◌, ◌-◌, ◌<◌, ◌≤◌}
+use Prim.Native.Nat.{◌+◌, ◌<◌}
 use mathlib.Core.Path.{◌≡◌, sym, ◌∙◌}
-use mathlib.Core.Logic.{⊎_elim}
-use native.Mathlib.Nat.{mul-le-mul}
 use native.Mathlib.Omega.{arith}
-use borrow.Author.Rules.{rules}
 use lib.ListN.{length}
 use lib.Seq.{sets}
 use Rattle.wgsl.specs.Types.{Members}
-use Rattle.orders_members.specs.Entries.{Entries, Struct}
+use Rattle.orders_members.specs.Entries.{Struct}
 use Rattle.orders_plan.specs.Keyed.{keyed_at}
-use Rattle.orders_plan.proofs.Left.{Left, all_left, same_long, first_left, place_left, left_keyed, left_other, none_left}
+use Rattle.orders_plan.proofs.Left.{same_long, first_left, place_left, left_keyed, left_other, none_left}
 use Rattle.orders_plan.proofs.put_keyed.Goals as goal
 use Rattle.orders_plan.proofs.put_keyed.Goals.{then-member_key-key, else-member_key-key}
 

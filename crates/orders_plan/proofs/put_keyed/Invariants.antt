@@ -1,15 +1,9 @@
-use Prim.Native.Nat.{◌+◌, ◌-◌, ◌<◌, ◌≤◌}
-use mathlib.Core.Path.{◌≡◌, sym, ◌∙◌}
-use mathlib.Core.Logic.{⊎_elim}
-use native.Mathlib.Nat.{mul-le-mul}
-use native.Mathlib.Omega.{arith}
-use borrow.Author.Rules.{rules}
+use Prim.Native.Nat.{◌+◌, ◌-◌, ◌≤◌}
 use lib.ListN.{length}
-use lib.Seq.{sets}
 use Rattle.wgsl.specs.Types.{Members}
-use Rattle.orders_members.specs.Entries.{Entries, Struct}
+use Rattle.orders_members.specs.Entries.{Entries}
 use Rattle.orders_plan.specs.Keyed.{keyed_at}
-use Rattle.orders_plan.proofs.Left.{Left, all_left, same_long, first_left, place_left, left_keyed, left_other, none_left}
+use Rattle.orders_plan.proofs.Left.{Left}
 use Rattle.orders_plan.proofs.put_keyed.Given as goal
 
 abbrev pub invariant-loop-i : goal.invariant-loop-i

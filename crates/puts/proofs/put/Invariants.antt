@@ -1,11 +1,8 @@
 -- What is left to store gives, from here, what the whole gives from the start (`Puts`).
-use mathlib.Core.Path.{◌≡◌, refl, sym, ◌∙◌}
+use mathlib.Core.Path.{◌≡◌}
 use Prim.Native.Nat.{◌≤◌, ◌+◌, ◌-◌}
-use native.Mathlib.Omega.{arith}
-use lib.ListN.{length, drop, length-set}
+use lib.ListN.{length, drop}
 use lib.Seq.{sets}
-use borrow.Author.Rules.{rules}
-use Rattle.puts.proofs.PutLaws.{left_all, left_more, left_none}
 use Rattle.puts.proofs.put.Given as goal
 
 abbrev pub invariant-loop-i : goal.invariant-loop-i

@@ -1,14 +1,13 @@
 -- Each turn of the loop tests one word of what is left; the first that does not fit decides.
 -- Assumes nothing.
-use Prim.Native.Nat.{◌+◌, ◌-◌, ◌*◌, ◌≤◌}
-use mathlib.Core.Path.{◌≡◌, sym, ◌∙◌}
+use Prim.Native.Nat.{◌+◌, ◌-◌, ◌*◌}
+use mathlib.Core.Path.{sym, ◌∙◌}
 use native.Mathlib.Omega.{arith}
-use borrow.Author.Rules.{rules}
 use Rattle.wgsl.specs.Said.{good}
-use Rattle.runs.specs.Fold.{over_places, testing}
+use Rattle.runs.specs.Fold.{testing}
 use Rattle.runs.specs.Run.{run_places}
 use Rattle.runs.proofs.OverPlaces.{tested_refused}
-use Rattle.runs.proofs.RunPlaces.{run_all, run_next, run_none, test_fits, test_past}
+use Rattle.runs.proofs.RunPlaces.{run_next, run_none, test_fits, test_past}
 use Rattle.runs.proofs.first_past.Goals as goal
 
 pub returns-then-words-k-gt65535 : goal.returns-then-words-k-gt65535

@@ -1,12 +1,8 @@
 use Prim.Native.Nat.{◌+◌, ◌-◌, ◌*◌, ◌≤◌}
-use mathlib.Core.Path.{◌≡◌, sym, ◌∙◌}
-use native.Mathlib.Omega.{arith}
-use borrow.Author.Rules.{rules}
+use mathlib.Core.Path.{◌≡◌}
 use Rattle.wgsl.specs.Said.{good}
 use Rattle.runs.specs.Fold.{over_places, testing}
 use Rattle.runs.specs.Run.{run_places}
-use Rattle.runs.proofs.OverPlaces.{tested_refused}
-use Rattle.runs.proofs.RunPlaces.{run_all, run_next, run_none, test_fits, test_past}
 use Rattle.runs.proofs.first_past.Given as goal
 
 abbrev pub invariant-loop-i : goal.invariant-loop-i

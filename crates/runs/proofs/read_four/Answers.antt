@@ -1,13 +1,11 @@
 -- Each turn of the loop loads one word of what is left.
 -- Assumes nothing.
-use Prim.Native.Nat.{◌+◌, ◌-◌, ◌*◌, ◌≤◌}
-use mathlib.Core.Path.{◌≡◌, refl, sym, ◌∙◌}
+use Prim.Native.Nat.{◌+◌, ◌*◌}
+use mathlib.Core.Path.{sym, ◌∙◌}
 use native.Mathlib.Omega.{arith}
-use borrow.Author.Rules.{rules}
-use lib.ListN.{length, length-set}
-use Rattle.runs.specs.Fold.{over_places, loading}
-use Rattle.runs.specs.Run.{run_places}
-use Rattle.runs.proofs.RunPlaces.{run_all, run_next, run_none}
+use lib.ListN.{length-set}
+use Rattle.runs.specs.Fold.{loading}
+use Rattle.runs.proofs.RunPlaces.{run_next, run_none}
 use Rattle.runs.proofs.read_four.Goals as goal
 
 pub loop-i-preserved : goal.loop-i-preserved

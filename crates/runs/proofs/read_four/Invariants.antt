@@ -1,11 +1,8 @@
 use Prim.Native.Nat.{◌+◌, ◌-◌, ◌*◌, ◌≤◌}
-use mathlib.Core.Path.{◌≡◌, refl, sym, ◌∙◌}
-use native.Mathlib.Omega.{arith}
-use borrow.Author.Rules.{rules}
-use lib.ListN.{length, length-set}
+use mathlib.Core.Path.{◌≡◌}
+use lib.ListN.{length}
 use Rattle.runs.specs.Fold.{over_places, loading}
 use Rattle.runs.specs.Run.{run_places}
-use Rattle.runs.proofs.RunPlaces.{run_all, run_next, run_none}
 use Rattle.runs.proofs.read_four.Given as goal
 
 abbrev pub invariant-loop-i : goal.invariant-loop-i

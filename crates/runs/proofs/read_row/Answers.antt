@@ -1,14 +1,8 @@
 -- Each turn of the loop loads one part of what is left.
 -- Assumes nothing.
-use Prim.Native.Nat.{◌-◌}
-use mathlib.Core.Path.{◌≡◌, refl}
 use native.Mathlib.Omega.{arith}
-use borrow.Author.Rules.{rules}
-use lib.ListN.{length}
-use Rattle.runs.specs.Fold.{loading}
-use Rattle.runs.specs.Run.{run_places, part_places}
-use Rattle.runs.proofs.OverPlaces.{Repeating, repeating_start, repeating_next, repeating_all, run_length}
-use Rattle.runs.proofs.RunPlaces.{part_room}
+use Rattle.runs.specs.Run.{part_places}
+use Rattle.runs.proofs.OverPlaces.{repeating_next, repeating_all, run_length}
 use Rattle.runs.proofs.read_row.Goals as goal
 
 pub loop-i-preserved : goal.loop-i-preserved

@@ -3,7 +3,6 @@
 use Prim.Native.Nat.{◌+◌}
 use mathlib.Core.Path.{sym}
 use native.Mathlib.Omega.{arith}
-use borrow.Author.Rules.{rules}
 use Rattle.runs.proofs.RunPlaces.{width_four, run_passes}
 use Rattle.runs.proofs.scan_run.Goals as goal
 

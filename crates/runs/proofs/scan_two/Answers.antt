@@ -2,7 +2,6 @@
 -- Assumes nothing.
 use mathlib.Core.Path.{sym}
 use native.Mathlib.Omega.{arith}
-use borrow.Author.Rules.{rules}
 use Rattle.runs.proofs.RunPlaces.{run_passes}
 use Rattle.runs.proofs.scan_two.Goals as goal
 

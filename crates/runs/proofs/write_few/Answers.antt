@@ -1,13 +1,11 @@
 -- By how many there are (`run_one` to `run_four`, proofs/RunPlaces).
 -- Assumes nothing.
-use Prim.Native.Nat.{◌+◌}
 use mathlib.Core.Path.{◌≡◌, ◌∙◌}
 use native.Mathlib.Omega.{arith}
 use Rattle.wgsl.specs.Place.{repeated}
 use Rattle.runs.specs.Fold.{over_places, storing}
 use Rattle.runs.specs.Run.{run_places}
 use Rattle.runs.proofs.RunPlaces.{run_one, run_two, run_three, run_four}
-use borrow.Author.Rules.{rules}
 use Rattle.runs.proofs.write_few.Goals as goal
 
 pub returns-then-n-eq0 : goal.returns-then-n-eq0

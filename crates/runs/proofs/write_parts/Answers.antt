@@ -1,12 +1,9 @@
 -- Where parts touch they are one run. Else each call names the unit and the width that the tests have found.
 -- Assumes nothing.
 use Prim.Native.Nat.{◌*◌}
-use mathlib.Core.Path.{◌≡◌, sym}
-use native.Mathlib.Nat.{mul_assoc}
+use mathlib.Core.Path.{◌≡◌}
 use native.Mathlib.Omega.{arith}
-use borrow.Author.Rules.{rules}
 use Rattle.runs.proofs.OverPlaces.{parts_touch}
-use Rattle.runs.proofs.RunPlaces.{found}
 use Rattle.runs.proofs.write_parts.Goals as goal
 
 pub returns-then-p : goal.returns-then-p

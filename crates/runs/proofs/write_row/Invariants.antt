@@ -1,12 +1,9 @@
 use Prim.Native.Nat.{◌-◌}
-use mathlib.Core.Path.{◌≡◌, refl}
-use native.Mathlib.Omega.{arith}
-use borrow.Author.Rules.{rules}
+use mathlib.Core.Path.{◌≡◌}
 use lib.ListN.{length}
 use Rattle.runs.specs.Fold.{storing}
-use Rattle.runs.specs.Run.{run_places, part_places}
-use Rattle.runs.proofs.OverPlaces.{Repeating, repeating_start, repeating_next, repeating_all, run_length}
-use Rattle.runs.proofs.RunPlaces.{part_room}
+use Rattle.runs.specs.Run.{run_places}
+use Rattle.runs.proofs.OverPlaces.{Repeating}
 use Rattle.runs.proofs.write_row.Given as goal
 
 abbrev pub invariant-loop-i : goal.invariant-loop-i

@@ -1,14 +1,12 @@
 -- Each turn of the loop stores one word of what is left.
 -- Assumes nothing.
-use Prim.Native.Nat.{◌+◌, ◌-◌, ◌*◌, ◌≤◌}
-use mathlib.Core.Path.{◌≡◌, refl, ap, sym, ◌∙◌}
+use Prim.Native.Nat.{◌+◌, ◌*◌}
+use mathlib.Core.Path.{ap, sym, ◌∙◌}
 use native.Mathlib.Omega.{arith}
-use borrow.Author.Rules.{rules}
 use lib.ListN.{length}
 use Rattle.wgsl.proofs.Number.{length_store}
-use Rattle.runs.specs.Fold.{over_places, storing}
-use Rattle.runs.specs.Run.{run_places}
-use Rattle.runs.proofs.RunPlaces.{run_all, run_next, run_none, store_two}
+use Rattle.runs.specs.Fold.{storing}
+use Rattle.runs.proofs.RunPlaces.{run_next, run_none, store_two}
 use Rattle.runs.proofs.write_two.Goals as goal
 
 pub loop-i-preserved : goal.loop-i-preserved

@@ -1,12 +1,8 @@
 use Prim.Native.Nat.{◌+◌, ◌-◌, ◌*◌, ◌≤◌}
-use mathlib.Core.Path.{◌≡◌, refl, ap, sym, ◌∙◌}
-use native.Mathlib.Omega.{arith}
-use borrow.Author.Rules.{rules}
+use mathlib.Core.Path.{◌≡◌}
 use lib.ListN.{length}
-use Rattle.wgsl.proofs.Number.{length_store}
 use Rattle.runs.specs.Fold.{over_places, storing}
 use Rattle.runs.specs.Run.{run_places}
-use Rattle.runs.proofs.RunPlaces.{run_all, run_next, run_none, store_two}
 use Rattle.runs.proofs.write_two.Given as goal
 
 abbrev pub invariant-loop-i : goal.invariant-loop-i

@@ -1,6 +1,5 @@
 -- What `clean` answers, crossed: how many bytes changed, the buffer, and the number lent (`Cleaned`).
-use borrow.Author.Rules.{rules}
-use mathlib.Core.Path.{◌≡◌, sym, ◌∙◌}
+use mathlib.Core.Path.{◌∙◌}
 use Rattle.wgsl.specs.Clean.{clean_call}
 use Rattle.surface.proofs.Cleaned.{cleaned, not_cleaned}
 use Rattle.surface.proofs.lepugaso_surface_clean.Goals as goal

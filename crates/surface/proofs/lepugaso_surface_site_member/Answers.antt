@@ -1,6 +1,5 @@
 -- What `site_member_at` answers, crossed: the offset, then the numbers lent (`Viewed`).
-use borrow.Author.Rules.{rules}
-use mathlib.Core.Path.{◌≡◌, sym, ◌∙◌}
+use mathlib.Core.Path.{◌∙◌}
 use Rattle.wgsl.specs.Site.{member_call}
 use Rattle.surface.proofs.Viewed.{viewed, stopped, shown, not_shown}
 use Rattle.surface.proofs.lepugaso_surface_site_member.Goals as goal

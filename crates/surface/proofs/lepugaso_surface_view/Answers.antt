@@ -1,5 +1,4 @@
 -- What `view_at` answers, crossed: the offset, then the number lent (`Viewed`).
-use borrow.Author.Rules.{rules}
 use mathlib.Core.Path.{◌∙◌}
 use Rattle.surface.proofs.Viewed.{viewed, stopped}
 use Rattle.surface.proofs.lepugaso_surface_view.Goals as goal

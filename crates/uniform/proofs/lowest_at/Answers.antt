@@ -1,6 +1,5 @@
 -- By what is told below, and then by the rules of the entry itself.
 use mathlib.Core.Path.{◌≡◌}
-use borrow.Author.Rules.{rules}
 use borrow.Author.Tests.{lt-ltb, le-ltb}
 use Rattle.layout_values.specs.Value.{value_at}
 use Rattle.uniform_rules.specs.Keeps.{keeps_by}

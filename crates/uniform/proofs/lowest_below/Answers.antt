@@ -1,9 +1,7 @@
 -- By the kind.
-use Prim.Native.Nat.{min}
 use mathlib.Core.Path.{◌≡◌, sym, ◌∙◌}
 use mathlib.Core.Bool.{false}
 use native.Mathlib.Omega.{arith}
-use borrow.Author.Rules.{rules}
 use borrow.Author.Tests.{eq-eqb, ne_eqb}
 use Rattle.wgsl.specs.Types.{is_scalar_kind}
 use Rattle.uniform.specs.Lowest.{lowest_among, refers_by}

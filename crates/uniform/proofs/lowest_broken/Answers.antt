@@ -1,12 +1,8 @@
 -- The loop's invariant: of every entry below `k` the lowest broken one is told, whatever file the table is that of.
-use Prim.Native.Nat.{ℕ, ◌+◌, ◌-◌, ◌<◌, ◌≤◌}
-use mathlib.Core.List.{List}
-use mathlib.Core.Path.{◌≡◌, refl, sym, ◌∙◌}
+use Prim.Native.Nat.{◌<◌}
+use mathlib.Core.Path.{◌∙◌}
 use native.Mathlib.Omega.{arith}
-use lib.ListN.{length, get_or, length-set}
-use Rattle.wgsl.specs.Types.{Ty}
-use Rattle.walk_shapes.specs.Basis.{Basis}
-use Rattle.uniform.specs.Lowest.{IsLowest}
+use lib.ListN.{length-set}
 use Rattle.uniform.proofs.LowestBy.{few_entries, lowest_asks, told_on}
 use Rattle.uniform.proofs.lowest_broken.Goals as goal
 

@@ -1,12 +1,10 @@
 use Prim.Native.Nat.{ℕ, ◌+◌, ◌-◌, ◌<◌, ◌≤◌}
 use mathlib.Core.List.{List}
-use mathlib.Core.Path.{◌≡◌, refl, sym, ◌∙◌}
-use native.Mathlib.Omega.{arith}
-use lib.ListN.{length, get_or, length-set}
+use mathlib.Core.Path.{◌≡◌}
+use lib.ListN.{length, get_or}
 use Rattle.wgsl.specs.Types.{Ty}
 use Rattle.walk_shapes.specs.Basis.{Basis}
 use Rattle.uniform.specs.Lowest.{IsLowest}
-use Rattle.uniform.proofs.LowestBy.{few_entries, lowest_asks, told_on}
 use Rattle.uniform.proofs.lowest_broken.Given as goal
 
 abbrev pub invariant-loop-k : goal.invariant-loop-k

@@ -1,13 +1,10 @@
 -- The loop's invariant: the lowest told of all is the lower of `low`, the lowest so far, and that of the members left, from `m` on.
-use Prim.Native.Nat.{◌+◌, ◌<◌, ◌≤◌, min}
-use mathlib.Core.Path.{◌≡◌, refl, sym, ap, ◌∙◌}
+use Prim.Native.Nat.{◌+◌, ◌<◌, ◌≤◌}
+use mathlib.Core.Path.{◌≡◌, ap, ◌∙◌}
 use native.Mathlib.Omega.{arith}
-use native.Mathlib.Nat.{mul-le-mul}
-use borrow.Author.Rules.{rules}
 use lib.ListN.{length}
 use Rattle.wgsl.specs.File.{MemberEntry, member_fields_length}
 use Rattle.walk_trees.specs.Slot.{member_at}
-use Rattle.uniform.specs.Lowest.{types_at, TypesInside, lowest_among}
 use Rattle.uniform.proofs.Among.{next_inside, rest_inside, among_first, among_on, among_last}
 use Rattle.uniform.proofs.lowest_member.Goals as goal
 

@@ -1,6 +1,5 @@
 -- Each answer is a law of `MayLive`.
 use mathlib.Core.Path.{sym, ◌∙◌}
-use borrow.Author.Rules.{rules}
 use Rattle.uniform.proofs.MayLive.{no_size, some_size}
 use Rattle.uniform.proofs.may_live.Goals as goal
 

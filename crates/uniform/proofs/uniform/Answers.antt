@@ -1,6 +1,5 @@
 -- The entry that `find` finds, or its refusal, or the trailer's (crates/walk_decide, proofs/Meant). Assumes nothing.
 use mathlib.Core.Path.{ap, sym, ◌∙◌}
-use borrow.Author.Rules.{rules}
 use Rattle.wgsl.specs.Types.{Ty}
 use Rattle.wgsl.proofs.Uniform.{call_missing}
 use Rattle.file.specs.Fields.{said_trailer}

@@ -1,6 +1,5 @@
 -- What `may_live` says decides, and then the lowest broken entry (proofs/UniformCall). Assumes nothing.
 use mathlib.Core.Path.{◌≡◌, ◌∙◌}
-use borrow.Author.Rules.{rules}
 use Rattle.wgsl.specs.Types.{Ty}
 use Rattle.wgsl.specs.Said.{good}
 use Rattle.wgsl.specs.Uniform.{may_live}

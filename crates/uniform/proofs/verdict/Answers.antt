@@ -1,5 +1,4 @@
 -- By the number that stands for none.
-use borrow.Author.Rules.{rules}
 use borrow.Author.Tests.{eq-eqb, ne_eqb}
 use Rattle.uniform.specs.Lowest.{verdict_of}
 use Rattle.uniform.proofs.verdict.Goals as goal

@@ -1,7 +1,6 @@
 -- By the kind.
 use mathlib.Core.Path.{refl}
 use native.Mathlib.Omega.{arith}
-use borrow.Author.Rules.{rules}
 use borrow.Author.Tests.{eq-eqb, ne_eqb}
 use Rattle.wgsl.proofs.Power.{power}
 use Rattle.wgsl.proofs.Round.{up_least}

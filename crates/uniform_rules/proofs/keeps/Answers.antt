@@ -1,6 +1,5 @@
 -- By the kind.
 use mathlib.Core.Path.{sym, ◌∙◌}
-use borrow.Author.Rules.{rules}
 use borrow.Author.Tests.{eq-eqb, ne_eqb}
 use Rattle.uniform_rules.specs.Keeps.{keeps_by}
 use Rattle.uniform_rules.proofs.keeps.Goals as goal

@@ -1,13 +1,5 @@
-use Prim.Native.Nat.{◌≤◌}
-use mathlib.Core.Bool.{true}
-use mathlib.Core.Path.{◌≡◌, refl, sym, ◌∙◌}
-use native.Mathlib.Omega.{arith}
-use native.Mathlib.Nat.{mul-le-mul}
-use borrow.Author.Rules.{rules}
-use borrow.Author.Tests.{not-true, not-false}
-use Rattle.walk_trees.specs.Slot.{SlotAsks}
-use Rattle.uniform_rules.specs.Keeps.{start_keeps, slots_keep, SlotsAll}
-use Rattle.uniform_rules.proofs.SlotsKeep.{slot_inside, slot_low, Turn, next_asks, rest_asks, keep_starts, keep_fails, keep_on}
+use mathlib.Core.Path.{◌≡◌}
+use Rattle.uniform_rules.specs.Keeps.{slots_keep, SlotsAll}
 use Rattle.uniform_rules.proofs.members_keep.Given as goal
 
 abbrev pub invariant-loop-left : goal.invariant-loop-left

@@ -1,5 +1,4 @@
 -- By the tests.
-use native.Mathlib.Omega.{arith}
 use borrow.Author.Tests.{le-leb, lt-leb}
 use Rattle.uniform_rules.specs.Keeps.{is_raised}
 use Rattle.uniform_rules.proofs.raised.Goals as goal

@@ -1,6 +1,5 @@
 -- By the tests.
 use mathlib.Core.Path.{sym, ◌∙◌}
-use borrow.Author.Rules.{rules}
 use borrow.Author.Tests.{lt-leb, le-leb}
 use Rattle.uniform_rules.specs.Keeps.{start_keeps}
 use Rattle.uniform_rules.proofs.start_keeps.Goals as goal

@@ -1,5 +1,4 @@
 -- By the definition.
-use borrow.Author.Rules.{rules}
 use Rattle.walk_decide.specs.Decide.{closed_rest}
 use Rattle.walk_decide.proofs.closed_rest.Goals as goal
 

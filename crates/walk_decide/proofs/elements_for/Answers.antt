@@ -1,9 +1,6 @@
 -- Each answer is a law of `ElementsOf`.
-use Prim.Native.Nat.{ℕ, ◌-◌, ◌*◌, ◌/◌, ◌≤◌}
 use mathlib.Core.Path.{sym}
 use native.Mathlib.Omega.{arith}
-use native.Mathlib.Nat.{div-mul-le_self}
-use borrow.Author.Rules.{rules}
 use Rattle.walk_decide.proofs.ElementsOf.{elements_few, elements_right, elements_wrong}
 use Rattle.walk_decide.proofs.elements_for.Goals as goal
 

@@ -1,7 +1,6 @@
 -- Each answer is a law of `ElementsOf`.
 use mathlib.Core.Path.{sym}
 use native.Mathlib.Omega.{arith}
-use borrow.Author.Rules.{rules}
 use Rattle.walk_decide.proofs.ElementsOf.{found_none, found_before, found_some}
 use Rattle.walk_decide.proofs.elements_in.Goals as goal
 

@@ -1,7 +1,6 @@
 -- Each answer is a law of `ElementsOf`.
 use mathlib.Core.Path.{sym}
 use native.Mathlib.Omega.{arith}
-use borrow.Author.Rules.{rules}
 use Rattle.walk_decide.proofs.ElementsOf.{extent_before, extent_past, extent_inside, extent_right}
 use Rattle.walk_decide.proofs.extent_for.Goals as goal
 

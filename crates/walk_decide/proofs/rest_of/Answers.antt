@@ -1,5 +1,4 @@
 -- By the kind: a runtime array itself, or the last member of a struct.
-use borrow.Author.Rules.{rules}
 use borrow.Author.Tests.{eq-eqb, ne_eqb}
 use Rattle.walk_decide.specs.Decide.{rest_from}
 use Rattle.walk_decide.proofs.rest_of.Goals as goal

@@ -2,54 +2,26 @@
 --
 -- A walk goes down from an entry to the entries below it, which have lower numbers: that is the measure.
 -- Assumes nothing.
-use borrow.Author.Rules.{rules}
-use Rattle.walk_pieces.proofs.add_entry.Reads as add-entry
-use Rattle.walk_pieces.proofs.add_many.Reads as add-many
-use Rattle.walk_pieces.proofs.add_struct.Reads as add-struct
 use Prim.Native.Nat.{ℕ}
 use native.Mathlib.Omega.{arith}
-use Rattle.walk_trees.proofs.Many.{tree_valued, tree_many, depth_below}
-use Rattle.walk_pieces.proofs.add_entry.Reads as add-entry
-use Rattle.walk_pieces.proofs.add_many.Reads as add-many
-use Rattle.walk_pieces.proofs.add_struct.Reads as add-struct
-use Rattle.layout_values.proofs.value.value_at.Reads as value-at-reads
-use Prim.Native.Nat.{ℕ, ◌+◌, ◌-◌, ◌*◌, ◌≤◌}
-use mathlib.Core.Path.{◌≡◌, refl, sym, ◌∙◌}
+use Rattle.walk_trees.proofs.Many.{tree_many}
+use Prim.Native.Nat.{ℕ, ◌+◌, ◌*◌, ◌≤◌}
+use mathlib.Core.Path.{refl, sym, ◌∙◌}
 use native.Mathlib.Omega.{arith}
-use lib.ListN.{length}
 use Rattle.wgsl.specs.Place.{Shape, span_of, repeated, places_of}
 use Rattle.wgsl.specs.Round.{limit}
-use Rattle.walk_trees.specs.Tree.{Many, Tree, RunsOf}
+use Rattle.walk_trees.specs.Tree.{Many, Tree}
 use Rattle.walk_trees.proofs.Many.{depth_each}
-use Rattle.walk_pieces.specs.Piece.{most_pieces, Added}
-use Rattle.walk_pieces.proofs.Added.{added_none, added_as, Apart, apart, part_ends, added_part, added_parts}
-use Rattle.walk_pieces.proofs.add_entry.Reads as add-entry
-use Rattle.walk_pieces.proofs.add_many.Reads as add-many
-use Rattle.numbers.proofs.wide.wide.Reads as wide-reads
-use Rattle.walk_pieces.proofs.add_parts.Reads as add-parts-reads
-use Rattle.walk_trees.proofs.parts_of.Reads as parts-of-reads
-use Prim.Native.Nat.{ℕ, ◌+◌, ◌-◌, ◌≤◌}
-use mathlib.Core.Path.{◌≡◌, refl, ap, sym, subst, ◌∙◌}
-use native.Mathlib.Nat.{mul-le-mul}
+use Rattle.walk_pieces.proofs.Added.{added_none, Apart, apart, part_ends, added_part, added_parts}
+use Prim.Native.Nat.{ℕ, ◌+◌, ◌≤◌}
+use mathlib.Core.Path.{refl, ap, sym, subst, ◌∙◌}
 use native.Mathlib.Omega.{arith}
-use lib.ListN.{length}
 use Rattle.wgsl.specs.Place.{Shape, span_of}
 use Rattle.wgsl.specs.Round.{limit}
 use Rattle.walk_trees.specs.declared.Slot.{Slot}
 use Rattle.walk_trees.specs.Tree.{Tree}
-use Rattle.walk_trees.proofs.Many.{tree_valued}
-use Rattle.walk_pieces.specs.Piece.{most_pieces}
 use Rattle.walk_pieces.proofs.Added.{member_type, MembersAdded, members_start_lem, member_first, member_within, member_added, members_added}
-use Rattle.walk_pieces.proofs.add_entry.Reads as add-entry
-use Rattle.walk_pieces.proofs.add_struct.Reads as add-struct
-use Rattle.layout_values.proofs.value.value_at.Reads as value-at-reads
-use Rattle.numbers.proofs.wide.wide.Reads as wide-reads
-use Rattle.walk_trees.proofs.slot_after.Reads as slot-after-reads
-use Prim.Native.Nat.{ℕ, ◌+◌, ◌*◌, ◌<◌}
-use Rattle.walk_trees.proofs.Many.{depth}
-use Rattle.walk_pieces.proofs.add_entry.Reads as add-entry
-use Rattle.walk_pieces.proofs.add_many.Reads as add-many
-use Rattle.walk_pieces.proofs.add_struct.Reads as add-struct
+use Prim.Native.Nat.{ℕ, ◌+◌, ◌*◌}
 use Rattle.walk_pieces.proofs.+add_entry_add_many_add_struct.Goals as goal
 
 -- what is no run is an entry for each part

@@ -1,30 +1,17 @@
-use borrow.Author.Rules.{rules}
-use Prim.Native.Nat.{ℕ}
-use native.Mathlib.Omega.{arith}
-use Rattle.walk_trees.proofs.Many.{tree_valued, tree_many, depth_below}
-use Prim.Native.Nat.{ℕ, ◌+◌, ◌-◌, ◌*◌, ◌≤◌}
-use mathlib.Core.Path.{◌≡◌, refl, sym, ◌∙◌}
-use native.Mathlib.Omega.{arith}
+use Prim.Native.Nat.{◌+◌, ◌-◌, ◌*◌, ◌≤◌}
+use mathlib.Core.Path.{◌≡◌}
 use lib.ListN.{length}
 use Rattle.wgsl.specs.Place.{Shape, span_of, repeated, places_of}
-use Rattle.wgsl.specs.Round.{limit}
-use Rattle.walk_trees.specs.Tree.{Many, Tree, RunsOf}
-use Rattle.walk_trees.proofs.Many.{depth_each}
+use Rattle.walk_trees.specs.Tree.{Tree}
 use Rattle.walk_pieces.specs.Piece.{most_pieces, Added}
-use Rattle.walk_pieces.proofs.Added.{added_none, added_as, Apart, apart, part_ends, added_part, added_parts}
-use Prim.Native.Nat.{ℕ, ◌+◌, ◌-◌, ◌≤◌}
-use mathlib.Core.Path.{◌≡◌, refl, ap, sym, subst, ◌∙◌}
-use native.Mathlib.Nat.{mul-le-mul}
-use native.Mathlib.Omega.{arith}
+use Prim.Native.Nat.{◌+◌, ◌-◌, ◌≤◌}
+use mathlib.Core.Path.{◌≡◌}
 use lib.ListN.{length}
 use Rattle.wgsl.specs.Place.{Shape, span_of}
-use Rattle.wgsl.specs.Round.{limit}
-use Rattle.walk_trees.specs.declared.Slot.{Slot}
 use Rattle.walk_trees.specs.Tree.{Tree}
-use Rattle.walk_trees.proofs.Many.{tree_valued}
 use Rattle.walk_pieces.specs.Piece.{most_pieces}
-use Rattle.walk_pieces.proofs.Added.{member_type, MembersAdded, members_start_lem, member_first, member_within, member_added, members_added}
-use Prim.Native.Nat.{ℕ, ◌+◌, ◌*◌, ◌<◌}
+use Rattle.walk_pieces.proofs.Added.{MembersAdded}
+use Prim.Native.Nat.{◌+◌, ◌*◌}
 use Rattle.walk_trees.proofs.Many.{depth}
 use Rattle.walk_pieces.proofs.+add_entry_add_many_add_struct.Given as goal
 

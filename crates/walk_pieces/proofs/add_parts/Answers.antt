@@ -1,18 +1,13 @@
 -- Where parts touch they are one run. Else each turn adds one of them (proofs/Added).
 -- Assumes nothing.
-use Prim.Native.Nat.{◌+◌, ◌-◌, ◌*◌, ◌<◌, ◌≤◌}
-use mathlib.Core.Logic.{◌⊎◌, ⊎_elim}
+use Prim.Native.Nat.{◌+◌, ◌*◌, ◌≤◌}
 use mathlib.Core.Path.{◌≡◌, refl, ◌∙◌}
 use native.Mathlib.Nat.{mul_assoc}
 use native.Mathlib.Omega.{arith}
-use borrow.Author.Rules.{rules}
-use lib.ListN.{length}
 use Rattle.wgsl.specs.Place.{repeated}
-use Rattle.wgsl.specs.Round.{limit}
 use Rattle.runs.specs.Run.{run_places, part_places}
 use Rattle.runs.proofs.OverPlaces.{parts_touch}
-use Rattle.walk_pieces.specs.Piece.{most_pieces, Added}
-use Rattle.walk_pieces.proofs.Added.{words_low, added_none, added_as, part_ends, added_part, added_parts}
+use Rattle.walk_pieces.proofs.Added.{added_none, added_as, part_ends, added_part, added_parts}
 use Rattle.walk_pieces.proofs.add_parts.Goals as goal
 
 -- parts that touch end where their words do

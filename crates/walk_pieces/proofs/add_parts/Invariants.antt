@@ -1,16 +1,9 @@
-use Prim.Native.Nat.{◌+◌, ◌-◌, ◌*◌, ◌<◌, ◌≤◌}
-use mathlib.Core.Logic.{◌⊎◌, ⊎_elim}
-use mathlib.Core.Path.{◌≡◌, refl, ◌∙◌}
-use native.Mathlib.Nat.{mul_assoc}
-use native.Mathlib.Omega.{arith}
-use borrow.Author.Rules.{rules}
+use Prim.Native.Nat.{◌+◌, ◌-◌, ◌*◌, ◌≤◌}
+use mathlib.Core.Path.{◌≡◌}
 use lib.ListN.{length}
 use Rattle.wgsl.specs.Place.{repeated}
-use Rattle.wgsl.specs.Round.{limit}
-use Rattle.runs.specs.Run.{run_places, part_places}
-use Rattle.runs.proofs.OverPlaces.{parts_touch}
+use Rattle.runs.specs.Run.{run_places}
 use Rattle.walk_pieces.specs.Piece.{most_pieces, Added}
-use Rattle.walk_pieces.proofs.Added.{words_low, added_none, added_as, part_ends, added_part, added_parts}
 use Rattle.walk_pieces.proofs.add_parts.Given as goal
 
 abbrev pub invariant-loop-i : goal.invariant-loop-i

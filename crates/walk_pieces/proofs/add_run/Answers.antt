@@ -1,12 +1,8 @@
 -- More words of the last piece, or a piece of its own (proofs/Added). Its numbers fit, since it ends within the limit.
 -- Assumes nothing.
-use Prim.Native.Nat.{◌≤◌}
 use native.Mathlib.Omega.{arith}
-use borrow.Author.Rules.{rules}
-use lib.ListN.{length-set}
-use Rattle.wgsl.specs.Round.{limit}
 use Rattle.walk_pieces.specs.Piece.{Touching}
-use Rattle.walk_pieces.proofs.Added.{words_low, both_low, piece_stored, words_stored}
+use Rattle.walk_pieces.proofs.Added.{piece_stored, words_stored}
 use Rattle.walk_pieces.proofs.add_run.Goals as goal
 
 touch : (c : goal.After-slice_known-then-touches-1) → Touching c.args.k c.args.pieces.now c.args.at c.args.width

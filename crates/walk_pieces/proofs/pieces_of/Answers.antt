@@ -1,9 +1,7 @@
 -- Pieces added to none.
 -- Assumes nothing.
 use mathlib.Core.Path.{◌∙◌}
-use native.Mathlib.Omega.{arith}
-use borrow.Author.Rules.{rules}
-use Rattle.walk_pieces.proofs.Added.{all_pieced, none_inside}
+use Rattle.walk_pieces.proofs.Added.{all_pieced}
 use Rattle.walk_pieces.proofs.pieces_of.Goals as goal
 
 pub returns : goal.returns

@@ -1,10 +1,7 @@
 -- The loop's invariant: the member that is asked for is number `left` of those from `m` on, of which the one before ended at `end`.
-use mathlib.Core.Path.{◌≡◌, refl, sym, ◌∙◌}
+use mathlib.Core.Path.{◌≡◌, sym, ◌∙◌}
 use native.Mathlib.Omega.{arith}
-use native.Mathlib.Nat.{mul-le-mul}
-use Prim.Native.Nat.{◌≤◌}
-use borrow.Author.Rules.{rules}
-use Rattle.walk_trees.specs.Slot.{slot_in, SlotsAsk}
+use Rattle.walk_trees.specs.Slot.{slot_in}
 use Rattle.walk_trees.proofs.SlotIn.{next_placeable, rest_placeables, rest_placed}
 use Rattle.walk_trees.proofs.member_in.Goals as goal
 

@@ -1,10 +1,5 @@
-use mathlib.Core.Path.{◌≡◌, refl, sym, ◌∙◌}
-use native.Mathlib.Omega.{arith}
-use native.Mathlib.Nat.{mul-le-mul}
-use Prim.Native.Nat.{◌≤◌}
-use borrow.Author.Rules.{rules}
+use mathlib.Core.Path.{◌≡◌}
 use Rattle.walk_trees.specs.Slot.{slot_in, SlotsAsk}
-use Rattle.walk_trees.proofs.SlotIn.{next_placeable, rest_placeables, rest_placed}
 use Rattle.walk_trees.proofs.member_in.Given as goal
 
 abbrev pub invariant-loop-left : goal.invariant-loop-left

@@ -1,5 +1,4 @@
 -- By the size.
-use borrow.Author.Rules.{rules}
 use borrow.Author.Tests.{eq-eqb, ne_eqb}
 use Rattle.walk_trees.specs.Slot.{packed_as}
 use Rattle.walk_trees.proofs.packed.Goals as goal

@@ -1,7 +1,6 @@
 -- By the kind: 9 and 10 look at the element.
 use Prim.Native.Nat.{◌≤◌}
 use native.Mathlib.Omega.{arith}
-use borrow.Author.Rules.{rules}
 use borrow.Author.Tests.{lt-ltb, le-ltb}
 use Rattle.walk_trees.specs.Slot.{part_width}
 use Rattle.walk_trees.proofs.part_width.Goals as goal

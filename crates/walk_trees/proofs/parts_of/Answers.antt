@@ -1,9 +1,7 @@
 -- Its own parts where they are runs, else those of its elements (proofs/Rows).
 -- Assumes nothing.
-use mathlib.Core.Path.{refl, sym, ◌∙◌}
-use borrow.Author.Rules.{rules}
-use Rattle.walk_trees.proofs.Many.{tree_valued, tree_many, many_referring, many_runs, many_each}
-use Rattle.walk_trees.proofs.Rows.{own_runs}
+use mathlib.Core.Path.{sym, ◌∙◌}
+use Rattle.walk_trees.proofs.Many.{tree_many, many_each}
 use Rattle.walk_trees.proofs.parts_of.Goals as goal
 
 pub returns : goal.returns

@@ -1,6 +1,4 @@
-use mathlib.Core.Path.{sym}
 use native.Mathlib.Omega.{arith}
-use borrow.Author.Rules.{rules}
 use Rattle.wgsl.proofs.Power.{power_positive, power_bounded}
 use Rattle.wgsl.proofs.Round.{up_not_below}
 use Rattle.walk_trees.proofs.put_after.Goals as goal

@@ -1,11 +1,7 @@
 -- Runs that fill the stride of what holds them are one row (proofs/Rows).
 -- Assumes nothing.
-use Prim.Native.Nat.{◌≤◌}
 use mathlib.Core.Path.{refl, sym, ◌∙◌}
-use native.Mathlib.Omega.{arith}
-use native.Mathlib.Nat.{mul-le-mul}
-use borrow.Author.Rules.{rules}
-use Rattle.walk_trees.proofs.Many.{many_referring, many_runs}
+use Rattle.walk_trees.proofs.Many.{many_runs}
 use Rattle.walk_trees.proofs.Rows.{row_runs}
 use Rattle.walk_trees.proofs.row_of.Goals as goal
 

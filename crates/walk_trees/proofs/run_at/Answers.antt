@@ -1,5 +1,4 @@
 -- By the kind.
-use borrow.Author.Rules.{rules}
 use borrow.Author.Tests.{eq-eqb, ne_eqb}
 use Rattle.walk_trees.specs.Slot.{run_at}
 use Rattle.walk_trees.proofs.run_at.Goals as goal

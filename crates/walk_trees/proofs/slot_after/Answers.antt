@@ -1,10 +1,7 @@
 -- The laws of `SlotAt`, over what the entry and the layout are found to be.
-use mathlib.Core.Path.{ap}
 use native.Mathlib.Omega.{arith}
-use borrow.Author.Rules.{rules}
-use Rattle.wgsl.specs.File.{MemberEntry}
 use Rattle.file.specs.Fields.{member_is}
-use Rattle.walk_trees.proofs.SlotAt.{MemberFound, given_align_lem, given_size_lem, own_align, own_size, placed_is, counted, may_place}
+use Rattle.walk_trees.proofs.SlotAt.{MemberFound, given_align_lem, given_size_lem, own_align, own_size, placed_is, may_place}
 use Rattle.walk_trees.proofs.slot_after.Goals as goal
 
 -- the entry and the layout
@@ -13,9 +10,9 @@ found : (c : goal.Then-e-eq0) →
     MemberFound s.args.members.now s.args.table.now s.args.m (member_is c.member_at-e.result) c.wide-ty.result c.value_at-r.result
 found c =
     record {
-      entry_is_lem = c.member_at-e.ensures;
+      is_entry = c.member_at-e.ensures;
       type_is = c.wide-ty.ensures.0;
-      layout_is_here = c.value_at-r.ensures;
+      is_layout = c.value_at-r.ensures;
     }
 
 -- the entry and the layout
@@ -24,9 +21,9 @@ found_2 : (c : goal.After-put_after) →
     MemberFound s.args.members.now s.args.table.now s.args.m (member_is c.member_at-e.result) c.wide-ty.result c.value_at-r.result
 found_2 c =
     record {
-      entry_is_lem = c.member_at-e.ensures;
+      is_entry = c.member_at-e.ensures;
       type_is = c.wide-ty.ensures.0;
-      layout_is_here = c.value_at-r.ensures;
+      is_layout = c.value_at-r.ensures;
     }
 
 -- the entry and the layout
@@ -35,9 +32,9 @@ found_3 : (c : goal.After-put_after-2) →
     MemberFound s.args.members.now s.args.table.now s.args.m (member_is c.member_at-e.result) c.wide-ty.result c.value_at-r.result
 found_3 c =
     record {
-      entry_is_lem = c.member_at-e.ensures;
+      is_entry = c.member_at-e.ensures;
       type_is = c.wide-ty.ensures.0;
-      layout_is_here = c.value_at-r.ensures;
+      is_layout = c.value_at-r.ensures;
     }
 
 pub put_after-requires : goal.put_after-requires

@@ -1,10 +1,7 @@
 -- Two numbers of 32 bits have a product of 64.
-use Prim.Native.Nat.{◌*◌, ◌≤◌}
+use Prim.Native.Nat.{◌*◌}
 use mathlib.Core.Path.{◌≡◌, ap₂, sym, ◌∙◌}
-use borrow.Author.Rules.{rules}
 use borrow.Author.Tests.{eq-eqb, ne_eqb}
-use native.Mathlib.Omega.{arith}
-use native.Mathlib.Nat.{mul-le-mul}
 use Rattle.walk_trees.specs.Slot.{touching}
 use Rattle.walk_trees.proofs.touch.Goals as goal
 

@@ -3,66 +3,29 @@
 -- A walk goes down from an entry to the entries below it, which have lower numbers: that is the measure.
 -- The loops' invariants are `Turn` and `Walk` of crates/walk_trees, proofs/TreeSteps: what is left, from here on, is the whole, from the start on.
 -- Assumes nothing.
-use borrow.Author.Rules.{rules}
-use Rattle.words_read.proofs.read_entry.Reads as read-entry
-use Rattle.words_read.proofs.read_many.Reads as read-many
-use Rattle.words_read.proofs.read_member.Reads as read-member
-use Rattle.words_read.proofs.read_struct.Reads as read-struct
-use Prim.Native.Nat.{ℕ, ◌+◌, ◌*◌, ◌<◌}
-use Rattle.walk_trees.specs.Slot.{member_at}
-use Rattle.walk_trees.proofs.Many.{depth}
-use Rattle.words_read.proofs.read_entry.Reads as read-entry
-use Rattle.words_read.proofs.read_many.Reads as read-many
-use Rattle.words_read.proofs.read_member.Reads as read-member
-use Rattle.words_read.proofs.read_struct.Reads as read-struct
+use Prim.Native.Nat.{ℕ, ◌+◌, ◌*◌}
 use Prim.Native.Nat.{ℕ}
 use native.Mathlib.Omega.{arith}
-use Rattle.walk_trees.proofs.Many.{tree_valued, tree_many, depth_below}
-use Rattle.words_read.proofs.read_entry.Reads as read-entry
-use Rattle.words_read.proofs.read_many.Reads as read-many
-use Rattle.words_read.proofs.read_struct.Reads as read-struct
-use Rattle.layout_values.proofs.value.value_at.Reads as value-at-reads
-use Prim.Native.Nat.{ℕ, ◌+◌, ◌-◌, ◌*◌}
-use mathlib.Core.Path.{◌≡◌, refl, ◌∙◌}
+use Rattle.walk_trees.proofs.Many.{tree_many}
+use Prim.Native.Nat.{ℕ, ◌+◌, ◌*◌}
+use mathlib.Core.Path.{refl, ◌∙◌}
 use native.Mathlib.Omega.{arith}
 use lib.ListN.{length}
-use Rattle.wgsl.specs.Place.{Shape}
-use Rattle.runs.specs.Fold.{over_places, loading}
-use Rattle.walk_trees.specs.Tree.{Many, Room, RunsOf}
+use Rattle.runs.specs.Fold.{over_places}
+use Rattle.walk_trees.specs.Tree.{Room}
 use Rattle.walk_trees.proofs.Many.{many_none}
-use Rattle.walk_trees.proofs.Rows.{runs_room}
 use Rattle.walk_trees.proofs.Room.{each_entry, each_room, Each}
-use Rattle.walk_trees.proofs.TreeSteps.{Turn, turn_start, turn_next, turn_none}
+use Rattle.walk_trees.proofs.TreeSteps.{turn_next, turn_none}
 use Rattle.walk_pieces.proofs.Pass.{pieced_each, pieced_parts}
-use Rattle.words_read.proofs.read_entry.Reads as read-entry
-use Rattle.words_read.proofs.read_many.Reads as read-many
-use Rattle.numbers.proofs.wide.wide.Reads as wide-reads
-use Rattle.runs.proofs.read_parts.Reads as read-parts-reads
-use Rattle.walk_pieces.proofs.pieces_of.Reads as pieces-of-reads
-use Rattle.walk_trees.proofs.parts_of.Reads as parts-of-reads
-use Rattle.words_pieces.proofs.reading.read_each.Reads as read-each-reads
-use Rattle.walk_pieces.specs.Piece.{Listed}
 use Prim.Native.Nat.{ℕ}
 use mathlib.Core.Path.{sym, ◌∙◌}
 use native.Mathlib.Omega.{arith}
 use Rattle.walk_trees.proofs.Room.{type_is, type_inside, type_tree, member_room, run_places_lem, run_room}
-use Rattle.words_read.proofs.read_entry.Reads as read-entry
-use Rattle.words_read.proofs.read_member.Reads as read-member
-use Rattle.layout_values.proofs.value.value_at.Reads as value-at-reads
-use Rattle.runs.proofs.read_few.Reads as read-few-reads
-use Rattle.walk_trees.proofs.packed.Reads as packed-reads
-use Rattle.walk_trees.proofs.slot_after.Reads as slot-after-reads
-use Prim.Native.Nat.{ℕ, ◌≤◌}
-use mathlib.Core.Path.{◌≡◌, refl, ◌∙◌}
-use native.Mathlib.Nat.{mul-le-mul}
+use Prim.Native.Nat.{ℕ}
+use mathlib.Core.Path.{refl, ◌∙◌}
 use native.Mathlib.Omega.{arith}
 use lib.ListN.{length}
-use Rattle.runs.specs.Fold.{loading}
-use Rattle.walk_trees.proofs.TreeSteps.{Walk, walk_start, walk_first, walk_room, walk_words, walk_next, walk_none}
-use Rattle.words_read.proofs.read_member.Reads as read-member
-use Rattle.words_read.proofs.read_struct.Reads as read-struct
-use Rattle.numbers.proofs.wide.wide.Reads as wide-reads
-use Rattle.walk_pieces.specs.Piece.{Listed}
+use Rattle.walk_trees.proofs.TreeSteps.{walk_start, walk_first, walk_room, walk_words, walk_next, walk_none}
 use Rattle.words_read.proofs.+read_entry_read_many_read_member_read_struct.Goals as goal
 
 -- what is no run is an entry for each part

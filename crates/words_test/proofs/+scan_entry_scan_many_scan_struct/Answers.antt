@@ -3,44 +3,24 @@
 --
 -- A walk goes down from an entry to the entries below it, which have lower numbers: that is the measure.
 -- Assumes nothing.
-use borrow.Author.Rules.{rules}
-use Rattle.words_test.proofs.scan_entry.Reads as scan-entry
-use Rattle.words_test.proofs.scan_many.Reads as scan-many
-use Rattle.words_test.proofs.scan_struct.Reads as scan-struct
-use Prim.Native.Nat.{ℕ, ◌+◌, ◌*◌, ◌<◌}
-use Rattle.walk_trees.proofs.Many.{depth}
-use Rattle.words_test.proofs.scan_entry.Reads as scan-entry
-use Rattle.words_test.proofs.scan_many.Reads as scan-many
-use Rattle.words_test.proofs.scan_struct.Reads as scan-struct
+use Prim.Native.Nat.{ℕ, ◌+◌, ◌*◌}
 use Prim.Native.Nat.{ℕ}
 use mathlib.Core.Path.{◌≡◌, ap, ◌∙◌}
 use native.Mathlib.Omega.{arith}
 use Rattle.layout_values.specs.declared.value.Value.{Value}
-use Rattle.walk_trees.proofs.Many.{tree_valued, tree_many, depth_below}
+use Rattle.walk_trees.proofs.Many.{tree_valued, tree_many}
 use Rattle.words_test.proofs.TestSteps.{entry_fine}
-use Rattle.words_test.proofs.scan_entry.Reads as scan-entry
-use Rattle.words_test.proofs.scan_many.Reads as scan-many
-use Rattle.words_test.proofs.scan_struct.Reads as scan-struct
-use Rattle.layout_values.proofs.value.value_at.Reads as value-at-reads
-use Prim.Native.Nat.{ℕ, ◌+◌, ◌-◌, ◌*◌, ◌≤◌}
+use Prim.Native.Nat.{ℕ, ◌+◌, ◌*◌}
 use mathlib.Core.Path.{◌≡◌}
 use native.Mathlib.Omega.{arith}
 use lib.ListN.{length}
 use Rattle.wgsl.specs.Place.{Shape, span_of}
 use Rattle.walk_trees.specs.Tree.{Many, Room, RunsOf}
 use Rattle.walk_trees.proofs.Room.{Each, each_room}
-use Rattle.words_test.proofs.TestSteps.{many_fine, says_run, each_there, Turns, turns_fitting, turns_fine, turns_bad, turns_none}
-use Rattle.words_test.proofs.scan_entry.Reads as scan-entry
-use Rattle.words_test.proofs.scan_many.Reads as scan-many
-use Rattle.numbers.proofs.wide.wide.Reads as wide-reads
-use Rattle.runs.proofs.scan_run.Reads as scan-run-reads
-use Rattle.walk_trees.proofs.parts_of.Reads as parts-of-reads
-use Rattle.words_test.proofs.fit_at_once.Reads as fit-at-once-reads
+use Rattle.words_test.proofs.TestSteps.{many_fine, says_run, each_there, turns_fitting, turns_fine, turns_bad, turns_none}
 use Rattle.walk_pieces.specs.Piece.{Listed}
-use Prim.Native.Nat.{ℕ, ◌≤◌}
-use mathlib.Core.Logic.{⊎_elim}
+use Prim.Native.Nat.{ℕ}
 use mathlib.Core.Path.{◌≡◌, refl, ap, ◌∙◌}
-use native.Mathlib.Nat.{mul-le-mul}
 use native.Mathlib.Omega.{arith}
 use lib.ListN.{length}
 use Rattle.wgsl.specs.Number.{load}
@@ -50,13 +30,7 @@ use Rattle.layout_values.specs.Value.{value_at, words_in}
 use Rattle.walk_trees.specs.Tree.{Tree}
 use Rattle.walk_trees.proofs.Many.{tree_valued}
 use Rattle.walk_trees.proofs.TreeSteps.{walk_first}
-use Rattle.words_test.proofs.TestSteps.{Says, entry_fine, Scanned, scanned_start, scanned_inside, scanned_lower, scanned_tree, scanned_there, scanned_words, scanned_next, scanned_bad, scanned_none}
-use Rattle.words_test.proofs.scan_entry.Reads as scan-entry
-use Rattle.words_test.proofs.scan_struct.Reads as scan-struct
-use Rattle.file.proofs.fields.half.Reads as half-reads
-use Rattle.layout_values.proofs.value.value_at.Reads as value-at-reads
-use Rattle.layout_values.proofs.value.words_of.Reads as words-of-reads
-use Rattle.numbers.proofs.wide.wide.Reads as wide-reads
+use Rattle.words_test.proofs.TestSteps.{Says, entry_fine, scanned_start, scanned_lower, scanned_tree, scanned_there, scanned_next, scanned_bad, scanned_none}
 use Rattle.walk_pieces.specs.Piece.{Listed}
 use Rattle.words_test.proofs.+scan_entry_scan_many_scan_struct.Goals as goal
 use Rattle.words_test.proofs.+scan_entry_scan_many_scan_struct.Goals.{scan_struct-then-l-eq2+in-Fine, scan_struct-else-l-eq2}

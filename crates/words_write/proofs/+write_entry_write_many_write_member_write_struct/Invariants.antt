@@ -1,34 +1,16 @@
-use borrow.Author.Rules.{rules}
-use Prim.Native.Nat.{ℕ, ◌+◌, ◌*◌, ◌<◌}
+use Prim.Native.Nat.{◌+◌, ◌*◌}
 use Rattle.walk_trees.specs.Slot.{member_at}
 use Rattle.walk_trees.proofs.Many.{depth}
-use Prim.Native.Nat.{ℕ}
-use native.Mathlib.Omega.{arith}
-use Rattle.walk_trees.proofs.Many.{tree_valued, tree_many, depth_below}
-use Prim.Native.Nat.{ℕ, ◌+◌, ◌-◌, ◌*◌}
-use mathlib.Core.Path.{◌≡◌, refl, ◌∙◌}
-use native.Mathlib.Omega.{arith}
-use lib.ListN.{length}
-use Rattle.wgsl.specs.Place.{Shape}
-use Rattle.runs.specs.Fold.{over_places, storing}
-use Rattle.walk_trees.specs.Tree.{Many, Room, RunsOf}
-use Rattle.walk_trees.proofs.Many.{many_none}
-use Rattle.walk_trees.proofs.Rows.{runs_room}
-use Rattle.walk_trees.proofs.Room.{each_entry, each_room, Each}
-use Rattle.walk_trees.proofs.TreeSteps.{Turn, turn_start, turn_next, turn_none}
-use Rattle.walk_pieces.proofs.Pass.{pieced_each, pieced_parts}
-use Rattle.walk_pieces.specs.Piece.{Listed}
-use Prim.Native.Nat.{ℕ}
-use mathlib.Core.Path.{sym, ◌∙◌}
-use native.Mathlib.Omega.{arith}
-use Rattle.walk_trees.proofs.Room.{type_is, type_inside, type_tree, member_room, run_places_lem, run_room}
-use Prim.Native.Nat.{ℕ, ◌≤◌}
-use mathlib.Core.Path.{◌≡◌, refl, ◌∙◌}
-use native.Mathlib.Nat.{mul-le-mul}
-use native.Mathlib.Omega.{arith}
+use Prim.Native.Nat.{◌+◌, ◌-◌, ◌*◌}
+use mathlib.Core.Path.{◌≡◌}
 use lib.ListN.{length}
 use Rattle.runs.specs.Fold.{storing}
-use Rattle.walk_trees.proofs.TreeSteps.{Walk, walk_start, walk_first, walk_room, walk_words, walk_next, walk_none}
+use Rattle.walk_trees.proofs.TreeSteps.{Turn}
+use Rattle.walk_pieces.specs.Piece.{Listed}
+use mathlib.Core.Path.{◌≡◌}
+use lib.ListN.{length}
+use Rattle.runs.specs.Fold.{storing}
+use Rattle.walk_trees.proofs.TreeSteps.{Walk}
 use Rattle.walk_pieces.specs.Piece.{Listed}
 use Rattle.words_write.proofs.+write_entry_write_many_write_member_write_struct.Given as goal
 

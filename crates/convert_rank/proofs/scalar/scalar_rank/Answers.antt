@@ -1,6 +1,5 @@
 -- Each answer is a law of `ScalarRank`; that the second kind is not the first is what the two callees ask of theirs.
 use mathlib.Core.Path.{◌∙◌, sym}
-use borrow.Author.Rules.{rules}
 use Rattle.convert_rank.proofs.ScalarRank.{scalar_same, scalar_int, scalar_float, scalar_none}
 use Rattle.convert_rank.proofs.scalar.scalar_rank.Goals as goal
 

@@ -1,6 +1,5 @@
 -- Each field is the one that `type_entry_from` names; the reads stay inside, since twelve bytes are there.
 use Rattle.file.proofs.FieldsAt.{type_entry_is}
-use borrow.Author.Rules.{rules}
 use Rattle.file.proofs.fields.entry_at.Goals as goal
 
 pub returns : goal.returns

@@ -1,6 +1,5 @@
 -- Each field is the one that `member_entry_from` names; the reads stay inside, since twelve bytes are there.
 use Rattle.file.proofs.FieldsAt.{member_entry_is}
-use borrow.Author.Rules.{rules}
 use Rattle.file.proofs.fields.member_at.Goals as goal
 
 pub returns : goal.returns

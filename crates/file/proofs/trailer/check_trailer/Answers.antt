@@ -2,7 +2,6 @@
 use mathlib.Core.Path.{sym, ◌∙◌}
 use native.Mathlib.Omega.{arith}
 use Rattle.file.proofs.CheckTrailer.{checked_short, checked_form, checked_counts, counts_few, checked_length, checked_good}
-use borrow.Author.Rules.{rules}
 use Rattle.file.proofs.trailer.check_trailer.Goals as goal
 
 pub returns-then-f-lt-TRAILER_LENGTH : goal.returns-then-f-lt-TRAILER_LENGTH

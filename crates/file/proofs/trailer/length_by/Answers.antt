@@ -1,10 +1,8 @@
 -- The members' bytes are few, and the sum is the one that `length_by` names.
-use Prim.Native.Nat.{◌*◌, ◌≤◌}
-use mathlib.Core.Path.{◌≡◌, ap₂, ◌∙◌}
-use native.Mathlib.Nat.{mul-le-mul}
+use Prim.Native.Nat.{◌*◌}
+use mathlib.Core.Path.{ap₂, ◌∙◌}
 use native.Mathlib.Omega.{arith}
-use borrow.Author.Rules.{rules}
-use Rattle.wgsl.specs.File.{member_entry_length, length_by}
+use Rattle.wgsl.specs.File.{length_by}
 use Rattle.file.proofs.trailer.length_by.Goals as goal
 
 pub returns : goal.returns

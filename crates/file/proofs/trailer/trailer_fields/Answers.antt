@@ -1,6 +1,5 @@
 -- Each field is the one that `trailer_of` names, in the last ten bytes.
 use Rattle.file.proofs.FieldsAt.{trailer_is_lem}
-use borrow.Author.Rules.{rules}
 use Rattle.file.proofs.trailer.trailer_fields.Goals as goal
 
 pub returns : goal.returns

@@ -1,14 +1,11 @@
 -- What is left to put gives, from here, what the whole gives from the start (`entries_next`).
-use Prim.Native.Nat.{◌+◌, ◌-◌, ◌*◌, ◌<◌, ◌≤◌}
-use mathlib.Core.Path.{◌≡◌, refl, ap, sym, ◌∙◌}
-use native.Mathlib.Nat.{mul-suc, mul-zero}
+use Prim.Native.Nat.{◌+◌, ◌*◌, ◌<◌}
+use mathlib.Core.Path.{◌≡◌, ap, sym, ◌∙◌}
+use native.Mathlib.Nat.{mul-suc}
 use native.Mathlib.Numerals.{add-one}
 use native.Mathlib.Omega.{arith}
-use borrow.Author.Rules.{rules}
 use lib.ListN.{length}
-use lib.Seq.{sets}
 use Rattle.puts.proofs.PutLaws.{put_length}
-use Rattle.forms.specs.Entries.{entries_from}
 use Rattle.wgsl.proofs.MemberLength.{entry_within}
 use Rattle.forms.proofs.MovedEntries.{entry_long, entries_long, entries_next, entries_none}
 use Rattle.forms.proofs.entries.put_entries.Goals as goal

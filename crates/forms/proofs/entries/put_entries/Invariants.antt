@@ -1,15 +1,8 @@
-use Prim.Native.Nat.{◌+◌, ◌-◌, ◌*◌, ◌<◌, ◌≤◌}
-use mathlib.Core.Path.{◌≡◌, refl, ap, sym, ◌∙◌}
-use native.Mathlib.Nat.{mul-suc, mul-zero}
-use native.Mathlib.Numerals.{add-one}
-use native.Mathlib.Omega.{arith}
-use borrow.Author.Rules.{rules}
+use Prim.Native.Nat.{◌+◌, ◌-◌, ◌*◌, ◌≤◌}
+use mathlib.Core.Path.{◌≡◌}
 use lib.ListN.{length}
 use lib.Seq.{sets}
-use Rattle.puts.proofs.PutLaws.{put_length}
 use Rattle.forms.specs.Entries.{entries_from}
-use Rattle.wgsl.proofs.MemberLength.{entry_within}
-use Rattle.forms.proofs.MovedEntries.{entry_long, entries_long, entries_next, entries_none}
 use Rattle.forms.proofs.entries.put_entries.Given as goal
 
 abbrev pub invariant-loop-m : goal.invariant-loop-m

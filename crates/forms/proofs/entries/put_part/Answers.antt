@@ -1,12 +1,8 @@
 -- The part of the file, then what comes after it (`put_then`).
-use Prim.Native.Nat.{ℕ, ◌+◌, ◌-◌, ◌≤◌}
-use mathlib.Core.List.{List}
-use mathlib.Core.Path.{◌≡◌, ◌∙◌}
+use Prim.Native.Nat.{◌+◌, ◌-◌}
+use mathlib.Core.Path.{◌≡◌}
 use native.Mathlib.Omega.{arith}
-use borrow.Author.Rules.{rules}
-use lib.ListN.{length, take, drop, length-drop}
-use lib.Seq.{length-take-le}
-use Rattle.puts.proofs.PutLaws.{put_then, put_length}
+use Rattle.puts.proofs.PutLaws.{put_then}
 use Rattle.forms.proofs.entries.put_part.Goals as goal
 
 pub returns : goal.returns

@@ -1,13 +1,11 @@
 -- No name so far (`nameless_next`); one name is enough (`named_false`).
-use Prim.Native.Nat.{◌+◌, ◌-◌, ◌*◌, ◌<◌, ◌≤◌}
-use mathlib.Core.Bool.{true, not}
-use mathlib.Core.Path.{◌≡◌, refl, ap, sym, ◌∙◌}
+use Prim.Native.Nat.{◌+◌, ◌*◌}
+use mathlib.Core.Bool.{not}
+use mathlib.Core.Path.{◌≡◌, ap, sym, ◌∙◌}
 use native.Mathlib.Numerals.{add-one}
 use native.Mathlib.Omega.{arith}
-use borrow.Author.Rules.{rules}
-use lib.ListN.{length}
 use Rattle.wgsl.specs.Number.{load}
-use Rattle.wgsl.specs.Form.{member_place, nameless}
+use Rattle.wgsl.specs.Form.{member_place}
 use Rattle.forms.proofs.Nameless.{name_place, nameless_none, nameless_next, named_false}
 use Rattle.forms.proofs.names.is_named.Goals as goal
 

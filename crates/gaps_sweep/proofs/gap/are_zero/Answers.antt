@@ -1,10 +1,6 @@
 -- What was passed is zero.
 -- Assumes nothing.
-use Prim.Native.Nat.{ℕ, ◌≤◌, ◌<◌, ◌-◌}
-use mathlib.Core.Path.{◌≡◌, sym, ◌∙◌}
-use native.Mathlib.Omega.{arith}
-use borrow.Author.Rules.{rules}
-use lib.ListN.{length, get_or}
+use mathlib.Core.Path.{sym, ◌∙◌}
 use Rattle.gaps_sweep.proofs.Sweep.{load_zero, zero_on}
 use Rattle.gaps_sweep.proofs.gap.are_zero.Goals as goal
 

@@ -1,7 +1,6 @@
 -- The gap is swept, and what is passed lies behind it.
 -- Assumes nothing.
 use mathlib.Core.Path.{ap}
-use borrow.Author.Rules.{rules}
 use Rattle.gaps_sweep.specs.Sweep.{going_on, passed}
 use Rattle.gaps_sweep.proofs.gap.pass.Goals as goal
 

@@ -1,7 +1,6 @@
 -- A byte that is zero stays; another counts.
 -- Assumes nothing.
 use mathlib.Core.Path.{sym}
-use borrow.Author.Rules.{rules}
 use Rattle.gaps_sweep.proofs.Sweep.{zero_byte, first_byte, later_byte}
 use Rattle.gaps_sweep.proofs.gap.sweep_byte.Goals as goal
 

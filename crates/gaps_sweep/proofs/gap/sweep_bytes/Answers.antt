@@ -1,11 +1,8 @@
 -- Each turn of the loop sweeps one byte of what is left.
 -- Assumes nothing.
-use Prim.Native.Nat.{◌≤◌, ◌-◌}
-use mathlib.Core.Path.{◌≡◌, refl, sym, ap, ◌∙◌}
-use native.Mathlib.Omega.{arith}
-use borrow.Author.Rules.{rules}
+use mathlib.Core.Path.{refl, sym, ap, ◌∙◌}
 use lib.ListN.{length}
-use Rattle.gaps_sweep.specs.Sweep.{Swept, swept_of, swept_bytes, swept_to, Countable}
+use Rattle.gaps_sweep.specs.Sweep.{Swept, swept_of, swept_to}
 use Rattle.gaps_sweep.proofs.Sweep.{keeps_byte, keeps_countable, sweep_next, sweep_none}
 use Rattle.gaps_sweep.proofs.gap.sweep_bytes.Goals as goal
 

@@ -1,10 +1,7 @@
-use Prim.Native.Nat.{◌≤◌, ◌-◌}
-use mathlib.Core.Path.{◌≡◌, refl, sym, ap, ◌∙◌}
-use native.Mathlib.Omega.{arith}
-use borrow.Author.Rules.{rules}
+use Prim.Native.Nat.{◌-◌}
+use mathlib.Core.Path.{◌≡◌}
 use lib.ListN.{length}
-use Rattle.gaps_sweep.specs.Sweep.{Swept, swept_of, swept_bytes, swept_to, Countable}
-use Rattle.gaps_sweep.proofs.Sweep.{keeps_byte, keeps_countable, sweep_next, sweep_none}
+use Rattle.gaps_sweep.specs.Sweep.{swept_of, swept_bytes, swept_to, Countable}
 use Rattle.gaps_sweep.proofs.gap.sweep_bytes.Given as goal
 
 abbrev pub invariant-loop-i : goal.invariant-loop-i

@@ -1,7 +1,6 @@
 -- Bytes that are zero stay.
 -- Assumes nothing.
 use mathlib.Core.Path.{sym}
-use borrow.Author.Rules.{rules}
 use Rattle.gaps_sweep.proofs.Sweep.{zero_stays}
 use Rattle.gaps_sweep.proofs.gap.sweep_to.Goals as goal
 

@@ -1,16 +1,11 @@
 -- Where parts touch they are one run. Else each turn of the loop does one part of what is left.
 -- Assumes nothing.
-use Prim.Native.Nat.{◌+◌, ◌-◌, ◌*◌}
-use mathlib.Core.Path.{◌≡◌, refl, ◌∙◌}
-use native.Mathlib.Nat.{mul_assoc}
-use native.Mathlib.Omega.{arith}
-use borrow.Author.Rules.{rules}
-use lib.ListN.{length}
+use Prim.Native.Nat.{◌+◌, ◌*◌}
+use mathlib.Core.Path.{◌∙◌}
 use Rattle.runs.specs.Run.{run_places, part_places}
-use Rattle.runs.proofs.OverPlaces.{Repeating, repeating_start, repeating_next, repeating_all, run_length, parts_touch}
-use Rattle.runs.proofs.RunPlaces.{part_room}
-use Rattle.gaps_sweep.specs.Sweep.{swept_of, sweeping, Countable}
-use Rattle.gaps_sweep.proofs.Sweep.{sweep_keeps, keeps_countable, any_number, parts_count}
+use Rattle.runs.proofs.OverPlaces.{repeating_next, repeating_all, run_length, parts_touch}
+use Rattle.gaps_sweep.specs.Sweep.{swept_of}
+use Rattle.gaps_sweep.proofs.Sweep.{sweep_keeps, keeps_countable, any_number}
 use Rattle.gaps_sweep.proofs.parts.sweep_parts.Goals as goal
 
 pub returns-then-p : goal.returns-then-p

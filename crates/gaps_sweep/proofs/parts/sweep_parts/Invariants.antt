@@ -1,14 +1,9 @@
-use Prim.Native.Nat.{◌+◌, ◌-◌, ◌*◌}
-use mathlib.Core.Path.{◌≡◌, refl, ◌∙◌}
-use native.Mathlib.Nat.{mul_assoc}
-use native.Mathlib.Omega.{arith}
-use borrow.Author.Rules.{rules}
+use Prim.Native.Nat.{◌-◌}
+use mathlib.Core.Path.{◌≡◌}
 use lib.ListN.{length}
-use Rattle.runs.specs.Run.{run_places, part_places}
-use Rattle.runs.proofs.OverPlaces.{Repeating, repeating_start, repeating_next, repeating_all, run_length, parts_touch}
-use Rattle.runs.proofs.RunPlaces.{part_room}
+use Rattle.runs.specs.Run.{run_places}
+use Rattle.runs.proofs.OverPlaces.{Repeating}
 use Rattle.gaps_sweep.specs.Sweep.{swept_of, sweeping, Countable}
-use Rattle.gaps_sweep.proofs.Sweep.{sweep_keeps, keeps_countable, any_number, parts_count}
 use Rattle.gaps_sweep.proofs.parts.sweep_parts.Given as goal
 
 abbrev pub invariant-loop-i : goal.invariant-loop-i

@@ -2,7 +2,6 @@
 -- Assumes nothing.
 use mathlib.Core.Path.{sym, ◌∙◌}
 use native.Mathlib.Omega.{arith}
-use borrow.Author.Rules.{rules}
 use Rattle.gaps_sweep.proofs.Sweep.{run_passed, run_none}
 use Rattle.gaps_sweep.proofs.parts.sweep_run.Goals as goal
 

@@ -1,13 +1,10 @@
 -- Each turn of the loop sweeps one element (`Repeating`, crates/runs, proofs/OverPlaces), whatever the numbers of its words.
 -- Assumes nothing.
-use Prim.Native.Nat.{◌+◌, ◌-◌, ◌*◌}
-use mathlib.Core.Path.{◌≡◌, refl, ◌∙◌}
-use native.Mathlib.Omega.{arith}
-use borrow.Author.Rules.{rules}
+use Prim.Native.Nat.{◌+◌, ◌*◌}
+use mathlib.Core.Path.{◌∙◌}
 use lib.ListN.{length}
 use Rattle.walk_pieces.specs.Piece.{pieces_places, PiecesRoom}
-use Rattle.runs.proofs.OverPlaces.{Repeating, repeating_start, repeating_next, repeating_all}
-use Rattle.gaps_sweep.specs.Sweep.{swept_of, sweeping, Countable}
+use Rattle.runs.proofs.OverPlaces.{repeating_next, repeating_all}
 use Rattle.gaps_sweep.proofs.Sweep.{sweep_keeps, keeps_countable, any_number}
 use Rattle.gaps_sweep.proofs.pieces.sweep_each.Goals as goal
 

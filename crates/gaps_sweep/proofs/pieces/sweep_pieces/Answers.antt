@@ -1,12 +1,6 @@
 -- Each turn of the loop sweeps before one piece (`PiecesSwept`, proofs/Sweep).
 -- Assumes nothing.
-use Prim.Native.Nat.{◌-◌}
-use native.Mathlib.Omega.{arith}
-use borrow.Author.Rules.{rules}
-use lib.ListN.{length}
-use Rattle.walk_pieces.proofs.Pass.{PieceRoom}
-use Rattle.gaps_sweep.specs.Sweep.{swept_of}
-use Rattle.gaps_sweep.proofs.Sweep.{PiecesSwept, pieces_start, piece_ready, pieces_next, pieces_none}
+use Rattle.gaps_sweep.proofs.Sweep.{pieces_start, pieces_next}
 use Rattle.gaps_sweep.proofs.pieces.sweep_pieces.Goals as goal
 
 pub loop-j-init : goal.loop-j-init

@@ -1,10 +1,6 @@
 use Prim.Native.Nat.{◌-◌}
-use native.Mathlib.Omega.{arith}
-use borrow.Author.Rules.{rules}
-use lib.ListN.{length}
-use Rattle.walk_pieces.proofs.Pass.{PieceRoom}
 use Rattle.gaps_sweep.specs.Sweep.{swept_of}
-use Rattle.gaps_sweep.proofs.Sweep.{PiecesSwept, pieces_start, piece_ready, pieces_next, pieces_none}
+use Rattle.gaps_sweep.proofs.Sweep.{PiecesSwept}
 use Rattle.gaps_sweep.proofs.pieces.sweep_pieces.Given as goal
 
 abbrev pub invariant-loop-j : goal.invariant-loop-j

@@ -1,15 +1,10 @@
 -- All before m are marked (`Named`).
 use mathlib.Core.Bool.{not}
 use mathlib.Core.Path.{ap}
-use Prim.Native.Nat.{ℕ, ◌-◌, ◌<◌, ◌≤◌}
-use mathlib.Core.Bool.{true}
-use mathlib.Core.Logic.{⊎_elim}
-use mathlib.Core.Path.{◌≡◌, sym, ◌∙◌}
+use Prim.Native.Nat.{◌<◌}
+use mathlib.Core.Path.{sym, ◌∙◌}
 use native.Mathlib.Omega.{arith}
-use borrow.Author.Rules.{rules}
-use borrow.Author.Tests.{not-true, not-false}
-use Rattle.wgsl.proofs.Bit.{lt_or_le}
-use Rattle.layout_strays.specs.Strays.{mark_at}
+use borrow.Author.Tests.{not-true}
 use Rattle.layout_strays.proofs.Named.{verdict_stray, verdict_none}
 use Rattle.layout_strays.proofs.marks.first_unmarked.Goals as goal
 

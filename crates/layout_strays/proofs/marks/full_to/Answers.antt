@@ -1,12 +1,9 @@
 -- Full words, one after the other (`InWords`).
-use Prim.Native.Nat.{ℕ, ◌-◌, ◌/◌, ◌%◌, ◌<◌, ◌≤◌}
-use mathlib.Core.Bool.{true}
+use Prim.Native.Nat.{◌/◌, ◌<◌, ◌≤◌}
 use mathlib.Core.Logic.{⊎_elim}
 use mathlib.Core.Path.{◌≡◌}
 use native.Mathlib.Omega.{arith}
-use borrow.Author.Rules.{rules}
 use Rattle.wgsl.proofs.Bit.{lt_or_le}
-use Rattle.layout_strays.specs.Strays.{mark_at}
 use Rattle.layout_strays.proofs.InWords.{full_marked}
 use Rattle.layout_strays.proofs.marks.full_to.Goals as goal
 

@@ -1,12 +1,7 @@
-use Prim.Native.Nat.{ℕ, ◌-◌, ◌/◌, ◌%◌, ◌<◌, ◌≤◌}
+use Prim.Native.Nat.{ℕ, ◌-◌, ◌%◌, ◌<◌}
 use mathlib.Core.Bool.{true}
-use mathlib.Core.Logic.{⊎_elim}
 use mathlib.Core.Path.{◌≡◌}
-use native.Mathlib.Omega.{arith}
-use borrow.Author.Rules.{rules}
-use Rattle.wgsl.proofs.Bit.{lt_or_le}
 use Rattle.layout_strays.specs.Strays.{mark_at}
-use Rattle.layout_strays.proofs.InWords.{full_marked}
 use Rattle.layout_strays.proofs.marks.full_to.Given as goal
 
 abbrev pub invariant-loop-m : goal.invariant-loop-m

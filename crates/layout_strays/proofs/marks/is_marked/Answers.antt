@@ -1,6 +1,5 @@
 -- A shift, and the lowest bit of what is left.
 use Prim.Native.Nat.{◌/◌, ◌%◌, ◌^◌}
-use borrow.Author.Rules.{rules}
 use lib.Bits.{and_mask}
 use lib.ListN.{get_or}
 use Rattle.wgsl.specs.BitField.{bit_at}

@@ -1,10 +1,8 @@
 -- The members below i are marked, word by word (`InWords`).
 use Prim.Native.Nat.{◌+◌, ◌-◌, ◌%◌, ◌<◌, ◌≤◌}
-use mathlib.Core.Path.{◌≡◌, refl}
-use native.Mathlib.Omega.{arith}
-use borrow.Author.Rules.{rules}
+use mathlib.Core.Path.{◌≡◌}
 use lib.ListN.{length}
-use Rattle.layout_strays.proofs.InWords.{Marked, marked_none, marked_on}
+use Rattle.layout_strays.proofs.InWords.{Marked}
 use Rattle.layout_strays.proofs.marks.mark.Given as goal
 
 abbrev pub invariant-loop-next : goal.invariant-loop-next

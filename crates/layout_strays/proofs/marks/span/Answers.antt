@@ -1,5 +1,4 @@
 -- Ones, by two shifts (`InWords`).
-use borrow.Author.Rules.{rules}
 use Rattle.layout_strays.proofs.InWords.{span_is}
 use Rattle.layout_strays.proofs.marks.span.Goals as goal
 

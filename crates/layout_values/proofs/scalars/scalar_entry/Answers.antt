@@ -2,10 +2,8 @@
 use mathlib.Core.Bool.{not}
 use mathlib.Core.Path.{ap}
 use mathlib.Core.Path.{sym}
-use native.Mathlib.Omega.{arith}
 use Rattle.layout_values.proofs.Unused.{denied, granted}
 use Rattle.layout_values.proofs.ScalarMade.{scalar_used, scalar_laid}
-use borrow.Author.Rules.{rules}
 use Rattle.layout_values.proofs.scalars.scalar_entry.Goals as goal
 
 pub returns-then-not-zeros : goal.returns-then-not-zeros

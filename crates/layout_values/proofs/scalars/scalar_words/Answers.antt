@@ -1,6 +1,5 @@
 -- A quarter, rounded up.
 use native.Mathlib.Omega.{arith}
-use borrow.Author.Rules.{rules}
 use Rattle.wgsl.proofs.ScalarWords.{words_enough, words_needed}
 use Rattle.layout_values.proofs.scalars.scalar_words.Goals as goal
 

@@ -2,7 +2,6 @@
 use Prim.Native.Nat.{min}
 use mathlib.Core.Path.{ap, sym, ◌∙◌}
 use native.Mathlib.Omega.{arith}
-use borrow.Author.Rules.{rules}
 use Rattle.layout_values.proofs.ScalarMade.{stored_bool, stored_number}
 use Rattle.layout_values.proofs.scalars.stored_width.Goals as goal
 

@@ -1,8 +1,7 @@
 -- Each answer is a law of `VectorAlign`, over the width that `scalar_size` ensures.
 use mathlib.Core.Path.{sym}
 use native.Mathlib.Omega.{arith}
-use borrow.Author.Rules.{rules}
-use Rattle.layout_values.proofs.VectorAlign.{align_even, align_four, align_eight, times_bounded, times_fits}
+use Rattle.layout_values.proofs.VectorAlign.{align_even, align_four, align_eight, times_bounded}
 use Rattle.layout_values.proofs.scalars.vector_align.Goals as goal
 
 pub returns-then-rows-ne3 : goal.returns-then-rows-ne3

@@ -1,7 +1,6 @@
 -- By the definition.
 use mathlib.Core.Path.{refl}
 use Rattle.layout_values.specs.Value.{value_at}
-use borrow.Author.Rules.{rules}
 use Rattle.layout_values.proofs.value.value_at.Goals as goal
 
 pub returns : goal.returns

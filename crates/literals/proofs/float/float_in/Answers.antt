@@ -7,7 +7,6 @@ use Rattle.wgsl.specs.Said.{or_refuse}
 use Rattle.wgsl.specs.Rule.{and_then}
 use Rattle.wgsl.specs.Literal.{in_format}
 use Rattle.literals.specs.Formats.{number_in}
-use borrow.Author.Rules.{rules}
 use Rattle.literals.proofs.Parts.{float_refused, float_parts, number_small, power_small}
 use Rattle.literals.proofs.float.float_in.Goals as goal
 

@@ -1,7 +1,6 @@
 -- To itself, to two kinds, or to none (`Parts`).
 use mathlib.Core.Path.{sym, ◌∙◌}
 use native.Mathlib.Omega.{arith}
-use borrow.Author.Rules.{rules}
 use Rattle.wgsl.specs.Types.{f32, f16, abstract_float, scalar_kind}
 use Rattle.wgsl.specs.Said.{or_refuse}
 use Rattle.wgsl.specs.Literal as literal

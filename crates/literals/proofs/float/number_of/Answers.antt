@@ -1,6 +1,5 @@
 -- The fraction, with a 1 before it where there is an exponent (`Parts`).
 use native.Mathlib.Omega.{arith}
-use borrow.Author.Rules.{rules}
 use Rattle.literals.proofs.Parts.{number_low, number_high}
 use Rattle.literals.proofs.float.number_of.Goals as goal
 

@@ -1,6 +1,5 @@
 -- The exponent less one, where there is one (`Parts`).
 use native.Mathlib.Omega.{arith}
-use borrow.Author.Rules.{rules}
 use Rattle.literals.proofs.Parts.{power_low, power_high}
 use Rattle.literals.proofs.float.power_of.Goals as goal
 

@@ -1,7 +1,6 @@
 -- To itself, to the integers, or to a float (`Parts`).
 use mathlib.Core.Path.{sym, ◌∙◌}
 use native.Mathlib.Omega.{arith}
-use borrow.Author.Rules.{rules}
 use Rattle.wgsl.specs.Types.{i32, u32, abstract_int, scalar_kind}
 use Rattle.wgsl.specs.Said.{or_refuse}
 use Rattle.wgsl.specs.Literal as literal

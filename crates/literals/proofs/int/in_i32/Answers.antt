@@ -1,7 +1,6 @@
 -- Below, between and above (`Parts`).
 use mathlib.Core.Path.{sym}
 use native.Mathlib.Omega.{arith}
-use borrow.Author.Rules.{rules}
 use Rattle.literals.proofs.Parts.{i32_low, i32_between, i32_high}
 use Rattle.literals.proofs.int.in_i32.Goals as goal
 

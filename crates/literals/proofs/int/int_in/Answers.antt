@@ -5,7 +5,6 @@ use lib.Dec.{leb}
 use Prim.Native.Nat.{◌*◌, ◌^◌}
 use Rattle.wgsl.specs.Said.{or_refuse}
 use Rattle.wgsl.specs.Literal.{in_format}
-use borrow.Author.Rules.{rules}
 use Rattle.literals.proofs.Parts.{whole_is, whole_small}
 use Rattle.literals.proofs.int.int_in.Goals as goal
 

@@ -1,6 +1,5 @@
 -- The pattern, or what it lacks to 2 ^ 64 (`Parts`).
 use native.Mathlib.Omega.{arith}
-use borrow.Author.Rules.{rules}
 use Rattle.literals.proofs.Parts.{magnitude_low, magnitude_high}
 use Rattle.literals.proofs.int.magnitude.Goals as goal
 

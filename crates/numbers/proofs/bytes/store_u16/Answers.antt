@@ -1,8 +1,5 @@
 -- Two stores are `store 2`.
-use native.Mathlib.Omega.{arith}
-use lib.ListN.{length-set}
 use Rattle.numbers.proofs.Store.{stores_two}
-use borrow.Author.Rules.{rules}
 use Rattle.numbers.proofs.bytes.store_u16.Goals as goal
 
 pub returns : goal.returns

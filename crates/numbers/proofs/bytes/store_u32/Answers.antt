@@ -1,8 +1,5 @@
 -- Four stores are `store 4`.
-use native.Mathlib.Omega.{arith}
-use lib.ListN.{length-set}
 use Rattle.numbers.proofs.Store.{stores_four}
-use borrow.Author.Rules.{rules}
 use Rattle.numbers.proofs.bytes.store_u32.Goals as goal
 
 pub returns : goal.returns

@@ -1,7 +1,6 @@
 -- Two numbers of two bytes are one of four (`load_add`).
 use native.Mathlib.Omega.{arith}
 use Rattle.wgsl.proofs.Number.{load_add}
-use borrow.Author.Rules.{rules}
 use Rattle.numbers.proofs.bytes.u32_at.Goals as goal
 
 pub returns : goal.returns

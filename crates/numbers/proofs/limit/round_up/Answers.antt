@@ -1,9 +1,6 @@
 -- A power of two of 32 bits is at most 2 ^ 31, so that `up_power` has room.
-use mathlib.Core.Path.{ap₂, ap, ◌∙◌}
 use native.Mathlib.Omega.{arith}
-use Rattle.wgsl.specs.Round.{up}
 use Rattle.wgsl.proofs.Power.{power_bounded}
-use Rattle.numbers.specs.Limit.{limited}
 use borrow.Author.Rules.{rules}
 use Rattle.numbers.proofs.limit.round_up.Goals as goal
 

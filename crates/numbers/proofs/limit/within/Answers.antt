@@ -1,7 +1,6 @@
 -- The test is the definition's.
 use mathlib.Core.Path.{sym}
 use Rattle.numbers.proofs.Limited.{limited_within, limited_past}
-use borrow.Author.Rules.{rules}
 use Rattle.numbers.proofs.limit.within.Goals as goal
 
 pub returns-then-n-le4294967295 : goal.returns-then-n-le4294967295

@@ -3,7 +3,7 @@ use native.Mathlib.Omega.{arith}
 use mathlib.Core.Path.{◌≡◌, sym, subst}
 use lib.Bits.{bit_and}
 use Rattle.wgsl.specs.Round.{up}
-use Rattle.wgsl.proofs.Power.{power_positive, exponent_small}
+use Rattle.wgsl.proofs.Power.{exponent_small}
 use Rattle.numbers.proofs.Mask.{cleared}
 use Rattle.numbers.proofs.power.up_power.Goals as goal
 

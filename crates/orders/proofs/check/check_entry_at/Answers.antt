@@ -1,5 +1,4 @@
 -- By the kind of the entry (proofs/MeantStruct). Assumes nothing.
-use borrow.Author.Rules.{rules}
 use mathlib.Core.Path.{sym, ◌∙◌}
 use Rattle.orders.proofs.MeantStruct.{meant_struct, no_struct_lem, order_refused, order_allowed}
 use Rattle.orders.proofs.check.check_entry_at.Goals as goal

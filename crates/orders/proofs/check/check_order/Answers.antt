@@ -4,7 +4,6 @@ use Rattle.wgsl.specs.Types.{Ty}
 use Rattle.walk_decide.specs.Meant.{Meant}
 use Rattle.walk_decide.proofs.Meant.{entry_found, entry_missing, trailer_refused}
 use Rattle.orders.proofs.MeantStruct.{order_refused, members_missing}
-use borrow.Author.Rules.{rules}
 use Rattle.orders.proofs.check.check_order.Goals as goal
 
 -- the entry, found

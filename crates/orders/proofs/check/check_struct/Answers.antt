@@ -5,106 +5,104 @@ use mathlib.Core.Bool.{true, ◌&&◌}
 use mathlib.Core.Option.{some}
 use mathlib.Core.Path.{◌≡◌, ap, sym, ◌∙◌}
 use native.Mathlib.Omega.{arith}
-use borrow.Author.Rules.{rules}
 use borrow.Author.Tests.{not-true, not-false}
 use lib.ListN.{length}
 use Rattle.wgsl.specs.Types.{Members}
 use Rattle.wgsl.specs.Rule.{count_of}
 use Rattle.wgsl.specs.Order.{all_differ, in_order, end_of}
-use Rattle.wgsl.proofs.Absent.{both_hold}
 use Rattle.orders_check.specs.Checked.{all_below, laid_end}
-use Rattle.orders.specs.Promise.{Meant-struct}
+use Rattle.orders.specs.Promise.{StructMeant}
 use Rattle.orders.proofs.OrderOf.{wrong_length, not_once, once, end_nowhere, end_there, end_not_less, none_said, some_said, end_is}
 use Rattle.orders.proofs.check.check_struct.Goals as goal
 
 -- the members are counted
 count : {ms : Members} (c : goal.Then-order-count) →
     let a = c.args in
-    Meant-struct a.members.now a.table.now a.l ms → c.wide-count.result ≡ count_of ms
+    StructMeant a.members.now a.table.now a.l ms → c.wide-count.result ≡ count_of ms
 count c s = c.wide-count.ensures.0 ∙ s.is_struct.count_is
 
 -- the members are counted
 count_2 : {ms : Members} (c : goal.Then-not-all_once) →
     let a = c.args in
-    Meant-struct a.members.now a.table.now a.l ms → c.wide-count.result ≡ count_of ms
+    StructMeant a.members.now a.table.now a.l ms → c.wide-count.result ≡ count_of ms
 count_2 c s = c.wide-count.ensures.0 ∙ s.is_struct.count_is
 
 -- the members are counted
 count_3 : {ms : Members} (c : goal.In_default) →
     let a = c.args in
-    Meant-struct a.members.now a.table.now a.l ms → c.wide-count.result ≡ count_of ms
+    StructMeant a.members.now a.table.now a.l ms → c.wide-count.result ≡ count_of ms
 count_3 c s = c.wide-count.ensures.0 ∙ s.is_struct.count_is
 
 -- the members are counted
 count_4 : {ms : Members} (c : goal.Then-wide-end_now) →
     let a = c.args in
-    Meant-struct a.members.now a.table.now a.l ms → c.wide-count.result ≡ count_of ms
+    StructMeant a.members.now a.table.now a.l ms → c.wide-count.result ≡ count_of ms
 count_4 c s = c.wide-count.ensures.0 ∙ s.is_struct.count_is
 
 -- the members are counted
 count_5 : {ms : Members} (c : goal.Else-wide-end_now) →
     let a = c.args in
-    Meant-struct a.members.now a.table.now a.l ms → c.wide-count.result ≡ count_of ms
+    StructMeant a.members.now a.table.now a.l ms → c.wide-count.result ≡ count_of ms
 count_5 c s = c.wide-count.ensures.0 ∙ s.is_struct.count_is
 
 -- the list is as long as they are
 long : {ms : Members} (c : goal.In_default) →
     let a = c.args in
-    Meant-struct a.members.now a.table.now a.l ms → length a.order.now ≡ count_of ms
+    StructMeant a.members.now a.table.now a.l ms → length a.order.now ≡ count_of ms
 long c s = c.if-order-count.false ∙ count_3 c s
 
 -- the list is as long as they are
 long_2 : {ms : Members} (c : goal.Then-wide-end_now) →
     let a = c.args in
-    Meant-struct a.members.now a.table.now a.l ms → length a.order.now ≡ count_of ms
+    StructMeant a.members.now a.table.now a.l ms → length a.order.now ≡ count_of ms
 long_2 c s = c.if-order-count.false ∙ count_4 c s
 
 -- the list is as long as they are
 long_3 : {ms : Members} (c : goal.Else-wide-end_now) →
     let a = c.args in
-    Meant-struct a.members.now a.table.now a.l ms → length a.order.now ≡ count_of ms
+    StructMeant a.members.now a.table.now a.l ms → length a.order.now ≡ count_of ms
 long_3 c s = c.if-order-count.false ∙ count_5 c s
 
 -- what was asked of it
 asked : {ms : Members} (c : goal.Then-not-all_once) →
     let a = c.args in
-    Meant-struct a.members.now a.table.now a.l ms → c.all_once.result ≡ (all_below (count_of ms) a.order.now && all_differ a.order.now)
+    StructMeant a.members.now a.table.now a.l ms → c.all_once.result ≡ (all_below (count_of ms) a.order.now && all_differ a.order.now)
 asked c s = rw (count_2 c s) at c.all_once.ensures
 
 -- what was asked of it
 asked_2 : {ms : Members} (c : goal.In_default) →
     let a = c.args in
-    Meant-struct a.members.now a.table.now a.l ms → c.all_once.result ≡ (all_below (count_of ms) a.order.now && all_differ a.order.now)
+    StructMeant a.members.now a.table.now a.l ms → c.all_once.result ≡ (all_below (count_of ms) a.order.now && all_differ a.order.now)
 asked_2 c s = rw (count_3 c s) at c.all_once.ensures
 
 -- what was asked of it
 asked_3 : {ms : Members} (c : goal.Then-wide-end_now) →
     let a = c.args in
-    Meant-struct a.members.now a.table.now a.l ms → c.all_once.result ≡ (all_below (count_of ms) a.order.now && all_differ a.order.now)
+    StructMeant a.members.now a.table.now a.l ms → c.all_once.result ≡ (all_below (count_of ms) a.order.now && all_differ a.order.now)
 asked_3 c s = rw (count_4 c s) at c.all_once.ensures
 
 -- what was asked of it
 asked_4 : {ms : Members} (c : goal.Else-wide-end_now) →
     let a = c.args in
-    Meant-struct a.members.now a.table.now a.l ms → c.all_once.result ≡ (all_below (count_of ms) a.order.now && all_differ a.order.now)
+    StructMeant a.members.now a.table.now a.l ms → c.all_once.result ≡ (all_below (count_of ms) a.order.now && all_differ a.order.now)
 asked_4 c s = rw (count_5 c s) at c.all_once.ensures
 
 -- every position is there once
 there : {ms : Members} (c : goal.In_default) →
     let a = c.args in
-    Meant-struct a.members.now a.table.now a.l ms → true ≡ (all_below (count_of ms) a.order.now && all_differ a.order.now)
+    StructMeant a.members.now a.table.now a.l ms → true ≡ (all_below (count_of ms) a.order.now && all_differ a.order.now)
 there c s = sym (not-false _ (ap not c.if-not-all_once.false)) ∙ asked_2 c s
 
 -- every position is there once
 there_2 : {ms : Members} (c : goal.Then-wide-end_now) →
     let a = c.args in
-    Meant-struct a.members.now a.table.now a.l ms → true ≡ (all_below (count_of ms) a.order.now && all_differ a.order.now)
+    StructMeant a.members.now a.table.now a.l ms → true ≡ (all_below (count_of ms) a.order.now && all_differ a.order.now)
 there_2 c s = sym (not-false _ (ap not c.if-not-all_once.false)) ∙ asked_3 c s
 
 -- every position is there once
 there_3 : {ms : Members} (c : goal.Else-wide-end_now) →
     let a = c.args in
-    Meant-struct a.members.now a.table.now a.l ms → true ≡ (all_below (count_of ms) a.order.now && all_differ a.order.now)
+    StructMeant a.members.now a.table.now a.l ms → true ≡ (all_below (count_of ms) a.order.now && all_differ a.order.now)
 there_3 c s = sym (not-false _ (ap not c.if-not-all_once.false)) ∙ asked_4 c s
 
 -- the end as it stands, and in this order
@@ -112,7 +110,7 @@ ends : {ms : Members} (c : goal.Then-wide-end_now) →
     let end = c in
     let call = end in
     let a = call.args in
-    (k : ℕ) → Meant-struct a.members.now a.table.now a.l ms → (new : Members) × (in_order ms a.order.now ≡ some new) × (some end.in-Is.end ≡ laid_end k new) × (c.end_now.result ≡ end_of k ms)
+    (k : ℕ) → StructMeant a.members.now a.table.now a.l ms → (new : Members) × (in_order ms a.order.now ≡ some new) × (some end.in-Is.end ≡ laid_end k new) × (c.end_now.result ≡ end_of k ms)
 ends {ms} c k s =
     let end = c in
     let call = end in
@@ -129,7 +127,7 @@ ends_2 : {ms : Members} (c : goal.Else-wide-end_now) →
     let end = c in
     let call = end in
     let a = call.args in
-    (k : ℕ) → Meant-struct a.members.now a.table.now a.l ms → (new : Members) × (in_order ms a.order.now ≡ some new) × (some end.in-Is.end ≡ laid_end k new) × (c.end_now.result ≡ end_of k ms)
+    (k : ℕ) → StructMeant a.members.now a.table.now a.l ms → (new : Members) × (in_order ms a.order.now ≡ some new) × (some end.in-Is.end ≡ laid_end k new) × (c.end_now.result ≡ end_of k ms)
 ends_2 {ms} c k s =
     let end = c in
     let call = end in

@@ -1,10 +1,8 @@
 -- By whether it is open (specs/Promise). Assumes nothing.
-use mathlib.Core.Path.{◌≡◌, ap, sym, ◌∙◌}
-use borrow.Author.Rules.{rules}
+use mathlib.Core.Path.{ap, sym, ◌∙◌}
 use Rattle.wgsl.proofs.Tail.{closed_extent}
 use Rattle.layout_values.specs.declared.value.Value.{Value}
 use Rattle.layout_values.specs.Value.{value_of}
-use Rattle.walk_decide.specs.declared.Rest.{Rest}
 use Rattle.orders.proofs.check.end_now.Goals as goal
 
 pub returns : goal.returns

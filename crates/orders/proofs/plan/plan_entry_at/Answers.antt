@@ -1,5 +1,4 @@
 -- By the kind of the entry (proofs/MeantStruct). Assumes nothing.
-use borrow.Author.Rules.{rules}
 use Rattle.said.proofs.Answered.{answered_refused, answered_same}
 use Rattle.orders.proofs.MeantStruct.{meant_struct, no_struct_lem, plan_refused, plan_allowed}
 use Rattle.orders.proofs.plan.plan_entry_at.Goals as goal

@@ -1,11 +1,9 @@
 -- The entry that `find` finds, or its refusal, or the trailer's (crates/walk_decide, proofs/Meant). Assumes nothing.
-use mathlib.Core.Path.{sym}
 use Rattle.said.proofs.Answered.{answered_refused}
 use Rattle.wgsl.specs.Types.{Ty}
 use Rattle.walk_decide.specs.Meant.{Meant}
 use Rattle.walk_decide.proofs.Meant.{entry_found, entry_missing, trailer_refused}
 use Rattle.orders.proofs.MeantStruct.{plan_refused, members_missing}
-use borrow.Author.Rules.{rules}
 use Rattle.orders.proofs.plan.plan_order.Goals as goal
 
 -- the entry, found

@@ -1,7 +1,5 @@
 -- By how long the list is (proofs/OrderOf). Assumes nothing.
-use mathlib.Core.Path.{◌∙◌}
 use native.Mathlib.Omega.{arith}
-use borrow.Author.Rules.{rules}
 use Rattle.said.proofs.Answered.{answered_refused, answered_done}
 use Rattle.orders.proofs.OrderOf.{plan_short, plan_there}
 use Rattle.orders.proofs.plan.plan_struct.Goals as goal

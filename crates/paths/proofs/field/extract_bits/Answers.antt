@@ -1,6 +1,5 @@
 -- What `integer_at` finds lies inside the buffer (proofs/IntegerOf); its field is the answer. Assumes nothing.
 use mathlib.Core.Path.{◌≡◌, refl, ap, sym, ◌∙◌}
-use borrow.Author.Rules.{rules}
 use lib.ListN.{length}
 use Rattle.wgsl.specs.Said.{good}
 use Rattle.wgsl.specs.BitFieldCall.{FoundInteger, integer_at}

@@ -1,10 +1,8 @@
 -- The field of an i32 is signed, that of a u32 is not (proofs/IntegerOf). Assumes nothing.
 use Prim.Native.Nat.{ℕ}
 use mathlib.Core.Path.{ap, sym, ◌∙◌}
-use native.Mathlib.Omega.{arith}
-use borrow.Author.Rules.{rules}
 use Rattle.wgsl.specs.BitField.{extracted_u32, extracted_i32}
-use Rattle.paths.proofs.IntegerOf.{at_offset, word_at, field_signed, field_plain}
+use Rattle.paths.proofs.IntegerOf.{word_at, field_signed, field_plain}
 use Rattle.paths.proofs.field.field_of.Goals as goal
 
 pub returns-then-t-eq-I32 : goal.returns-then-t-eq-I32

@@ -1,6 +1,5 @@
 -- What `integer_at` finds lies inside the buffer (proofs/IntegerOf); its word gets the field. Assumes nothing.
 use mathlib.Core.Path.{◌≡◌, refl, ap, sym, ◌∙◌}
-use borrow.Author.Rules.{rules}
 use lib.ListN.{length}
 use Rattle.wgsl.specs.Said.{good, refused}
 use Rattle.wgsl.specs.Call.{answer_of, contents_of}

@@ -1,6 +1,5 @@
 -- What `locate` finds, and 14 (proofs/IntegerOf). Assumes nothing.
 use mathlib.Core.Path.{ap, sym, ◌∙◌}
-use borrow.Author.Rules.{rules}
 use Rattle.paths.specs.Field.{found_in}
 use Rattle.paths.proofs.InBuffer.{reached_good, reached_refused}
 use Rattle.paths.proofs.IntegerOf.{integer_refused, integer_found}

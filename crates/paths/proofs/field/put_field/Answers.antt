@@ -1,11 +1,9 @@
 -- The scalar's word, with the field put into it, in its four bytes (proofs/IntegerOf). Assumes nothing.
 use Prim.Native.Nat.{ℕ}
 use mathlib.Core.Path.{refl, ap, sym, ◌∙◌}
-use native.Mathlib.Omega.{arith}
-use borrow.Author.Rules.{rules}
 use Rattle.wgsl.specs.Number.{store}
 use Rattle.wgsl.specs.BitField.{inserted}
-use Rattle.paths.proofs.IntegerOf.{at_offset, word_at, stored_four}
+use Rattle.paths.proofs.IntegerOf.{word_at, stored_four}
 use Rattle.paths.proofs.field.put_field.Goals as goal
 
 pub returns : goal.returns

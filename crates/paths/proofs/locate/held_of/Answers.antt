@@ -1,7 +1,6 @@
 -- By the laws of `HeldOf`. Assumes nothing.
 use mathlib.Core.Path.{sym, ◌∙◌}
 use native.Mathlib.Omega.{arith}
-use borrow.Author.Rules.{rules}
 use Rattle.paths.proofs.HeldOf.{viewable_value, viewable_well_formed, closed_short, closed_there, open_findable, open_opening}
 use Rattle.paths.proofs.locate.held_of.Goals as goal
 

@@ -2,7 +2,6 @@
 use Prim.Native.Nat.{◌+◌, ◌*◌, ◌≤◌}
 use mathlib.Core.Path.{◌≡◌, sym, ◌∙◌}
 use native.Mathlib.Omega.{arith}
-use borrow.Author.Rules.{rules}
 use Rattle.wgsl.specs.Round.{limit}
 use Rattle.walk_decide.specs.declared.Fits.TheVariants.{Is}
 use Rattle.walk_decide.specs.Decide.{elements_found}

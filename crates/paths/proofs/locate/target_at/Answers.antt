@@ -1,6 +1,5 @@
 -- What `allow` says decides (crates/walk_decide, proofs/EntryFor); the entry has what its walk asks (proofs/TargetCall). Assumes nothing.
 use mathlib.Core.Path.{◌≡◌, ap, sym, ◌∙◌}
-use borrow.Author.Rules.{rules}
 use Rattle.wgsl.specs.Types.{Ty}
 use Rattle.wgsl.specs.Said.{good, refused}
 use Rattle.wgsl.specs.Call.{allowed}
@@ -44,11 +43,11 @@ target_in-requires c =
 
 pub returns-in-Refused : goal.returns-in-Refused
 returns-in-Refused c t b x l =
-    ap reached (sym (target_refused _ _ _ _ b (for_refused _ _ _ b t x.entry_is_lem (rw (← l) at (stopped c x)))))
+    ap reached (sym (target_refused _ _ _ _ b (for_refused _ _ _ b t x.is_entry (rw (← l) at (stopped c x)))))
 
 pub returns-in-Yes : goal.returns-in-Yes
 returns-in-Yes c t b x l =
     let told = c in
     let a = allowed_laid _ t _ (passed_2 told x) in
     c.target_in.ensures _ t b (entry_viewable x a.0) l
-    ∙ ap reached (sym (target_allowed _ _ _ _ b (for_allowed _ _ _ b t x.entry_is_lem (rw (← l) at (passed_2 told x)))))
+    ∙ ap reached (sym (target_allowed _ _ _ _ b (for_allowed _ _ _ b t x.is_entry (rw (← l) at (passed_2 told x)))))

@@ -1,10 +1,8 @@
 -- One scalar or none, and as many words as it takes (proofs/SetTarget). Assumes nothing.
 use mathlib.Core.Bool.{not}
-use Prim.Native.Nat.{◌^◌}
 use mathlib.Core.Path.{◌≡◌, refl, ap, sym, ◌∙◌}
 use mathlib.Core.Bool.{true}
 use native.Mathlib.Omega.{arith}
-use borrow.Author.Rules.{rules}
 use Rattle.wgsl.specs.Types.{is_scalar_kind}
 use Rattle.layout_values.proofs.Unused.{denied, granted}
 use Rattle.paths.specs.Set.{fit_of}

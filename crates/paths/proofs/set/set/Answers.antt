@@ -1,7 +1,6 @@
 -- The target that `locate` finds has room for a scalar (proofs/InBuffer); what is left of the call (proofs/SetTarget). Assumes nothing.
 use mathlib.Core.Path.{◌≡◌, refl}
 use mathlib.Core.Bool.{true}
-use borrow.Author.Rules.{rules}
 use lib.ListN.{length}
 use Rattle.wgsl.specs.Said.{good, refused}
 use Rattle.wgsl.specs.Path as path

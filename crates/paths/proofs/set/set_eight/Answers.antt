@@ -1,6 +1,5 @@
 -- Another number of words than two, or two (proofs/SetTarget). Assumes nothing.
 use mathlib.Core.Path.{refl}
-use borrow.Author.Rules.{rules}
 use Rattle.said.proofs.Answered.{answered_refused, answered_done}
 use Rattle.paths.proofs.SetTarget.{two_or_none, stored_eight}
 use Rattle.paths.proofs.set.set_eight.Goals as goal

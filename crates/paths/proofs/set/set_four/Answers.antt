@@ -1,7 +1,6 @@
 -- Another number of words than one, or one (proofs/SetTarget). Assumes nothing.
 use mathlib.Core.Path.{refl}
 use native.Mathlib.Omega.{arith}
-use borrow.Author.Rules.{rules}
 use Rattle.said.proofs.Answered.{answered_refused, answered_done}
 use Rattle.paths.proofs.SetTarget.{one_or_none, stored_four}
 use Rattle.paths.proofs.set.set_four.Goals as goal

@@ -1,10 +1,9 @@
 -- One scalar or none, of two, four or eight bytes (proofs/SetTarget). Assumes nothing.
 use mathlib.Core.Bool.{not}
 use mathlib.Core.Path.{ap}
-use mathlib.Core.Path.{◌≡◌, sym, ◌∙◌}
+use mathlib.Core.Path.{◌≡◌}
 use mathlib.Core.Bool.{true}
 use native.Mathlib.Omega.{arith}
-use borrow.Author.Rules.{rules}
 use Rattle.wgsl.specs.Types.{is_scalar_kind}
 use Rattle.layout_values.proofs.Unused.{denied, granted}
 use Rattle.said.proofs.Answered.{answered_refused, answered_same}

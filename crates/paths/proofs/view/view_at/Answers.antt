@@ -1,6 +1,5 @@
 -- What `locate` answers. Assumes nothing.
 use mathlib.Core.Path.{refl}
-use borrow.Author.Rules.{rules}
 use Rattle.wgsl.specs.Call.{view_call, target_call}
 use Rattle.paths.proofs.view.view_at.Goals as goal
 

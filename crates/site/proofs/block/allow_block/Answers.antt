@@ -1,6 +1,5 @@
 -- What `allow` says, and then 21 (`BlockGround`).
-use mathlib.Core.Path.{◌≡◌, sym, ◌∙◌}
-use borrow.Author.Rules.{rules}
+use mathlib.Core.Path.{sym, ◌∙◌}
 use Rattle.site.proofs.BlockGround.{block_stopped, block_none, block_good}
 use Rattle.site.proofs.block.allow_block.Goals as goal
 

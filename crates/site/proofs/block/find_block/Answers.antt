@@ -1,6 +1,5 @@
 -- The entry that `find` finds, and what is allowed of it (`BlockGround`).
-use mathlib.Core.Path.{◌≡◌, ap, sym, ◌∙◌}
-use borrow.Author.Rules.{rules}
+use mathlib.Core.Path.{ap, sym, ◌∙◌}
 use Rattle.file.specs.Fields.{said_trailer}
 use Rattle.walk_decide.proofs.Meant.{entry_found, entry_missing, trailer_refused, entry_value, entry_well_formed}
 use Rattle.site.proofs.BlockGround.{ground_missing, ground_stopped, ground_found}
@@ -23,10 +22,10 @@ returns-in-Refused-allow_block c =
     let r = c in
     let there = rw c.in-Is.is at c.find.ensures in
     let x = entry_found _ _ _ _ there in
-    ground_stopped _ _ _ _ x.1.entry_is_lem (rw r.in-Refused-allow_block.is at (c.allow_block.ensures x.0 (entry_value x.1) (entry_well_formed x.1)))
+    ground_stopped _ _ _ _ x.1.is_entry (rw r.in-Refused-allow_block.is at (c.allow_block.ensures x.0 (entry_value x.1) (entry_well_formed x.1)))
 
 pub returns-in-Yes : goal.returns-in-Yes
 returns-in-Yes c =
     let there = rw c.in-Is.is at c.find.ensures in
     let x = entry_found _ _ _ _ there in
-    there ∙ ground_found _ _ _ _ x.1.entry_is_lem (rw c.in-Yes.is at (c.allow_block.ensures x.0 (entry_value x.1) (entry_well_formed x.1)))
+    there ∙ ground_found _ _ _ _ x.1.is_entry (rw c.in-Yes.is at (c.allow_block.ensures x.0 (entry_value x.1) (entry_well_formed x.1)))

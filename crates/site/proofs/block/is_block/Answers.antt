@@ -1,10 +1,8 @@
 -- By the type that the value is of (`IsBlock`).
 use Prim.Native.Nat.{◌^◌}
-use mathlib.Core.Path.{◌≡◌, refl, ap, sym, ◌∙◌}
+use mathlib.Core.Path.{ap, sym, ◌∙◌}
 use native.Mathlib.Omega.{arith}
-use borrow.Author.Rules.{rules}
 use lib.Dec.{ltb}
-use Rattle.wgsl.specs.Types.{struct_kind, kind_of}
 use Rattle.layout_values.specs.declared.value.Value.{Value}
 use Rattle.layout_values.specs.Value.{value_of}
 use Rattle.site.proofs.IsBlock.{struct_by_kind, no_struct_lem, open_struct_lem, many_members, block_by_mask}

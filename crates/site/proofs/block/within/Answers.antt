@@ -1,10 +1,4 @@
 -- Nothing is left of a mask that is short (`none_left`).
-use Prim.Native.Nat.{◌^◌}
-use mathlib.Core.Path.{◌≡◌, ap, sym, ◌∙◌}
-use native.Mathlib.Omega.{arith}
-use borrow.Author.Rules.{rules}
-use borrow.Author.Tests.{lt-ltb}
-use lib.Dec.{ltb}
 use Rattle.site.proofs.IsBlock.{none_left}
 use Rattle.site.proofs.block.within.Goals as goal
 

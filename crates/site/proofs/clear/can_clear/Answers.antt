@@ -1,7 +1,5 @@
 -- The block that `find_block` finds, or its refusal (`ClearCall`).
-use Prim.Native.Nat.{ℕ}
-use mathlib.Core.Path.{◌≡◌, ap, sym, ◌∙◌}
-use borrow.Author.Rules.{rules}
+use mathlib.Core.Path.{ap, sym, ◌∙◌}
 use Rattle.wgsl.specs.Types.{Ty}
 use Rattle.wgsl.specs.Site.{block_entry}
 use Rattle.site.specs.Block.{BlockAt}

@@ -1,6 +1,5 @@
 -- What `can_clear` says (`ClearCall`), and the mask without the bit.
-use mathlib.Core.Path.{◌≡◌, sym, ap, ◌∙◌}
-use borrow.Author.Rules.{rules}
+use mathlib.Core.Path.{◌∙◌}
 use Rattle.site.proofs.ClearCall.{clear_refused, clear_good, clear_low, mask_refused, mask_done}
 use Rattle.site.proofs.clear.clear.Goals as goal
 

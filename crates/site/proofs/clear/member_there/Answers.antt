@@ -1,6 +1,4 @@
 -- What the member step leads to (`ClearCall`).
-use mathlib.Core.Path.{◌≡◌}
-use borrow.Author.Rules.{rules}
 use Rattle.walk_path.specs.Step.{step_is}
 use Rattle.walk_path.specs.Way.{Enters}
 use Rattle.walk_path.proofs.Enters.{next}

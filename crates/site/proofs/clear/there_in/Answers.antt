@@ -1,6 +1,4 @@
 -- The entry has what a step asks (`SpotCall`).
-use mathlib.Core.Path.{◌≡◌}
-use borrow.Author.Rules.{rules}
 use Rattle.wgsl.specs.Place.{shape_of}
 use Rattle.site.proofs.SpotCall.{standing}
 use Rattle.site.proofs.clear.there_in.Goals as goal

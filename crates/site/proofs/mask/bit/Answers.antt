@@ -1,5 +1,4 @@
 -- A shift, and the lowest bit of what is left.
-use borrow.Author.Rules.{rules}
 use lib.Bits.{and_mask}
 use Prim.Native.Nat.{◌/◌, ◌^◌}
 use Rattle.wgsl.specs.BitField.{bit_at}

@@ -1,8 +1,6 @@
 -- A number of 64 bits has none from there on (`bit_above`).
-use Prim.Native.Nat.{◌^◌}
-use mathlib.Core.Path.{◌≡◌, sym}
+use mathlib.Core.Path.{sym}
 use native.Mathlib.Omega.{arith}
-use borrow.Author.Rules.{rules}
 use Rattle.wgsl.proofs.Bit.{bit_above}
 use Rattle.site.proofs.mask.is_set.Goals as goal
 

@@ -1,10 +1,6 @@
 -- A bit that is set stays, and one that is clear is added (`with_short`).
-use Prim.Native.Nat.{◌+◌, ◌^◌}
-use mathlib.Core.Path.{◌≡◌, refl, ap, sym, ◌∙◌}
-use mathlib.Core.Bool.{true, false, cond}
+use mathlib.Core.Path.{refl, sym, ◌∙◌}
 use native.Mathlib.Omega.{arith}
-use borrow.Author.Rules.{rules}
-use Rattle.wgsl.specs.BitField.{bit_at}
 use Rattle.wgsl.specs.Site.{with_bit}
 use Rattle.wgsl.proofs.SiteMask.{with_short}
 use Rattle.site.proofs.IsBlock.{one_shifted}

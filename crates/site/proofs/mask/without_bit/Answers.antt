@@ -1,9 +1,6 @@
 -- A bit that is set is taken away (`held_below`), and one that is clear stays so.
-use Prim.Native.Nat.{◌-◌, ◌^◌}
-use mathlib.Core.Path.{◌≡◌, refl, ap, sym, ◌∙◌}
-use mathlib.Core.Bool.{true, false, cond}
+use mathlib.Core.Path.{refl, sym, ◌∙◌}
 use native.Mathlib.Omega.{arith}
-use borrow.Author.Rules.{rules}
 use Rattle.wgsl.specs.Site.{without_bit}
 use Rattle.wgsl.proofs.SiteMask.{held_below}
 use Rattle.site.proofs.IsBlock.{one_shifted}

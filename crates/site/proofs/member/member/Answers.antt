@@ -1,16 +1,11 @@
 -- The member lies in both buffers (`MemberFound`), and its bit says which is handed back.
-use Prim.Native.Nat.{◌+◌, ◌-◌, ◌<◌}
-use mathlib.Core.Bool.{cond}
-use mathlib.Core.Path.{◌≡◌, refl, ap, sym, ◌∙◌}
+use mathlib.Core.Path.{◌≡◌, refl, ap, ◌∙◌}
 use native.Mathlib.Omega.{arith}
-use borrow.Author.Rules.{rules}
-use lib.ListN.{length, take, drop}
 use Rattle.wgsl.specs.Path as path
-use Rattle.wgsl.specs.Place.{span_of}
 use Rattle.wgsl.specs.Call.{part_of, part_start}
 use Rattle.wgsl.specs.Site.{shown_in, handed_from}
 use Rattle.said.specs.declared.target.Target.{Target}
-use Rattle.said.specs.Target.{target_is, after}
+use Rattle.said.specs.Target.{target_is}
 use Rattle.site.proofs.MemberFound.{MemberAt, reached_at, reached_none, shown_part, shown_place}
 use Rattle.site.proofs.member.member.Goals as goal
 

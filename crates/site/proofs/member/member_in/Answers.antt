@@ -1,6 +1,4 @@
 -- A path of no steps leads to the member (`MemberFound`).
-use mathlib.Core.Path.{◌≡◌}
-use borrow.Author.Rules.{rules}
 use Rattle.site.proofs.MemberFound.{member_refused, member_led}
 use Rattle.site.proofs.member.member_in.Goals as goal
 

@@ -1,9 +1,6 @@
 -- The member and the target that `locate_in` finds, and the words that `store_in` stores (`SiteSet`).
-use Prim.Native.Nat.{◌+◌, ◌<◌}
-use mathlib.Core.Path.{◌≡◌, refl, ap, sym, ◌∙◌}
+use mathlib.Core.Path.{refl, ap, ◌∙◌}
 use native.Mathlib.Omega.{arith}
-use borrow.Author.Rules.{rules}
-use lib.ListN.{length}
 use Rattle.site.specs.declared.spot.Spot.{Spot}
 use Rattle.site.proofs.SiteSet.{SpotThere, spot_there, set_stopped, words_refused, words_stored, site_refused, site_done_lem}
 use Rattle.site.proofs.set.set.Goals as goal

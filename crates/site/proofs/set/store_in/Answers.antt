@@ -1,15 +1,11 @@
 -- Words that fit are stored (`StoreIn`).
 use Prim.Native.Nat.{ℕ}
 use mathlib.Core.List.{List}
-use mathlib.Core.Path.{◌≡◌, refl, ap, sym, ◌∙◌}
+use mathlib.Core.Path.{ap, ◌∙◌}
 use native.Mathlib.Omega.{arith}
-use borrow.Author.Rules.{rules}
 use lib.ListN.{length}
-use Rattle.wgsl.specs.Path as path
 use Rattle.wgsl.specs.Call.{answer_of, contents_of, set_target}
 use Rattle.said.proofs.Answered.{answered_refused}
-use Rattle.said.specs.declared.target.Target.{Target}
-use Rattle.paths.specs.Set.{InBuffer}
 use Rattle.site.specs.Set.{brought_in}
 use Rattle.site.proofs.StoreIn.{length_brought, fit_refused, fit_left}
 use Rattle.site.proofs.set.store_in.Goals as goal

@@ -1,7 +1,5 @@
 -- The block that `find_block` finds, or its refusal (`SpotCall`).
-use Prim.Native.Nat.{ℕ, max}
-use mathlib.Core.Path.{◌≡◌, ap, sym, ◌∙◌}
-use borrow.Author.Rules.{rules}
+use Prim.Native.Nat.{max}
 use Rattle.wgsl.specs.Types.{Ty}
 use Rattle.site.specs.Block.{BlockAt}
 use Rattle.site.proofs.InBoth.{in_missing}

@@ -1,7 +1,6 @@
 -- What the member step leads to (crates/walk_path, proofs/Enters), and then the path (`SpotFound`).
-use mathlib.Core.Path.{◌≡◌, ◌∙◌}
+use mathlib.Core.Path.{◌∙◌}
 use native.Mathlib.Omega.{arith}
-use borrow.Author.Rules.{rules}
 use Rattle.walk_path.specs.Step.{step_is}
 use Rattle.walk_path.specs.Way.{Enters}
 use Rattle.walk_path.proofs.Enters.{next}

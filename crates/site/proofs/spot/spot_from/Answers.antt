@@ -1,6 +1,4 @@
 -- What the walk says (`SpotFound`).
-use mathlib.Core.Path.{◌≡◌}
-use borrow.Author.Rules.{rules}
 use Rattle.site.proofs.SpotFound.{from_stopped, from_led}
 use Rattle.site.proofs.spot.spot_from.Goals as goal
 

@@ -1,9 +1,8 @@
 -- 15, or the member (`InBoth`, `SpotCall`).
 use Prim.Native.Nat.{ℕ, max}
-use mathlib.Core.Bool.{Bool, ◌&&◌}
+use mathlib.Core.Bool.{◌&&◌}
 use mathlib.Core.List.{List}
-use mathlib.Core.Path.{◌≡◌, ap, sym, ◌∙◌}
-use borrow.Author.Rules.{rules}
+use mathlib.Core.Path.{◌≡◌, sym, ◌∙◌}
 use lib.Dec.{leb}
 use lib.ListN.{length}
 use Rattle.wgsl.specs.Size.{present, size_of}

@@ -1,18 +1,13 @@
 -- The block that `find_block` finds, and whether both buffers have its size (`InBoth`, `StartCall`).
-use Prim.Native.Nat.{ℕ, ◌-◌, ◌^◌, max}
+use Prim.Native.Nat.{◌-◌, ◌^◌, max}
 use mathlib.Core.Bool.{◌&&◌}
 use mathlib.Core.List.{◌++◌}
 use mathlib.Core.Path.{◌≡◌, ap, sym, ◌∙◌}
-use native.Mathlib.Omega.{arith}
-use borrow.Author.Rules.{rules}
-use borrow.Author.Tests.{leb-true}
 use lib.Dec.{leb}
 use lib.ListN.{length, take, drop}
 use Rattle.wgsl.specs.Size.{present, size_of}
 use Rattle.wgsl.specs.Types.{Ty}
-use Rattle.wgsl.specs.Said.{good}
 use Rattle.wgsl.specs.Site.{every_bit, copied_whole}
-use Rattle.wgsl.proofs.Absent.{both_hold}
 use Rattle.site.specs.Block.{BlockAt}
 use Rattle.site.proofs.InBoth.{in_missing, in_short, in_both}
 use Rattle.site.proofs.SpotCall.{ground_refused, ground_at, size_is, count_is, count_low}

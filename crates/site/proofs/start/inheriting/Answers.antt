@@ -1,6 +1,4 @@
 -- The block that `find_block` finds, or its refusal (`StartCall`).
-use mathlib.Core.Path.{◌≡◌, sym}
-use borrow.Author.Rules.{rules}
 use Rattle.site.proofs.SpotCall.{ground_refused, ground_at}
 use Rattle.site.proofs.ClearCall.{mask_refused, mask_done}
 use Rattle.site.proofs.StartCall.{inheriting_missing, inheriting_there}

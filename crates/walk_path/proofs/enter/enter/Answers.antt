@@ -1,5 +1,4 @@
 -- A step is a member step or an index step, from an entry or from a column, which has no members.
-use borrow.Author.Rules.{rules}
 use Rattle.walk_path.specs.Step.{step_is}
 use Rattle.walk_path.specs.Way.{Enters}
 use Rattle.walk_path.proofs.IndexStep.{column_no_member}

@@ -1,8 +1,6 @@
 -- A column's scalars lie one after the other, each of the size that the scalar's layout says.
-use native.Mathlib.Omega.{arith}
-use borrow.Author.Rules.{rules}
 use Rattle.walk_path.specs.Way.{Enters}
-use Rattle.walk_path.proofs.IndexStep.{column_inside, column_past, scalar_offset, scalar_enters}
+use Rattle.walk_path.proofs.IndexStep.{column_inside, column_past, scalar_enters}
 use Rattle.walk_path.proofs.enter.enter_column.Goals as goal
 
 pub returns-then-count-number : goal.returns-then-count-number

@@ -1,6 +1,5 @@
 -- Kinds 7 to 10 have parts, which are numbered below their count.
 use native.Mathlib.Omega.{arith}
-use borrow.Author.Rules.{rules}
 use Rattle.walk_path.specs.Way.{Parted, Enters}
 use Rattle.walk_path.proofs.IndexStep.{entry_inside, entry_found, no_index, past_end}
 use Rattle.walk_path.proofs.enter.enter_index.Goals as goal

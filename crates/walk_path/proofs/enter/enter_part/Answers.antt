@@ -1,7 +1,5 @@
 -- A part lies its number of strides on: a column over the scalar's entry, or the entry itself.
-use native.Mathlib.Omega.{arith}
-use borrow.Author.Rules.{rules}
-use Rattle.walk_path.proofs.IndexStep.{entry_inside, part_inside, part_offset, column_size, part_size, column_enters, part_enters}
+use Rattle.walk_path.proofs.IndexStep.{entry_inside, part_inside, part_size, column_enters, part_enters}
 use Rattle.walk_path.proofs.enter.enter_part.Goals as goal
 
 pub value_at-r-requires : goal.value_at-r-requires

@@ -1,6 +1,5 @@
 -- A scalar's layout says its kind; an atomic's refers to it; nothing else is one scalar.
 use mathlib.Core.Path.{sym, ◌∙◌}
-use borrow.Author.Rules.{rules}
 use Rattle.walk_path.proofs.IndexStep.{entry_inside, entry_found, column_no_scalar, no_scalar_lem, its_scalar, atomic_scalar}
 use Rattle.walk_path.proofs.enter.kind_in.Goals as goal
 

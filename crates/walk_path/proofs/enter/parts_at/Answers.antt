@@ -1,5 +1,4 @@
 -- A runtime array has n parts; any other entry has those of its layout.
-use borrow.Author.Rules.{rules}
 use borrow.Author.Tests.{eq-eqb, ne_eqb}
 use Rattle.walk_path.specs.Way.{parts_at}
 use Rattle.walk_path.proofs.enter.parts_at.Goals as goal

@@ -1,5 +1,4 @@
 use native.Mathlib.Omega.{arith}
-use borrow.Author.Rules.{rules}
 use borrow.Author.Tests.{eq-eqb, ne_eqb}
 use Rattle.walk_path.specs.Way.{size_at}
 use Rattle.walk_path.proofs.enter.size_at.Goals as goal

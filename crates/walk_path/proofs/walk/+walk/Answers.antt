@@ -1,9 +1,8 @@
 -- A walk meets its contract: each step enters the place that it stands at, and the steps that are left get fewer.
-use Prim.Native.Nat.{ℕ, ◌-◌, ◌<◌}
+use Prim.Native.Nat.{ℕ, ◌<◌}
 use mathlib.Core.List.{List, map}
 use mathlib.Core.Path.{◌≡◌, sym, ap}
 use native.Mathlib.Omega.{arith}
-use borrow.Author.Rules.{rules}
 use lib.Arith.{lt_of_le-ne}
 use lib.ListN.{length, drop, get_or}
 use Rattle.wgsl.specs.Types.{Ty}
@@ -14,10 +13,6 @@ use Rattle.wgsl.specs.Path.{step_of, enter}
 use Rattle.walk_path.specs.Way.{Standing, Enters}
 use Rattle.said.specs.Target.{reached}
 use Rattle.walk_path.proofs.Enters.{Next, next, walk_end, walk_on, walk_refused}
-use Rattle.walk_path.proofs.walk.walk.Reads as walk
-use Rattle.walk_path.proofs.enter.enter.Reads as enter-reads
-use Rattle.walk_path.proofs.enter.kind_in.Reads as kind-in-reads
-use Rattle.walk_path.proofs.step.step_of.Reads as step-of-reads
 use Rattle.walk_path.proofs.walk.+walk.Goals as goal
 
 -- a step is left

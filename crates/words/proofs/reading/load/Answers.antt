@@ -3,7 +3,6 @@
 use mathlib.Core.Path.{sym, ◌∙◌}
 use Rattle.wgsl.specs.Place.{shape_of}
 use Rattle.walk_decide.proofs.Whole.{fixed_room, rest_room, loaded_whole}
-use borrow.Author.Rules.{rules}
 use Rattle.words.proofs.reading.load.Goals as goal
 
 pub read_entry-requires : goal.read_entry-requires

@@ -9,7 +9,6 @@ use Rattle.layout_values.specs.Value.{words_in}
 use Rattle.walk_decide.proofs.Whole.{ready_words, closed_whole}
 use Rattle.walk_decide.proofs.ReadyBounds.{size_is}
 use Rattle.words.proofs.ReadType.{few_bytes, few_words, all_read}
-use borrow.Author.Rules.{rules}
 use Rattle.words.proofs.reading.read_closed.Goals as goal
 
 -- 15 is passed, and 14

@@ -10,7 +10,6 @@ use Rattle.walk_decide.specs.Whole.{TailedBy, Whole}
 use Rattle.walk_decide.proofs.Whole.{open_whole}
 use Rattle.walk_decide.proofs.ReadyBounds.{words_few, tailed_words, elements_few}
 use Rattle.walk_decide.proofs.CallSteps.{loaded_few, loaded_done}
-use borrow.Author.Rules.{rules}
 use Rattle.words.proofs.reading.read_elements.Goals as goal
 
 -- what the code counts

@@ -5,7 +5,6 @@ use Rattle.wgsl.specs.Types.{Ty}
 use Rattle.walk_decide.specs.Whole.{Tailed, TailedBy}
 use Rattle.walk_decide.proofs.ReadyBounds.{stride_above}
 use Rattle.words.proofs.ReadType.{no_elements, some_elements}
-use borrow.Author.Rules.{rules}
 use Rattle.words.proofs.reading.read_open.Goals as goal
 
 -- the tail that is found

@@ -5,7 +5,6 @@ use native.Mathlib.Omega.{arith}
 use Rattle.walk_decide.proofs.Whole.{fixed_words_lem, whole_words, tested_bad, tested_good}
 use Rattle.runs.proofs.OverPlaces.{tested_widths}
 use Rattle.words_test.proofs.TestSteps.{places_moved}
-use borrow.Author.Rules.{rules}
 use Rattle.words.proofs.writing.scan.Goals as goal
 
 pub scan_entry-requires : goal.scan_entry-requires

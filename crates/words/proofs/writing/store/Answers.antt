@@ -3,7 +3,6 @@
 -- Assumes nothing.
 use mathlib.Core.Path.{◌∙◌}
 use native.Mathlib.Omega.{arith}
-use borrow.Author.Rules.{rules}
 use Rattle.wgsl.specs.Place.{shape_of}
 use Rattle.walk_decide.proofs.Whole.{fixed_room, rest_room, covered_room, stored_cleared, stored_covered}
 use Rattle.words.proofs.writing.store.Goals as goal

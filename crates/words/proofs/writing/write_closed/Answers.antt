@@ -5,7 +5,6 @@ use Rattle.said.proofs.Answered.{answered_refused, answered_same}
 use Rattle.layout_values.specs.Value.{words_in}
 use Rattle.walk_decide.proofs.Whole.{ready_words, closed_whole}
 use Rattle.words.proofs.WriteType.{wrong_words, fixed_extent, few_bytes, all_there}
-use borrow.Author.Rules.{rules}
 use Rattle.words.proofs.writing.write_closed.Goals as goal
 
 -- the words that the code counts

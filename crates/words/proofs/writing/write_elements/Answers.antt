@@ -10,7 +10,6 @@ use Rattle.walk_decide.specs.Whole.{TailedBy, Whole}
 use Rattle.walk_decide.proofs.Whole.{open_whole}
 use Rattle.walk_decide.proofs.ReadyBounds.{stride_above, elements_few}
 use Rattle.words.proofs.WriteType.{no_room, room}
-use borrow.Author.Rules.{rules}
 use Rattle.words.proofs.writing.write_elements.Goals as goal
 
 -- where the elements end, and that this is within the buffer

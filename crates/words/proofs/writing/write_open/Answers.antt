@@ -5,7 +5,6 @@ use Rattle.wgsl.specs.Types.{Ty}
 use Rattle.walk_decide.specs.Whole.{Tailed, TailedBy}
 use Rattle.walk_decide.proofs.ReadyBounds.{fixed_few}
 use Rattle.words.proofs.WriteType.{no_elements, some_elements}
-use borrow.Author.Rules.{rules}
 use Rattle.words.proofs.writing.write_open.Goals as goal
 
 -- the tail that is found

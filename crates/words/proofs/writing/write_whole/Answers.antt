@@ -1,9 +1,8 @@
 -- By what the scan says (crates/walk_decide, proofs/CallSteps).
-use mathlib.Core.Path.{sym, ◌∙◌}
+use mathlib.Core.Path.{◌∙◌}
 use native.Mathlib.Omega.{arith}
 use Rattle.said.proofs.Answered.{answered_refused, answered_done}
 use Rattle.walk_decide.proofs.CallSteps.{stored_bad, stored_done}
-use borrow.Author.Rules.{rules}
 use Rattle.words.proofs.writing.write_whole.Goals as goal
 
 pub returns-in-Refused : goal.returns-in-Refused

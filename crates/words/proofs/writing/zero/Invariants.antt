@@ -1,11 +1,8 @@
 -- What is written so far: zeros below i, and the buffer as it was from i on.
 use Prim.Native.Nat.{◌-◌, ◌≤◌}
 use mathlib.Core.List.{◌++◌}
-use mathlib.Core.Path.{◌≡◌, refl, ap, ◌∙◌}
-use native.Mathlib.Omega.{arith}
-use borrow.Author.Rules.{rules}
+use mathlib.Core.Path.{◌≡◌}
 use lib.ListN.{length, drop, replicate}
-use Rattle.words.proofs.Zeros.{zeroed_next, zeroed_length}
 use Rattle.words.proofs.writing.zero.Given as goal
 
 abbrev pub invariant-loop-i : goal.invariant-loop-i

@@ -1,10 +1,8 @@
 use Prim.Native.Nat.{◌-◌}
-use mathlib.Core.Path.{◌≡◌, refl, ◌∙◌}
-use native.Mathlib.Omega.{arith}
-use borrow.Author.Rules.{rules}
+use mathlib.Core.Path.{◌≡◌}
 use lib.ListN.{length}
 use Rattle.runs.specs.Fold.{loading}
-use Rattle.walk_pieces.proofs.Pass.{Passed, pass_start, PieceRoom, piece_listed, piece_room, pass_next, pass_all}
+use Rattle.walk_pieces.proofs.Pass.{Passed}
 use Rattle.words_pieces.proofs.reading.read_pieces.Given as goal
 
 abbrev pub invariant-loop-j : goal.invariant-loop-j

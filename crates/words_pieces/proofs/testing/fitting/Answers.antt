@@ -1,14 +1,13 @@
 -- Each turn of the loop passes one element more (`each_more`, crates/walk_pieces, proofs/Pass).
 -- Assumes nothing.
-use Prim.Native.Nat.{ℕ, ◌+◌, ◌-◌, ◌*◌, ◌≤◌}
-use mathlib.Core.Path.{◌≡◌, refl}
+use Prim.Native.Nat.{◌+◌, ◌*◌}
+use mathlib.Core.Path.{refl}
 use native.Mathlib.Omega.{arith}
-use borrow.Author.Rules.{rules}
 use lib.ListN.{length}
 use Rattle.wgsl.specs.Said.{good}
 use Rattle.wgsl.specs.Place.{repeated}
 use Rattle.runs.specs.Fold.{over_places, testing}
-use Rattle.walk_pieces.specs.Piece.{pieces_places, PiecesRoom}
+use Rattle.walk_pieces.specs.Piece.{PiecesRoom}
 use Rattle.walk_pieces.proofs.Pass.{each_more}
 use Rattle.words_pieces.proofs.testing.fitting.Goals as goal
 

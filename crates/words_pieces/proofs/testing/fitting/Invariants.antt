@@ -1,13 +1,9 @@
-use Prim.Native.Nat.{ℕ, ◌+◌, ◌-◌, ◌*◌, ◌≤◌}
-use mathlib.Core.Path.{◌≡◌, refl}
-use native.Mathlib.Omega.{arith}
-use borrow.Author.Rules.{rules}
-use lib.ListN.{length}
+use Prim.Native.Nat.{ℕ, ◌-◌, ◌≤◌}
+use mathlib.Core.Path.{◌≡◌}
 use Rattle.wgsl.specs.Said.{good}
 use Rattle.wgsl.specs.Place.{repeated}
 use Rattle.runs.specs.Fold.{over_places, testing}
-use Rattle.walk_pieces.specs.Piece.{pieces_places, PiecesRoom}
-use Rattle.walk_pieces.proofs.Pass.{each_more}
+use Rattle.walk_pieces.specs.Piece.{pieces_places}
 use Rattle.words_pieces.proofs.testing.fitting.Given as goal
 
 abbrev pub invariant-loop-i : goal.invariant-loop-i

@@ -1,16 +1,11 @@
 -- Each turn of the loop passes one piece (`Passed`, crates/walk_pieces, proofs/Pass). Its words are there whether they fit or not: that is
 -- the pass that does nothing.
 -- Assumes nothing.
-use Prim.Native.Nat.{ℕ, ◌-◌, ◌≤◌}
 use mathlib.Core.Path.{refl}
 use native.Mathlib.Omega.{arith}
-use borrow.Author.Rules.{rules}
 use lib.ListN.{length}
-use Rattle.wgsl.specs.Said.{good}
-use Rattle.wgsl.specs.Place.{Place}
-use Rattle.runs.specs.Fold.{over_places, testing}
-use Rattle.walk_pieces.proofs.Pass.{Passed, pass_start, PieceRoom, piece_listed, piece_room, pass_next, pass_all}
-use Rattle.words_pieces.proofs.testing.largest_of.Invariants.{idle}
+use Rattle.runs.specs.Fold.{over_places}
+use Rattle.walk_pieces.proofs.Pass.{pass_start, PieceRoom, piece_room, pass_next}
 use Rattle.words_pieces.proofs.testing.largest_of.Goals as goal
 
 -- the piece whose turn it is

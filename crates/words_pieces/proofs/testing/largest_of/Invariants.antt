@@ -1,12 +1,8 @@
 use Prim.Native.Nat.{ℕ, ◌-◌, ◌≤◌}
-use mathlib.Core.Path.{refl}
-use native.Mathlib.Omega.{arith}
-use borrow.Author.Rules.{rules}
-use lib.ListN.{length}
 use Rattle.wgsl.specs.Said.{good}
 use Rattle.wgsl.specs.Place.{Place}
-use Rattle.runs.specs.Fold.{over_places, testing}
-use Rattle.walk_pieces.proofs.Pass.{Passed, pass_start, PieceRoom, piece_listed, piece_room, pass_next, pass_all}
+use Rattle.runs.specs.Fold.{testing}
+use Rattle.walk_pieces.proofs.Pass.{Passed}
 use Rattle.words_pieces.proofs.testing.largest_of.Given as goal
 
 pub idle : Place → ℕ → Unit {0} → Unit {0}

@@ -1,13 +1,10 @@
 -- Each turn of the loop writes one element (`Repeating`, crates/runs, proofs/OverPlaces).
 -- Assumes nothing.
-use Prim.Native.Nat.{◌+◌, ◌-◌, ◌*◌}
-use mathlib.Core.Path.{◌≡◌, refl, ◌∙◌}
-use native.Mathlib.Omega.{arith}
-use borrow.Author.Rules.{rules}
+use Prim.Native.Nat.{◌+◌, ◌*◌}
+use mathlib.Core.Path.{◌∙◌}
 use lib.ListN.{length}
-use Rattle.runs.specs.Fold.{storing}
-use Rattle.walk_pieces.specs.Piece.{pieces_places, PiecesRoom}
-use Rattle.runs.proofs.OverPlaces.{Repeating, repeating_start, repeating_next, repeating_all}
+use Rattle.walk_pieces.specs.Piece.{PiecesRoom}
+use Rattle.runs.proofs.OverPlaces.{repeating_next, repeating_all}
 use Rattle.words_pieces.proofs.writing.write_each.Goals as goal
 
 -- the element whose turn it is

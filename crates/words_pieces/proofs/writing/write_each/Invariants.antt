@@ -1,11 +1,9 @@
-use Prim.Native.Nat.{◌+◌, ◌-◌, ◌*◌}
-use mathlib.Core.Path.{◌≡◌, refl, ◌∙◌}
-use native.Mathlib.Omega.{arith}
-use borrow.Author.Rules.{rules}
+use Prim.Native.Nat.{◌-◌}
+use mathlib.Core.Path.{◌≡◌}
 use lib.ListN.{length}
 use Rattle.runs.specs.Fold.{storing}
-use Rattle.walk_pieces.specs.Piece.{pieces_places, PiecesRoom}
-use Rattle.runs.proofs.OverPlaces.{Repeating, repeating_start, repeating_next, repeating_all}
+use Rattle.walk_pieces.specs.Piece.{pieces_places}
+use Rattle.runs.proofs.OverPlaces.{Repeating}
 use Rattle.words_pieces.proofs.writing.write_each.Given as goal
 
 abbrev pub invariant-loop-i : goal.invariant-loop-i

@@ -1,12 +1,9 @@
 -- Each turn of the loop writes one piece (`Passed`, crates/walk_pieces, proofs/Pass).
 -- Assumes nothing.
-use Prim.Native.Nat.{◌-◌}
-use mathlib.Core.Path.{◌≡◌, refl, ◌∙◌}
+use mathlib.Core.Path.{refl, ◌∙◌}
 use native.Mathlib.Omega.{arith}
-use borrow.Author.Rules.{rules}
 use lib.ListN.{length}
-use Rattle.runs.specs.Fold.{storing}
-use Rattle.walk_pieces.proofs.Pass.{Passed, pass_start, PieceRoom, piece_listed, piece_room, pass_next, pass_all}
+use Rattle.walk_pieces.proofs.Pass.{pass_start, PieceRoom, piece_room, pass_next}
 use Rattle.words_pieces.proofs.writing.write_pieces.Goals as goal
 
 -- the piece whose turn it is
