@@ -1,11 +1,11 @@
 # The commands of the README, and of oracle/README.md.
 .PHONY: shim cli install uninstall example run test edits compare record bench
 
-# The C interface for x86-64: target/shim/liblepugaso.a and .so, under shim/include/lepugaso.h, which says the version. The .so is a link;
-# its time is that of the file it leads to.
+# The C interface for x86-64: target/shim/liblepugaso.a and .so, under shim/include/lepugaso.h, which says the version. What `rt` keeps in
+# crates/*/out/ is no source.
 shim: target/shim/liblepugaso.so
 target/shim/liblepugaso.so: crates.txt tools/shim tools/shim-object shim/include/lepugaso.h \
-    $(shell find crates shim/src -name '*.rt' -o -name '*.antt' -o -name '*.rs')
+    $(shell find crates shim/src -path 'crates/*/out' -prune -o \( -name '*.rt' -o -name '*.antt' -o -name '*.rs' \) -print)
 	@tools/shim
 
 # The command over it: target/cli/lepugaso.
