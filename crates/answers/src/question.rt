@@ -3,17 +3,8 @@ ghost use Rattle.std.specs.Prelude.{◌≤◌, length};
 ghost use Rattle.answers.specs.Count.{Counted};
 
 use crate::lines::{copy, numbers, same};
-use crate::say::{
-    say, say_bytes, say_cleaned, say_layout, say_mask, say_moved, say_number, say_pattern,
-    say_plain, say_shown, say_walked, say_words,
-};
-use lepugaso::{
-    align, check, check_order, clean, common, convert, extract_bits, extract_bits_u32, insert_bits,
-    insert_bits_u32, layout, min_size, plan_order, rank, read, set, site_clear, site_fresh,
-    site_inheriting, site_member, site_member_at, site_set, site_shows, size, to_form_1, to_form_2,
-    uniform, view, view_at, view_mut, write,
-};
-use said::answer::{Moved, Number};
+use crate::say::{say, say_bytes, say_cleaned, say_layout, say_mask, say_moved, say_number, say_pattern, say_plain, say_shown, say_walked, say_words};
+use lepugaso::{align, check, check_order, clean, common, convert, extract_bits, extract_bits_u32, insert_bits, insert_bits_u32, layout, min_size, plan_order, rank, read, set, site_clear, site_fresh, site_inheriting, site_member, site_member_at, site_set, site_shows, size, to_form_1, to_form_2, uniform, view, view_at, view_mut, write};
 use std::io::{self, Write};
 
 // Writes words to a copy of the buffer, which stays as it is for other questions, and says what the copy holds then.
@@ -172,7 +163,7 @@ fn answer_clean<W: Write>(out: &mut W, file: &[u8], entry: u32, held: &[u8]) -> 
 }
 
 // Moves a file to form 1 or 2.
-fn moved(file: &[u8], form_1: bool, out: &mut [u8]) -> Moved {
+fn moved(file: &[u8], form_1: bool, out: &mut [u8]) -> Result<usize, Refusal> {
     if form_1 {
         return to_form_1(file, out);
     }
@@ -401,12 +392,12 @@ fn answer<W: Write>(out: &mut W, file: &[u8], word: &[u8], ns: &[u32]) -> io::Re
     }
     if ns.len() == 3 {
         if same(word, b"extract_u32") {
-            return say_number(out, Number::Is(extract_bits_u32(ns[0], ns[1], ns[2])));
+            return say_number(out, Ok(extract_bits_u32(ns[0], ns[1], ns[2])));
         }
     }
     if ns.len() == 4 {
         if same(word, b"insert_u32") {
-            return say_number(out, Number::Is(insert_bits_u32(ns[0], ns[1], ns[2], ns[3])));
+            return say_number(out, Ok(insert_bits_u32(ns[0], ns[1], ns[2], ns[3])));
         }
         if same(word, b"convert") {
             return say_pattern(out, convert(ns[0], joined(ns[1], ns[2]), ns[3]));

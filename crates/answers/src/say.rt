@@ -1,8 +1,6 @@
 // Answers as text, put to a writer. An error is the writer's own.
 use crate::lines::spell;
-use said::answer::{Answer, Cleaned, Maybe, Moved, Number, Pattern};
 use said::refusal::{Refusal, number, place};
-use said::target::Walked;
 use std::io::{self, Write};
 
 pub fn say<W: Write>(out: &mut W, text: &[u8]) -> io::Result<()> {
@@ -16,64 +14,64 @@ fn say_refused<W: Write>(out: &mut W, r: Refusal) -> io::Result<()> {
 }
 
 // An answer, without the end of its line.
-pub fn say_plain<W: Write>(out: &mut W, n: Number) -> io::Result<()> {
+pub fn say_plain<W: Write>(out: &mut W, n: Result<u32, Refusal>) -> io::Result<()> {
     match n {
-        Number::Is(v) => write!(out, "{v}"),
-        Number::Refused(r) => say_refused(out, r),
+        Ok(v) => write!(out, "{v}"),
+        Err(r) => say_refused(out, r),
     }
 }
 
 // The answer of a move, without the end of its line.
-pub fn say_moved<W: Write>(out: &mut W, m: Moved) -> io::Result<()> {
+pub fn say_moved<W: Write>(out: &mut W, m: Result<usize, Refusal>) -> io::Result<()> {
     match m {
-        Moved::Is(v) => write!(out, "{v}"),
-        Moved::Refused(r) => say_refused(out, r),
+        Ok(v) => write!(out, "{v}"),
+        Err(r) => say_refused(out, r),
     }
 }
 
 // What cleaning changed, how many bytes and the offset of the first, without the end of its line.
-pub fn say_cleaned<W: Write>(out: &mut W, c: Cleaned) -> io::Result<()> {
+pub fn say_cleaned<W: Write>(out: &mut W, c: Result<Gaps, Refusal>) -> io::Result<()> {
     match c {
-        Cleaned::Is(g) => {
+        Ok(g) => {
             let changed = g.changed;
             let first = g.first;
             write!(out, "{changed} {first}")
         }
-        Cleaned::Refused(r) => say_refused(out, r),
+        Err(r) => say_refused(out, r),
     }
 }
 
 // The pattern of a literal.
-pub fn say_pattern<W: Write>(out: &mut W, p: Pattern) -> io::Result<()> {
+pub fn say_pattern<W: Write>(out: &mut W, p: Result<u64, Refusal>) -> io::Result<()> {
     match p {
-        Pattern::Is(bits) => write!(out, "{bits}")?,
-        Pattern::Refused(r) => say_refused(out, r)?,
+        Ok(bits) => write!(out, "{bits}")?,
+        Err(r) => say_refused(out, r)?,
     }
     say(out, b"\n")
 }
 
-pub fn say_number<W: Write>(out: &mut W, n: Number) -> io::Result<()> {
+pub fn say_number<W: Write>(out: &mut W, n: Result<u32, Refusal>) -> io::Result<()> {
     say_plain(out, n)?;
     say(out, b"\n")
 }
 
-fn say_maybe<W: Write>(out: &mut W, m: Maybe, end: &[u8]) -> io::Result<()> {
+fn say_maybe<W: Write>(out: &mut W, m: Option<u32>, end: &[u8]) -> io::Result<()> {
     match m {
-        Maybe::Is(v) => write!(out, "{v}")?,
-        Maybe::Absent => say(out, b"-")?,
+        Some(v) => write!(out, "{v}")?,
+        None => say(out, b"-")?,
     }
     say(out, end)
 }
 
-pub fn say_layout<W: Write>(out: &mut W, a: Answer) -> io::Result<()> {
+pub fn say_layout<W: Write>(out: &mut W, a: Result<Sizes, Refusal>) -> io::Result<()> {
     match a {
-        Answer::Is(s) => {
+        Ok(s) => {
             say_maybe(out, s.size, b" ")?;
             say_maybe(out, s.align, b" ")?;
             say_maybe(out, s.min, b" ")?;
             say_maybe(out, s.stride, b"\n")
         }
-        Answer::Refused(r) => {
+        Err(r) => {
             say_refused(out, r)?;
             say(out, b"\n")
         }
@@ -101,14 +99,14 @@ pub fn say_words<W: Write>(out: &mut W, words: &[u32]) -> io::Result<()> {
 }
 
 // Where a path leads: its offset and how many bytes it has, or a refusal.
-pub fn say_walked<W: Write>(out: &mut W, w: Walked) -> io::Result<()> {
+pub fn say_walked<W: Write>(out: &mut W, w: Result<Target, Refusal>) -> io::Result<()> {
     match w {
-        Walked::To(t) => {
+        Ok(t) => {
             let offset = t.offset;
             let size = t.size;
             write!(out, "{offset} {size}")
         }
-        Walked::Refused(r) => say_refused(out, r),
+        Err(r) => say_refused(out, r),
     }
 }
 
@@ -118,14 +116,14 @@ pub fn say_mask<W: Write>(out: &mut W, mask: u64) -> io::Result<()> {
 }
 
 // Where a member lies: its offset, how many bytes it has and which buffer shows it, or a refusal.
-pub fn say_shown<W: Write>(out: &mut W, w: Walked, on: bool) -> io::Result<()> {
+pub fn say_shown<W: Write>(out: &mut W, w: Result<Target, Refusal>, on: bool) -> io::Result<()> {
     match w {
-        Walked::To(t) => {
+        Ok(t) => {
             let offset = t.offset;
             let size = t.size;
             let whose = if on { "site" } else { "factory" };
             write!(out, "{offset} {size} {whose}")
         }
-        Walked::Refused(r) => say_refused(out, r),
+        Err(r) => say_refused(out, r),
     }
 }

@@ -2,6 +2,7 @@
 --
 -- In order: the entries of a list; what the table's answer tells; the rank of two entries; the common type of a list.
 -- Assumes nothing.
+use Rattle.std.specs.Prelude.{Err, Result}
 use Prim.Native.Nat.{ℕ, ◌<◌, ◌≤◌}
 use mathlib.Core.Bool.{Bool, true, false}
 use mathlib.Core.List.{List, [], ◌∷◌}
@@ -22,8 +23,6 @@ use Rattle.said.specs.Refusal.{number_of, place_of}
 use Rattle.said.specs.declared.refusal.Refusal.{Refusal}
 use Rattle.file.specs.declared.trailer.Trailer.{Trailer}
 use Rattle.layout_table.specs.Table.{accepted_trailer, said_checked}
-use Rattle.layout_table.specs.declared.Checked.{Checked}
-use Rattle.layout_table.specs.declared.Checked.TheVariants.{Refused}
 use Rattle.layout_table.proofs.SaidTable.{Taken, told_refused}
 use Rattle.convert_rank.specs.Ranked.{Pair}
 use Rattle.wgsl.proofs.AtEntry.{get_elem_past, get_elem_get_d}
@@ -63,13 +62,13 @@ none_listed ts (e ∷ es) h = absurd (omega arith)
 
 -- ---- what the table's answer tells
 
-module _ (f : List ℕ) (answer : Checked) (says : said_checked answer ≡ accepted_trailer f) where
+module _ (f : List ℕ) (answer : Result Trailer Refusal) (says : said_checked answer ≡ accepted_trailer f) where
   -- Of a file that the table refuses both questions are refused so.
-  pub rank_refused : (a b : ℕ) (r : Refusal) → answer ≡ Refused r → refused (number_of r) (place_of r) ≡ rank_call f a b
+  pub rank_refused : (a b : ℕ) (r : Refusal) → answer ≡ Err r → refused (number_of r) (place_of r) ≡ rank_call f a b
   unfolding rank_call entry_of
   rank_refused a b r is = sym (then_refused _ (then_refused _ (told_refused f answer says r is)))
 
-  pub common_refused : (es : List ℕ) (r : Refusal) → answer ≡ Refused r → refused (number_of r) (place_of r) ≡ common_call f es
+  pub common_refused : (es : List ℕ) (r : Refusal) → answer ≡ Err r → refused (number_of r) (place_of r) ≡ common_call f es
   unfolding common_call
   common_refused es r is = sym (then_refused _ (told_refused f answer says r is))
 

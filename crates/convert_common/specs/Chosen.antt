@@ -7,11 +7,6 @@ use Rattle.wgsl.specs.Said.{good}
 use Rattle.wgsl.specs.File.{trailer_of}
 use Rattle.wgsl.specs.Rule.{types_of}
 use Rattle.wgsl.specs.Rank.{Candidate}
-use Rattle.convert_common.specs.declared.Chosen.{Chosen}
-
-abbrev pub chosen_is : Chosen → Option ℕ
-chosen_is (Chosen.Is e) = some e
-chosen_is Chosen.No = none
 
 unfoldable pub all_below : List ℕ → ℕ → Bool
 all_below [] types = true

@@ -1,16 +1,10 @@
 -- What ranks of the code say, in the words of crates/wgsl, and what its functions ask.
 -- Definitions only. Assumes nothing.
 use Rattle.std.specs.Prelude.{ℕ, ◌<◌, ◌≡◌, cond, List, eqb, length}
-use Rattle.std.proofs.Math.Option.{Option, none, some}
 use Rattle.wgsl.specs.Types.{Scalar, Ty, vector, matrix, atomic, vector_kind, matrix_kind}
 use Rattle.wgsl.specs.Said.{good}
 use Rattle.wgsl.specs.File.{trailer_of, TypeEntry}
 use Rattle.wgsl.specs.Rule.{types_of}
-use Rattle.convert_rank.specs.declared.scalar.Ranked.{Ranked}
-
-abbrev pub rank_is : Ranked → Option ℕ
-rank_is (Ranked.Is n) = some n
-rank_is Ranked.No = none
 
 -- two entries of an accepted file, whose type entries begin at `start`
 pub record Pair (f : List ℕ) (ts : List Ty) (start a b : ℕ) : Type 0 where

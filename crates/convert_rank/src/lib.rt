@@ -12,9 +12,10 @@ ghost use Rattle.wgsl.specs.File.{type_entry_length, trailer_of, type_entry_at};
 ghost use Rattle.wgsl.specs.Rule.{types_of};
 ghost use Rattle.wgsl.specs.Rank.{rank_of};
 ghost use Rattle.file.specs.Fields.{entry_is};
-ghost use Rattle.convert_rank.specs.Ranked.{rank_is, Pair, over_scalar};
+ghost use Rattle.convert_rank.specs.Ranked.{Pair, over_scalar};
+ghost use Rattle.said.specs.Answer.{maybe_of};
 
-use crate::scalar::{Ranked, scalar_rank};
+use crate::scalar::scalar_rank;
 use file::fields::{TYPE_ENTRY_LENGTH, TypeEntry, entry_at};
 use file::kinds::{ARRAY, MATRIX, RUNTIME, STRUCT, VECTOR, is_scalar};
 use numbers::wide::wide;
@@ -28,36 +29,36 @@ fn entry_of(f: &[u8], start: usize, k: usize) -> TypeEntry
 }
 
 // The rank of two types of one kind over scalars of kinds `u` and `v`: two vectors, two matrices or two atomics, with the fields `x` and `y`.
-fn over_scalar_rank(x: TypeEntry, y: TypeEntry, u: u32, v: u32) -> Ranked
+fn over_scalar_rank(x: TypeEntry, y: TypeEntry, u: u32, v: u32) -> Option<u32>
     requires { x.kind ≡ y.kind }
-    ensures { (s t : Scalar) → scalar_kind s ≡ u → scalar_kind t ≡ v → rank_is result ≡ rank_of (over_scalar (entry_is x) s) (over_scalar (entry_is y) t) }
+    ensures { (s t : Scalar) → scalar_kind s ≡ u → scalar_kind t ≡ v → maybe_of result ≡ rank_of (over_scalar (entry_is x) s) (over_scalar (entry_is y) t) }
 {
     if x.kind == VECTOR {
         if x.rows != y.rows {
-            return Ranked::No;
+            return None;
         }
         return scalar_rank(u, v);
     }
     if x.kind == MATRIX {
         if x.columns != y.columns {
-            return Ranked::No;
+            return None;
         }
         if x.rows != y.rows {
-            return Ranked::No;
+            return None;
         }
         return scalar_rank(u, v);
     }
     // atomics convert to nothing else
     if u == v {
-        return Ranked::Is(0);
+        return Some(0);
     }
-    Ranked::No
+    None
 }
 
 // The rank of entry `a` to entry `b` of an accepted file whose entries begin at `start`. Walks both types down by their references.
-pub fn entry_rank(f: &[u8], start: usize, a: usize, b: usize) -> Ranked
+pub fn entry_rank(f: &[u8], start: usize, a: usize, b: usize) -> Option<u32>
     requires { (ts : List Ty) × Pair f.now ts start a b }
-    ensures { (ts : List Ty) (s t : Ty) → types_of f.now ≡ good ts → get_elem? ts a ≡ some s → get_elem? ts b ≡ some t → rank_is result ≡ rank_of s t }
+    ensures { (ts : List Ty) (s t : Ty) → types_of f.now ≡ good ts → get_elem? ts a ≡ some s → get_elem? ts b ≡ some t → maybe_of result ≡ rank_of s t }
 {
     let x = entry_of(f, start, a);
     let y = entry_of(f, start, b);
@@ -65,23 +66,23 @@ pub fn entry_rank(f: &[u8], start: usize, a: usize, b: usize) -> Ranked
         if is_scalar(y.kind) {
             return scalar_rank(x.kind, y.kind);
         }
-        return Ranked::No;
+        return None;
     }
     if x.kind != y.kind {
-        return Ranked::No;
+        return None;
     }
     // "structs by entry number"
     if x.kind == STRUCT {
         if a == b {
-            return Ranked::Is(0);
+            return Some(0);
         }
-        return Ranked::No;
+        return None;
     }
     let p = wide(x.reference);
     let q = wide(y.reference);
     if x.kind == ARRAY {
         if x.count != y.count {
-            return Ranked::No;
+            return None;
         }
         return entry_rank(f, start, p, q);
     }

@@ -27,11 +27,6 @@ pub struct Trailer {
     pub form: u32,
 }
 
-#[derive(Clone, Copy)]
-pub enum Trailered {
-    Good(Trailer),
-    Refused(Refusal),
-}
 
 // The fields of the trailer, where the file has one.
 pub fn trailer_fields(f: &[u8]) -> Trailer
@@ -80,21 +75,21 @@ pub fn length_by(types: u32, members: u32, start: u32, form: u32) -> usize
 }
 
 // The trailer, or the first of the refusals 1 to 4.
-pub fn check_trailer(f: &[u8]) -> Trailered
+pub fn check_trailer(f: &[u8]) -> Result<Trailer, Refusal>
     ensures { said_trailer result ≡ check_trailer f.now }
 {
     if f.len() < TRAILER_LENGTH {
-        return Trailered::Refused(Refusal::Short);
+        return Err(Refusal::Short);
     }
     let t = trailer_fields(f);
     if form_unknown(t.form) {
-        return Trailered::Refused(Refusal::Form);
+        return Err(Refusal::Form);
     }
     if counts_wrong(t.types, t.members) {
-        return Trailered::Refused(Refusal::Counts);
+        return Err(Refusal::Counts);
     }
     if f.len() != length_by(t.types, t.members, t.start, t.form) {
-        return Trailered::Refused(Refusal::Length);
+        return Err(Refusal::Length);
     }
-    Trailered::Good(t)
+    Ok(t)
 }

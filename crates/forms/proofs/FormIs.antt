@@ -2,6 +2,7 @@
 --
 -- In order: by its tests; what an answer tells.
 -- Assumes nothing.
+use Rattle.std.specs.Prelude.{Err, Ok, Result}
 use Prim.Native.Nat.{ℕ, ◌<◌, ◌≤◌}
 use mathlib.Core.List.{List}
 use mathlib.Core.Path.{◌≡◌, refl, ap, sym, ◌∙◌}
@@ -19,8 +20,6 @@ use Rattle.said.specs.declared.refusal.Refusal.{Refusal}
 use Rattle.file.specs.Fields.{trailer_is}
 use Rattle.file.specs.declared.trailer.Trailer.{Trailer}
 use Rattle.layout_table.specs.Table.{accepted_trailer, said_checked}
-use Rattle.layout_table.specs.declared.Checked.{Checked}
-use Rattle.layout_table.specs.declared.Checked.TheVariants.{Types, Refused}
 use Rattle.forms.specs.OfForm.{trailer_of_form}
 
 module _ (form : ℕ) (f : List ℕ) where
@@ -44,15 +43,15 @@ module _ (form : ℕ) (f : List ℕ) where
 
   -- ---- what an answer tells
 
-  module _ (answer : Checked) (says : said_checked answer ≡ trailer_of_form form f) where
-    pub told_form : (t : Trailer) → answer ≡ Types t → OfForm form f × (trailer_is t ≡ trailer_of f)
+  module _ (answer : Result Trailer Refusal) (says : said_checked answer ≡ trailer_of_form form f) where
+    pub told_form : (t : Trailer) → answer ≡ Ok t → OfForm form f × (trailer_is t ≡ trailer_of f)
     unfolding trailer_of_form
     told_form t is =
         let x = next_good (form_is form f) (good (trailer_of f)) (sym says ∙ ap said_checked is) in
         (form_only form f x.0, cc x.1)
 
     -- A file that is refused is no file of this form.
-    pub told_other : (r : Refusal) → answer ≡ Refused r → form_is form f ≡ refused (number_of r) (place_of r)
+    pub told_other : (r : Refusal) → answer ≡ Err r → form_is form f ≡ refused (number_of r) (place_of r)
     unfolding trailer_of_form ◌>>◌
     told_other r is = go (form_is form f) (sym says ∙ ap said_checked is)
       where

@@ -2,6 +2,7 @@
 --
 -- In order: once the entry is decided; a type of fixed size; an open type; an entry with n elements, swept.
 -- Assumes nothing.
+use Rattle.std.specs.Prelude.{None, Some}
 use Prim.Native.Nat.{ℕ, ◌<◌, ◌≤◌}
 use mathlib.Core.Bool.{true, false}
 use mathlib.Core.List.{List}
@@ -20,7 +21,6 @@ use Rattle.wgsl.proofs.Opened.{opened_extent}
 use Rattle.layout_values.specs.declared.value.Value.{Value}
 use Rattle.runs.specs.Fold.{over_places}
 use Rattle.walk_decide.specs.declared.Rest.{Rest}
-use Rattle.walk_decide.specs.declared.Fits.TheVariants.{Is, No}
 use Rattle.walk_decide.specs.Decide.{elements_found}
 use Rattle.walk_decide.specs.Whole.{Ready, TailedBy, Whole}
 use Rattle.walk_decide.proofs.Whole.{both_parts}
@@ -55,13 +55,13 @@ module _ {ms : List ℕ} {table : List (List ℕ)} {e : ℕ} {l : Value} {t : Ty
 -- ---- an open type
 
 module _ {ms : List ℕ} {table : List (List ℕ)} {e : ℕ} {x : Rest} {t : Ty} (y : TailedBy ms table e x t) (b : List ℕ) where
-  pub no_elements : elements_found (length b) x.offset x.value.stride ≡ No → clean_type t b ≡ refused 15 0
+  pub no_elements : elements_found (length b) x.offset x.value.stride ≡ None → clean_type t b ≡ refused 15 0
   unfolding clean_type ◌>>◌ refuse
   no_elements h =
       let z = y.tailed in
       rw (found_short t (tailed_open z) x.offset x.value.stride (rw y.tail_is z.opened.tail_is) b h) refl
 
-  pub some_elements : {n : ℕ} → elements_found (length b) x.offset x.value.stride ≡ Is n → (extent_of n t ≤ length b) × (clean_type t b ≡ good (done_from (extent_of n t) b (cleaned n t b)))
+  pub some_elements : {n : ℕ} → elements_found (length b) x.offset x.value.stride ≡ Some n → (extent_of n t ≤ length b) × (clean_type t b ≡ good (done_from (extent_of n t) b (cleaned n t b)))
   unfolding clean_type ◌>>◌ refuse
   some_elements {n} h =
       let z = y.tailed in

@@ -6,20 +6,20 @@ ghost use Rattle.wgsl.specs.Types.{Ty, is_open};
 ghost use Rattle.wgsl.specs.Place.{extent_of};
 ghost use Rattle.wgsl.specs.Clean.{clean_call, clean_after};
 ghost use Rattle.wgsl.specs.Round.{limit};
-ghost use Rattle.said.specs.Answer.{said_cleaned, gaps_of};
+ghost use Rattle.said.specs.Answer.{said, gaps_of};
 ghost use Rattle.walk_decide.specs.Whole.{Ready, Tailed, Whole};
 ghost use Rattle.walk_decide.specs.Meant.{Meant};
 ghost use Rattle.gaps.specs.Promise.{WholeCleaned, ClosedCleaned, OpenCleaned, MeantCleaned};
 
-use file::trailer::{Trailered, check_trailer};
+use file::trailer::check_trailer;
 use gaps_sweep::gap::{Sweep, sweep_to};
 use gaps_walk::{sweep_entry, sweep_many};
-use layout_table::{Ground, Grounded, find};
+use layout_table::{Ground, find};
 use layout_values::value::{Row, Value, blank, opens};
 use numbers::wide::wide;
-use said::answer::{Cleaned, Gaps};
+use said::answer::Gaps;
 use said::refusal::Refusal;
-use walk_decide::{Allowed, Fits, Rest, allow, closed_rest, elements_in, open_rest, rest_of};
+use walk_decide::{Rest, allow, closed_rest, elements_in, open_rest, rest_of};
 use walk_pieces::no_pieces;
 
 // Sweeps an entry of so many bytes: the fixed part, then the tail, then up to the end.
@@ -50,41 +50,41 @@ fn clean_whole(
 }
 
 // 15 for a type of fixed size.
-fn clean_closed(members: &[u8], table: &[Row], e: usize, l: Value, buf: &mut [u8]) -> Cleaned
+fn clean_closed(members: &[u8], table: &[Row], e: usize, l: Value, buf: &mut [u8]) -> Result<Gaps, Refusal>
     requires { ((t : Ty) × Ready members.now table.now e l t × (is_open t ≡ false)) × (length buf.old ≤ limit) }
     ensures { ClosedCleaned members.now table.now e l result buf.old buf.new }
 {
     let extent = wide(l.size);
     if buf.len() < extent {
-        return Cleaned::Refused(Refusal::Buffer);
+        return Err(Refusal::Buffer);
     }
-    Cleaned::Is(clean_whole(members, table, e, closed_rest(l), extent, buf))
+    Ok(clean_whole(members, table, e, closed_rest(l), extent, buf))
 }
 
 // 15 for an open type.
-fn clean_open(members: &[u8], table: &[Row], e: usize, l: Value, buf: &mut [u8]) -> Cleaned
+fn clean_open(members: &[u8], table: &[Row], e: usize, l: Value, buf: &mut [u8]) -> Result<Gaps, Refusal>
     requires { ((t : Ty) × Tailed members.now table.now e l t) × (length buf.old ≤ limit) }
     ensures { OpenCleaned members.now table.now e l result buf.old buf.new }
 {
     let x = rest_of(members, table, l);
     match elements_in(buf.len(), x.offset, x.value.stride) {
-        Fits::No => Cleaned::Refused(Refusal::Buffer),
-        Fits::Is(n) => {
+        None => Err(Refusal::Buffer),
+        Some(n) => {
             let extent = x.offset + n * wide(x.value.stride);
-            Cleaned::Is(clean_whole(members, table, e, open_rest(x, n as u32), extent, buf))
+            Ok(clean_whole(members, table, e, open_rest(x, n as u32), extent, buf))
         }
     }
 }
 
 // 17, 9, 10, and then the rest.
-fn clean_entry_at(file: &[u8], e: usize, g: Ground, table: &[Row], buf: &mut [u8]) -> Cleaned
+fn clean_entry_at(file: &[u8], e: usize, g: Ground, table: &[Row], buf: &mut [u8]) -> Result<Gaps, Refusal>
     requires { (t : Ty) × Meant file.now e g table.now t }
     ensures { MeantCleaned file.now e g table.now result buf.old buf.new }
 {
     let l = g.value;
     match allow(l, buf.len(), true) {
-        Allowed::Refused(r) => Cleaned::Refused(r),
-        Allowed::Yes => {
+        Err(r) => Err(r),
+        Ok(()) => {
             let start = g.start;
             let end = g.end;
             let members = &file[start..end];
@@ -99,17 +99,17 @@ fn clean_entry_at(file: &[u8], e: usize, g: Ground, table: &[Row], buf: &mut [u8
 // Every byte of entry `entry` in the buffer that no scalar covers becomes zero; answers how many bytes changed, and the offset of the first
 // (the extent if none did). Bytes after the extent stay.
 // Refuses 1 to 7, 24 (file), 8, 17, 9 (no layout), 10, 15.
-pub fn clean(file: &[u8], entry: u32, buf: &mut [u8]) -> Cleaned
-    ensures answer { said_cleaned result ≡ gaps_of (clean_call file.now entry buf.old) }
+pub fn clean(file: &[u8], entry: u32, buf: &mut [u8]) -> Result<Gaps, Refusal>
+    ensures answer { said result ≡ gaps_of (clean_call file.now entry buf.old) }
     ensures buffer { buf.new ≡ clean_after buf.old (clean_call file.now entry buf.old) }
 {
     match check_trailer(file) {
-        Trailered::Refused(r) => Cleaned::Refused(r),
-        Trailered::Good(t) => {
+        Err(r) => Err(r),
+        Ok(t) => {
             let mut table = blank();
             match find(file, t, entry, &mut table) {
-                Grounded::Refused(r) => Cleaned::Refused(r),
-                Grounded::Is(g) => clean_entry_at(file, wide(entry), g, &table, buf),
+                Err(r) => Err(r),
+                Ok(g) => clean_entry_at(file, wide(entry), g, &table, buf),
             }
         }
     }

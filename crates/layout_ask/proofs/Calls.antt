@@ -3,6 +3,7 @@
 -- In order: 0 for an absent number; minimum sizes; the check; the layout of an entry; what it tells: three numbers asked alone, and all
 -- four at once.
 -- Assumes nothing.
+use Rattle.std.specs.Prelude.{Err, Ok, Result}
 use Prim.Native.Nat.{ℕ, ◌≤◌}
 use mathlib.Core.Bool.{true}
 use mathlib.Core.List.{List}
@@ -29,16 +30,12 @@ use Rattle.layout_values.proofs.ValuesOf.{own_reference}
 use Rattle.layout_values.specs.Value.{parts_of, stride_in, value_of}
 use Rattle.layout_values.specs.declared.value.Value.{Value}
 use Rattle.layout_table.specs.Table.{accepted_trailer, said_checked, ground_of, ground_in, said_ground}
-use Rattle.layout_table.specs.declared.Checked.{Checked}
-use Rattle.layout_table.specs.declared.Checked.TheVariants.{Types, Refused}
 use Rattle.layout_table.specs.declared.Ground.{Ground}
-use Rattle.layout_table.specs.declared.Grounded.{Grounded}
-use Rattle.layout_table.specs.declared.Grounded.TheVariants as grounded
 use Rattle.layout_table.proofs.SaidTable.{inner, trailer_refused, told, told_refused}
 use Rattle.layout_table.proofs.GroundIn.{ground_told, ground_told_refused}
 use Rattle.layout_ask.specs.ValueFound.{marked}
-use Rattle.layout_ask.specs.ValueFound.{value_found, said_value}
-use Rattle.layout_ask.specs.declared.ValueFound.{ValueFound}
+use Rattle.layout_ask.specs.ValueFound.{value_found}
+use Rattle.said.specs.Answer.{said}
 
 -- ---- 0 for an absent number
 
@@ -115,13 +112,13 @@ least_positive (struct k ms) n w e = sizes_positive (struct k ms) n w e
 
 -- ---- the check
 
-module _ (f : List ℕ) (a : Checked) (says : said_checked a ≡ accepted_trailer f) where
+module _ (f : List ℕ) (a : Result Trailer Refusal) (says : said_checked a ≡ accepted_trailer f) where
   -- "check: how many entries the file has"
-  pub check_types : (t : Trailer) → a ≡ Types t → good t.types ≡ check_of f
+  pub check_types : (t : Trailer) → a ≡ Ok t → good t.types ≡ check_of f
   unfolding check_of
   check_types t is = let x = told f a says t is in sym (then_is _ x.taken ∙ ap good x.count)
 
-  pub check_refused : (r : Refusal) → a ≡ Refused r → refused (number_of r) (place_of r) ≡ check_of f
+  pub check_refused : (r : Refusal) → a ≡ Err r → refused (number_of r) (place_of r) ≡ check_of f
   unfolding check_of
   check_refused r is = sym (then_refused _ (told_refused f a says r is))
 
@@ -136,31 +133,31 @@ module _ (f : List ℕ) (e : ℕ) where
   unfolding entry_of
   found_no_trailer h = found_refused (then_refused _ (trailer_refused f h))
 
-  module _ (a : Grounded) (table : List (List ℕ)) (says : said_ground a table ≡ ground_in f e) where
-    pub found_ground : (g : Ground) → a ≡ grounded.Is g → good g.value ≡ value_found f e
+  module _ (a : Result Ground Refusal) (table : List (List ℕ)) (says : said_ground a table ≡ ground_in f e) where
+    pub found_ground : (g : Ground) → a ≡ Ok g → good g.value ≡ value_found f e
     unfolding value_found ground_of
     found_ground g is =
         let x = ground_told f e a table says g is in
         sym (then_is _ x.is_entry ∙ ap (λ (y : Ground). good y.value) (sym x.ground_is))
 
-    pub found_no_ground : (r : Refusal) → a ≡ grounded.Refused r → refused (number_of r) (place_of r) ≡ value_found f e
+    pub found_no_ground : (r : Refusal) → a ≡ Err r → refused (number_of r) (place_of r) ≡ value_found f e
     found_no_ground r is = found_refused (ground_told_refused f e a table says r is)
 
 -- ---- what it tells
 
-module _ (f : List ℕ) (e : ℕ) (a : ValueFound) (says : said_value a ≡ value_found f e) where
+module _ (f : List ℕ) (e : ℕ) (a : Result Value Refusal) (says : said a ≡ value_found f e) where
   -- A question about an entry that is refused is refused so.
-  pub ask_refused : {B : Type 0} (rest : Ty → Said B) (r : Refusal) → a ≡ ValueFound.Refused r → refused (number_of r) (place_of r) ≡ ◌>>=◌ (entry_of f e) rest
+  pub ask_refused : {B : Type 0} (rest : Ty → Said B) (r : Refusal) → a ≡ Err r → refused (number_of r) (place_of r) ≡ ◌>>=◌ (entry_of f e) rest
   unfolding value_found
   ask_refused rest r is =
-      sym (then_refused rest (then_cases _ _ (sym says ∙ ap said_value is) (λ h. h) (λ x. good_not_refused refl x.after)))
+      sym (then_refused rest (then_cases _ _ (sym says ∙ ap said is) (λ h. h) (λ x. good_not_refused refl x.after)))
 
-  module _ (l : Value) (is : a ≡ ValueFound.Is l) where
+  module _ (l : Value) (is : a ≡ Ok l) where
     -- Any question that the layout of a well-formed type answers, its entry answers.
     ask_is : {B : Type 0} (rest : Ty → Said B) (s : Said B) → ((t : Ty) → l ≡ value_of l.stride l.reference t → everywhere is_well_formed t ≡ true → s ≡ rest t) → s ≡ ◌>>=◌ (entry_of f e) rest
     unfolding value_found
     ask_is rest s h =
-        let x = then_good _ _ (sym says ∙ ap said_value is) in
+        let x = then_good _ _ (sym says ∙ ap said is) in
         let t = x.value in
         h t (own_reference _ _ t (sym (inner x.after))) (entry_well_formed f e t x.first) ∙ sym (then_is rest x.first)
 

@@ -2,23 +2,17 @@
 -- Definitions only. Assumes nothing.
 use Rattle.std.specs.Prelude.{ℕ, cond, List, eqb}
 use Rattle.std.proofs.Math.Option.{Option, none, some}
-use Rattle.wgsl.specs.Said.{Said, good, refused, ◌>>=◌}
+use Rattle.wgsl.specs.Said.{Said, good, ◌>>=◌}
 use Rattle.wgsl.specs.File.{type_entry_at}
 use Rattle.wgsl.specs.Call.{entry_of}
-use Rattle.said.specs.Refusal.{number_of, place_of}
 use Rattle.file.specs.Members.{member_length}
 use Rattle.layout_values.specs.declared.value.Value.{Value}
 use Rattle.layout_values.specs.Value.{value_of}
-use Rattle.layout_ask.specs.declared.ValueFound.{ValueFound}
 
 unfoldable pub value_found : List ℕ → ℕ → Said Value
 value_found f e = do
   t ← entry_of f e
   good (value_of (member_length f) (type_entry_at f e).reference t)
-
-abbrev pub said_value : ValueFound → Said Value
-said_value (ValueFound.Is l) = good l
-said_value (ValueFound.Refused r) = refused (number_of r) (place_of r)
 
 -- a number that is above 0, or an absent one
 unfoldable pub marked : ℕ → Option ℕ

@@ -2,6 +2,7 @@
 --
 -- In order: the fields; the rules; an element that has an alignment: the layout.
 -- Assumes nothing.
+use Rattle.std.specs.Prelude.{Err, Ok}
 use Prim.Native.Nat.{ℕ, ◌≤◌}
 use mathlib.Core.Bool.{true, false, cond, and-false, or-true}
 use mathlib.Core.List.{[], ◌∷◌}
@@ -17,13 +18,13 @@ use Rattle.layout_values.proofs.ValueOf.{Element, align_within}
 use Rattle.layout_values.proofs.StrideOf.{element_stride}
 use Rattle.layout_values.specs.Value.{narrow_of, parts_of, fixed_words, words_in, value_of, verdict_on, made_of, stride_in}
 use Rattle.layout_values.specs.declared.value.Value.{Value}
-use Rattle.layout_values.specs.declared.value.Made.TheVariants.{Laid, Rule, Large}
+use Rattle.layout_values.specs.declared.value.Broken.TheVariants.{Large, Rule}
 
 module _ (e : TypeEntry) (t : Ty) (long : ℕ) where
   -- ---- the fields
 
   -- "Fields a kind doesn't use are zero."
-  pub runtime_used : unused (e.columns ∷ e.rows ∷ e.count ∷ []) ≡ false → made_of long e.reference (runtime_made (some t) e) ≡ Rule
+  pub runtime_used : unused (e.columns ∷ e.rows ∷ e.count ∷ []) ≡ false → made_of long e.reference (runtime_made (some t) e) ≡ Err Rule
   unfolding made_of runtime_made when
   runtime_used h = rw h
 
@@ -35,19 +36,19 @@ module _ (e : TypeEntry) (t : Ty) (long : ℕ) where
     -- ---- the rules
 
     -- "An array's element isn't open"
-    pub runtime_open : is_open t ≡ true → made_of long e.reference (runtime_made (some t) e) ≡ Rule
+    pub runtime_open : is_open t ≡ true → made_of long e.reference (runtime_made (some t) e) ≡ Err Rule
     unfolding verdict_on is_allowed
     runtime_open h = runtime_made_here ∙ rw h
 
     -- "a runtime array's element also has size and alignment"
-    pub runtime_unaligned : align_of t ≡ none → made_of long e.reference (runtime_made (some t) e) ≡ Rule
+    pub runtime_unaligned : align_of t ≡ none → made_of long e.reference (runtime_made (some t) e) ≡ Err Rule
     unfolding verdict_on is_allowed is_present
     runtime_unaligned h = runtime_made_here ∙ rw (h, and-false)
 
     -- ---- an element that has an alignment
 
     module _ (l : Value) (x : Element t l) where
-      runtime_allowed : made_of long e.reference (runtime_made (some t) e) ≡ cond (fits_limit (runtime t)) (Laid (value_of long e.reference (runtime t))) Large
+      runtime_allowed : made_of long e.reference (runtime_made (some t) e) ≡ cond (fits_limit (runtime t)) (Ok (value_of long e.reference (runtime t))) (Err Large)
       unfolding verdict_on is_allowed given_fits is_present
       runtime_allowed = runtime_made_here ∙ rw (x.closed, x.align_is, x.size_is)
 
@@ -61,7 +62,7 @@ module _ (e : TypeEntry) (t : Ty) (long : ℕ) where
         fits =
             simp (x.align_is, x.size_is, number.0, le-leb _ _ number.1, le-leb _ _ (align_within t l x))
 
-        pub runtime_laid : made_of long e.reference (runtime_made (some t) e) ≡ Laid (record { kind = 10; narrow = l.narrow; reference = e.reference; count = 0; unit = words_in l; stride = stride; size = 0; align = l.align })
+        pub runtime_laid : made_of long e.reference (runtime_made (some t) e) ≡ Ok (record { kind = 10; narrow = l.narrow; reference = e.reference; count = 0; unit = words_in l; stride = stride; size = 0; align = l.align })
         unfolding value_of kind_of narrow_of parts_of stride_in present fixed_words has_layout is_present is_open size_of align_of stride_of both
         runtime_laid =
             runtime_allowed

@@ -9,36 +9,34 @@ ghost use Rattle.file.specs.Fields.{entry_is};
 ghost use Rattle.layout_values.specs.Value.{made_of, Known, value_of};
 
 use file::fields::TypeEntry;
-use file::kinds::{
-    ABSTRACT_FLOAT, ARRAY, ATOMIC, F16, F32, I32, MATRIX, RUNTIME, U32, VECTOR, is_scalar,
-};
+use file::kinds::{ABSTRACT_FLOAT, ARRAY, ATOMIC, F16, F32, I32, MATRIX, RUNTIME, U32, VECTOR, is_scalar};
 use layout_values::scalars::{scalar_size, scalar_words, unless_absent, vector_align, zeros};
-use layout_values::value::{Made, Value, opens, stride_of, words_of};
-use numbers::limit::{Limited, product};
+use layout_values::value::{Value, opens, stride_of, words_of};
+use numbers::limit::product;
 
 // "7 vector: rows 2-4, reference to a kind 0-6", or 13-15
-pub fn vector(e: TypeEntry, l: Value) -> Made
+pub fn vector(e: TypeEntry, l: Value) -> Result<Value, Broken>
     requires { Known l }
     ensures { (long : ℕ) (t : Ty) → l ≡ value_of l.stride l.reference t → result ≡ made_of long e.reference (vector_made (some t) (entry_is e)) }
 {
     let rows = e.rows;
     let kind = l.kind;
     if !zeros(e.columns, e.count, 0, 0) {
-        return Made::Rule;
+        return Err(Broken::Rule);
     }
     if !is_scalar(kind) {
-        return Made::Rule;
+        return Err(Broken::Rule);
     }
     if rows < 2 {
-        return Made::Rule;
+        return Err(Broken::Rule);
     }
     if 4 < rows {
-        return Made::Rule;
+        return Err(Broken::Rule);
     }
     let w = scalar_size(kind);
     let align = vector_align(rows, kind);
     let unit = unless_absent(align, scalar_words(w));
-    Made::Laid(Value {
+    Ok(Value {
         kind: VECTOR,
         narrow: l.narrow,
         reference: e.reference,
@@ -64,7 +62,7 @@ fn suits_matrix(kind: u32) -> bool
 }
 
 // "8 matrix: columns 2-4, rows 2-4, reference to f32, f16 or abstract float"
-pub fn matrix(e: TypeEntry, l: Value) -> Made
+pub fn matrix(e: TypeEntry, l: Value) -> Result<Value, Broken>
     requires { Known l }
     ensures { (long : ℕ) (t : Ty) → l ≡ value_of l.stride l.reference t → result ≡ made_of long e.reference (matrix_made (some t) (entry_is e)) }
 {
@@ -72,26 +70,26 @@ pub fn matrix(e: TypeEntry, l: Value) -> Made
     let rows = e.rows;
     let kind = l.kind;
     if !zeros(e.count, 0, 0, 0) {
-        return Made::Rule;
+        return Err(Broken::Rule);
     }
     if !suits_matrix(kind) {
-        return Made::Rule;
+        return Err(Broken::Rule);
     }
     if columns < 2 {
-        return Made::Rule;
+        return Err(Broken::Rule);
     }
     if 4 < columns {
-        return Made::Rule;
+        return Err(Broken::Rule);
     }
     if rows < 2 {
-        return Made::Rule;
+        return Err(Broken::Rule);
     }
     if 4 < rows {
-        return Made::Rule;
+        return Err(Broken::Rule);
     }
     let align = vector_align(rows, kind);
     let unit = unless_absent(align, rows);
-    Made::Laid(Value {
+    Ok(Value {
         kind: MATRIX,
         narrow: l.narrow,
         reference: e.reference,
@@ -104,25 +102,25 @@ pub fn matrix(e: TypeEntry, l: Value) -> Made
 }
 
 // "9 array: reference, count at least 1"; an array's element isn't open. Where it has no stride, neither has the array a size.
-pub fn array(e: TypeEntry, l: Value) -> Made
+pub fn array(e: TypeEntry, l: Value) -> Result<Value, Broken>
     requires { Known l }
     ensures { (long : ℕ) (t : Ty) → l ≡ value_of l.stride l.reference t → everywhere is_well_formed t ≡ true → result ≡ made_of long e.reference (array_made (some t) (entry_is e)) }
 {
     let count = e.count;
     if !zeros(e.columns, e.rows, 0, 0) {
-        return Made::Rule;
+        return Err(Broken::Rule);
     }
     if count < 1 {
-        return Made::Rule;
+        return Err(Broken::Rule);
     }
     if opens(l) {
-        return Made::Rule;
+        return Err(Broken::Rule);
     }
     let stride = stride_of(l);
-    let Limited::Is(size) = product(count, stride) else {
-        return Made::Large;
+    let Some(size) = product(count, stride) else {
+        return Err(Broken::Large);
     };
-    Made::Laid(Value {
+    Ok(Value {
         kind: ARRAY,
         narrow: l.narrow,
         reference: e.reference,
@@ -135,21 +133,21 @@ pub fn array(e: TypeEntry, l: Value) -> Made
 }
 
 // "10 runtime array: reference"; its element isn't open, and has size and alignment.
-pub fn runtime(e: TypeEntry, l: Value) -> Made
+pub fn runtime(e: TypeEntry, l: Value) -> Result<Value, Broken>
     requires { Known l }
     ensures { (long : ℕ) (t : Ty) → l ≡ value_of l.stride l.reference t → everywhere is_well_formed t ≡ true → result ≡ made_of long e.reference (runtime_made (some t) (entry_is e)) }
 {
     if !zeros(e.columns, e.rows, e.count, 0) {
-        return Made::Rule;
+        return Err(Broken::Rule);
     }
     if opens(l) {
-        return Made::Rule;
+        return Err(Broken::Rule);
     }
     let align = l.align;
     if align == 0 {
-        return Made::Rule;
+        return Err(Broken::Rule);
     }
-    Made::Laid(Value {
+    Ok(Value {
         kind: RUNTIME,
         narrow: l.narrow,
         reference: e.reference,
@@ -162,21 +160,21 @@ pub fn runtime(e: TypeEntry, l: Value) -> Made
 }
 
 // "11 atomic: reference to i32 or u32"
-pub fn atomic(e: TypeEntry, l: Value) -> Made
+pub fn atomic(e: TypeEntry, l: Value) -> Result<Value, Broken>
     requires { Known l }
     ensures { (long : ℕ) (t : Ty) → l ≡ value_of l.stride l.reference t → result ≡ made_of long e.reference (atomic_made (some t) (entry_is e)) }
 {
     let kind = l.kind;
     if !zeros(e.columns, e.rows, e.count, 0) {
-        return Made::Rule;
+        return Err(Broken::Rule);
     }
     if kind < I32 {
-        return Made::Rule;
+        return Err(Broken::Rule);
     }
     if U32 < kind {
-        return Made::Rule;
+        return Err(Broken::Rule);
     }
-    Made::Laid(Value {
+    Ok(Value {
         kind: ATOMIC,
         narrow: 4,
         reference: e.reference,
@@ -189,7 +187,7 @@ pub fn atomic(e: TypeEntry, l: Value) -> Made
 }
 
 // An entry of a kind 7 to 11.
-pub fn over_entry(e: TypeEntry, l: Value) -> Made
+pub fn over_entry(e: TypeEntry, l: Value) -> Result<Value, Broken>
     requires { Known l }
     ensures { (long : ℕ) (t : Ty) → l ≡ value_of l.stride l.reference t → everywhere is_well_formed t ≡ true → result ≡ made_of long e.reference (over_made (some t) (entry_is e)) }
 {
@@ -209,5 +207,5 @@ pub fn over_entry(e: TypeEntry, l: Value) -> Made
     if kind == ATOMIC {
         return atomic(e, l);
     }
-    Made::Rule
+    Err(Broken::Rule)
 }

@@ -2,6 +2,7 @@
 --
 -- In order: 5 and 6; the words; its layout, if it is open and if not; 7; what `so_far` tells.
 -- Assumes nothing.
+use Rattle.std.specs.Prelude.{Err, None, Ok, Result, Some}
 use Prim.Native.Nat.{ℕ, ◌≤◌}
 use mathlib.Core.Bool.{Bool, true, false, cond, or-true}
 use mathlib.Core.List.{◌∷◌}
@@ -20,16 +21,14 @@ use Rattle.wgsl.proofs.Align.{members_power}
 use Rattle.wgsl.proofs.Members.{first_member, member_has}
 use Rattle.wgsl.proofs.Count.{members_words, word_count_struct}
 use Rattle.numbers.specs.Limit.{limited}
-use Rattle.numbers.specs.declared.limit.Limited.TheVariants.{Is, TooLarge}
-use Rattle.layout_values.specs.declared.value.Made.TheVariants.{Laid, Given, Large}
 use Rattle.layout_values.specs.Value.{narrow_of, parts_of, fixed_words, value_of, verdict_on, stride_in}
 use Rattle.layout_values.proofs.VerdictOn.{value_is, verdict_laid}
 use Rattle.layout_structs.specs.declared.Ends.{Ends}
-use Rattle.layout_structs.specs.declared.SoFar.{SoFar}
-use Rattle.layout_structs.specs.declared.SoFar.TheVariants as so_far
 use Rattle.layout_structs.specs.SoFar.{words_of_members, ends_of, struct_of, members_fit, so_far, Complete, Ended, Closes}
 use Rattle.layout_structs.proofs.SoFarOf.{limited_is, limited_large}
 use Rattle.layout_structs.proofs.MembersFit.{members_aligned, aligned_positive, open_end, closed_end, struct_fits, past_members, open_fits, closed_fits, closed_past}
+use Rattle.layout_values.specs.declared.value.Broken.{Broken}
+use Rattle.layout_values.specs.declared.value.Broken.TheVariants.{Given, Large}
 
 -- ---- 5 and 6
 
@@ -39,12 +38,12 @@ complete_allowed k ms c =
     rw (le-leb 1 (count_of ms) c.some_there, le-leb (count_of ms) 1024 c.few) c.allowed
 
 -- past 5, the rest decides
-judged : (n r k : ℕ) (ms : Members) → Complete ms → verdict_on n r (struct k ms) ≡ cond (members_given_fit ms) (cond (fits_limit (struct k ms)) (Laid (value_of n r (struct k ms))) Large) Given
+judged : (n r k : ℕ) (ms : Members) → Complete ms → verdict_on n r (struct k ms) ≡ cond (members_given_fit ms) (cond (fits_limit (struct k ms)) (Ok (value_of n r (struct k ms))) (Err Large)) (Err Given)
 unfolding verdict_on given_fits
 judged n r k ms c = rw (complete_allowed k ms c)
 
 -- past 6, the limit does
-large : (n r k : ℕ) (ms : Members) → Complete ms → members_given_fit ms ≡ true → fits_limit (struct k ms) ≡ false → verdict_on n r (struct k ms) ≡ Large
+large : (n r k : ℕ) (ms : Members) → Complete ms → members_given_fit ms ≡ true → fits_limit (struct k ms) ≡ false → verdict_on n r (struct k ms) ≡ Err Large
 large n r k ms c g f = judged n r k ms c ∙ rw (g, f)
 
 -- ---- the words
@@ -66,7 +65,7 @@ struct_words k p ms d =
 -- ---- its layout
 
 -- A struct that is within the limit is laid out.
-laid : (long k : ℕ) (e : TypeEntry) (p : Ends) (ms : Members) (size : ℕ) → Ended p ms → count_of ms ≡ e.count → has_layout (struct k ms) ≡ true → size ≡ present (size_of (struct k ms)) → fits_limit (struct k ms) ≡ true → verdict_on long e.reference (struct k ms) ≡ Laid (struct_of long e p size)
+laid : (long k : ℕ) (e : TypeEntry) (p : Ends) (ms : Members) (size : ℕ) → Ended p ms → count_of ms ≡ e.count → has_layout (struct k ms) ≡ true → size ≡ present (size_of (struct k ms)) → fits_limit (struct k ms) ≡ true → verdict_on long e.reference (struct k ms) ≡ Ok (struct_of long e p size)
 unfolding struct_of ends_of kind_of narrow_of parts_of stride_in present align_of given_fits
 laid long k e p ms size d count has z fits =
     verdict_laid long (struct k ms) (struct_of long e p size) (complete_allowed k ms d.complete) d.given fits
@@ -83,7 +82,7 @@ open_has : (k : ℕ) (ms : Members) (a : ℕ) → members_align ms ≡ some a �
 unfolding has_layout align_of is_open is_present
 open_has k ms a e o = rw (e, o)
 
-pub ended_opens : (long k : ℕ) (e : TypeEntry) (p : Ends) (ms : Members) → Ended p ms → count_of ms ≡ e.count → p.opens ≡ true → verdict_on long e.reference (struct k ms) ≡ Laid (struct_of long e p 0)
+pub ended_opens : (long k : ℕ) (e : TypeEntry) (p : Ends) (ms : Members) → Ended p ms → count_of ms ≡ e.count → p.opens ≡ true → verdict_on long e.reference (struct k ms) ≡ Ok (struct_of long e p 0)
 unfolding ends_of members_fit size_of present
 ended_opens long k e p ms d count q =
     let o : ends_in_runtime false ms ≡ true = ap (λ (x : Ends). x.opens) (sym d.ends) ∙ q in
@@ -120,7 +119,7 @@ closed_limit : (k : ℕ) (p : Ends) (ms : Members) → Closed p ms → fits_limi
 closed_limit k p ms c = struct_fits k ms p.align (some p.end) c.align_is c.end_is
 
 -- A struct that is not open has the size that its members' end rounds up to, if that is within the limit.
-pub ended_closes : (long k : ℕ) (e : TypeEntry) (p : Ends) (ms : Members) (size : ℕ) → Ended p ms → count_of ms ≡ e.count → p.opens ≡ false → Is size ≡ limited (up p.align p.end) → verdict_on long e.reference (struct k ms) ≡ Laid (struct_of long e p size)
+pub ended_closes : (long k : ℕ) (e : TypeEntry) (p : Ends) (ms : Members) (size : ℕ) → Ended p ms → count_of ms ≡ e.count → p.opens ≡ false → Some size ≡ limited (up p.align p.end) → verdict_on long e.reference (struct k ms) ≡ Ok (struct_of long e p size)
 unfolding members_fit size_of both present
 ended_closes long k e p ms size d count q h =
     let c = ended_closed p ms d q in
@@ -131,7 +130,7 @@ ended_closes long k e p ms size d count q h =
     laid long k e p ms size d count (closed_has k ms p.align p.end c.align_is c.end_is)
     (rw (c.align_is, c.end_is) (sym l.1)) fits
 
-pub ended_past : (n r k : ℕ) (p : Ends) (ms : Members) → Ended p ms → p.opens ≡ false → TooLarge ≡ limited (up p.align p.end) → verdict_on n r (struct k ms) ≡ Large
+pub ended_past : (n r k : ℕ) (p : Ends) (ms : Members) → Ended p ms → p.opens ≡ false → None ≡ limited (up p.align p.end) → verdict_on n r (struct k ms) ≡ Err Large
 ended_past n r k p ms e q h =
     let c = ended_closed p ms e q in
     large n r k ms e.complete e.given
@@ -146,11 +145,11 @@ ended_power p ms e q =
 -- ---- what `so_far` tells
 
 -- the cases of `so_far`
-verdicts : {A : Type 0} (r : SoFar) (ms : Members) → r ≡ so_far ms → (r ≡ so_far.Good (ends_of ms) → members_given_fit ms ≡ true → members_fit ms ≡ true → A) → (r ≡ so_far.TooLarge → members_given_fit ms ≡ true → members_fit ms ≡ false → A) → (r ≡ so_far.Unfit → members_given_fit ms ≡ false → A) → A
+verdicts : {A : Type 0} (r : Result Ends Broken) (ms : Members) → r ≡ so_far ms → (r ≡ Ok (ends_of ms) → members_given_fit ms ≡ true → members_fit ms ≡ true → A) → (r ≡ Err Large → members_given_fit ms ≡ true → members_fit ms ≡ false → A) → (r ≡ Err Given → members_given_fit ms ≡ false → A) → A
 unfolding so_far
 verdicts {A} r ms e placed past unfit = go (members_given_fit ms) (members_fit ms) refl refl e
   where
-    go : (g f : Bool) → members_given_fit ms ≡ g → members_fit ms ≡ f → r ≡ cond g (cond f (so_far.Good (ends_of ms)) so_far.TooLarge) so_far.Unfit → A
+    go : (g f : Bool) → members_given_fit ms ≡ g → members_fit ms ≡ f → r ≡ cond g (cond f (Ok (ends_of ms)) (Err Large)) (Err Given) → A
     go true true p q h = placed h p q
     go true false p q h = past h p q
     go false f p q h = unfit h p
@@ -158,21 +157,21 @@ verdicts {A} r ms e placed past unfit = go (members_given_fit ms) (members_fit m
 no_verdict : {A : Type 0} → ◌≡◌ {A = ℕ} 0 1 → A
 no_verdict e = absurd (omega arith)
 
-pub closes_placed : (p : Ends) (ms : Members) → Closes (so_far.Good p) ms → Ended p ms
+pub closes_placed : (p : Ends) (ms : Members) → Closes (Ok p) ms → Ended p ms
 closes_placed p ms c =
-    verdicts (so_far.Good p) ms c.verdict (λ h g f. record { ends = cc; complete = c.complete; given = g; fits = f })
+    verdicts (Ok p) ms c.verdict (λ h g f. record { ends = cc; complete = c.complete; given = g; fits = f })
     (λ h g f. no_verdict cc) (λ h g. no_verdict cc)
 
 -- Where a given size or align does not fit, that is refusal 6.
-pub closes_unfit : (n r k : ℕ) (ms : Members) → Closes so_far.Unfit ms → verdict_on n r (struct k ms) ≡ Given
+pub closes_unfit : (n r k : ℕ) (ms : Members) → Closes (Err Given) ms → verdict_on n r (struct k ms) ≡ Err Given
 closes_unfit n r k ms c =
-    verdicts so_far.Unfit ms c.verdict (λ h g f. no_verdict cc) (λ h g f. no_verdict cc) (λ h g. judged n r k ms c.complete ∙ rw g)
+    verdicts (Err Given) ms c.verdict (λ h g f. no_verdict cc) (λ h g f. no_verdict cc) (λ h g. judged n r k ms c.complete ∙ rw g)
 
 -- Where an offset or the end of the members is past the limit, that is refusal 7.
-pub closes_past : (n r k : ℕ) (ms : Members) → Closes so_far.TooLarge ms → verdict_on n r (struct k ms) ≡ Large
+pub closes_past : (n r k : ℕ) (ms : Members) → Closes (Err Large) ms → verdict_on n r (struct k ms) ≡ Err Large
 unfolding members_fit
 closes_past n r k ms c =
-    verdicts so_far.TooLarge ms c.verdict (λ h g f. no_verdict cc)
+    verdicts (Err Large) ms c.verdict (λ h g f. no_verdict cc)
     (λ h g f.
     let w = c.complete.well_formed in
     let a = members_aligned ms w c.complete.allowed g in

@@ -3,6 +3,7 @@
 -- In order: numbers that are present; the words of a runtime array; the numbers that the code has; a type with and without a size; the
 -- new ends; the four verdicts.
 -- Assumes nothing.
+use Rattle.std.specs.Prelude.{Err, None, Ok, Some}
 use Prim.Native.Nat.{ℕ, ◌+◌, ◌<◌, max, min}
 use mathlib.Core.Bool.{Bool, true, false, cond, ◌||◌}
 use mathlib.Core.Logic.{◌⊎◌, ⊎_elim}
@@ -24,16 +25,15 @@ use Rattle.wgsl.proofs.Tail.{runtime_open, runtime_unsized, sized_not_runtime, r
 use Rattle.wgsl.proofs.Members.{sized}
 use Rattle.wgsl.proofs.Count.{word_count_runtime}
 use Rattle.numbers.specs.Limit.{limited}
-use Rattle.numbers.specs.declared.limit.Limited.TheVariants as limits
 use Rattle.layout_values.specs.declared.value.Value.{Value}
 use Rattle.layout_values.specs.Value.{fixed_words, narrowest, value_of, words_in}
 use Rattle.layout_values.proofs.WordsIn.{value_words}
 use Rattle.layout_structs.specs.declared.Ends.{Ends}
-use Rattle.layout_structs.specs.declared.SoFar.TheVariants.{Good, TooLarge}
 use Rattle.layout_structs.specs.SoFar.{followed, words_of_members, ends_of, so_far, Joins}
 use Rattle.layout_structs.proofs.Appended.{after_end, after_align, after_runtime, after_words, after_narrow}
 use Rattle.layout_structs.proofs.Going.{Whole, member_power, fixed_bounded, next_end, going_end, going_align, going_words}
 use Rattle.layout_structs.proofs.SoFarOf.{limited_is, limited_large, start_large, end_large, placed_closed, placed_open}
+use Rattle.layout_values.specs.declared.value.Broken.TheVariants.{Large}
 
 -- ---- numbers that are present
 
@@ -165,37 +165,37 @@ module _ (p : Ends) (l : Value) (m : MemberEntry) (ms : Members) (t : Ty) (j : J
     -- ---- the four verdicts
 
     -- It starts past the limit.
-    pub joins_past : limited (up al p.end) ≡ limits.TooLarge → so_far (followed ms t m) ≡ TooLarge
+    pub joins_past : limited (up al p.end) ≡ None → so_far (followed ms t m) ≡ Err Large
     joins_past h =
         start_large ms t (given_size m) (given_align m) j.given j.size_fits j.align_fits p.end al end_known
         (align_known al al_is) (limited_large (up al p.end) h)
 
-    module _ (start : ℕ) (start_is : limited (up al p.end) ≡ limits.Is start) (most : ℕ) (most_is : most ≡ max p.align al) (narrow : ℕ) (narrow_is : narrow ≡ min p.narrow l.narrow) where
+    module _ (start : ℕ) (start_is : limited (up al p.end) ≡ Some start) (most : ℕ) (most_is : most ≡ max p.align al) (narrow : ℕ) (narrow_is : narrow ≡ min p.narrow l.narrow) where
       -- It is a runtime array.
-      pub joins_open : is_open t ≡ true → so_far (followed ms t m) ≡ Good (record { end = 0; align = most; words = p.words; opens = true; narrow = narrow })
+      pub joins_open : is_open t ≡ true → so_far (followed ms t m) ≡ Ok (record { end = 0; align = most; words = p.words; opens = true; narrow = narrow })
       joins_open o =
           let s = limited_is (up al p.end) start start_is in
           placed_open ms t (given_size m) (given_align m) j.given j.size_fits j.align_fits p.end al end_known
           (align_known al al_is) j.fits s.0 (open_unsized o)
-          ∙ ap Good (open_ends o) ∙ rw (most_is, narrow_is)
+          ∙ ap Ok (open_ends o) ∙ rw (most_is, narrow_is)
 
       module _ (o : is_open t ≡ false) (z : ℕ) (z_is : z ≡ or_own (given_size m) l.size) where
         -- It ends past the limit.
-        pub joins_end_past : limited (start + z) ≡ limits.TooLarge → so_far (followed ms t m) ≡ TooLarge
+        pub joins_end_past : limited (start + z) ≡ None → so_far (followed ms t m) ≡ Err Large
         joins_end_past h =
             let s = limited_is (up al p.end) start start_is in
             end_large ms t (given_size m) (given_align m) j.given j.size_fits j.align_fits p.end al end_known
             (align_known al al_is) z (size_known o z z_is) (rw s.1 (limited_large (start + z) h))
 
-        module _ (end : ℕ) (end_is : limited (start + z) ≡ limits.Is end) where
+        module _ (end : ℕ) (end_is : limited (start + z) ≡ Some end) where
           -- It ends within the limit.
-          pub joins_closed : (n : ℕ) → n ≡ words_in l → so_far (followed ms t m) ≡ Good (record { end = end; align = most; words = p.words + n; opens = false; narrow = narrow })
+          pub joins_closed : (n : ℕ) → n ≡ words_in l → so_far (followed ms t m) ≡ Ok (record { end = end; align = most; words = p.words + n; opens = false; narrow = narrow })
           joins_closed n n_is =
               let s = limited_is (up al p.end) start start_is in
               let x = limited_is (start + z) end end_is in
               placed_closed ms t (given_size m) (given_align m) j.given j.size_fits j.align_fits p.end al end_known
               (align_known al al_is) j.fits s.0 z (size_known o z z_is) (rw s.1 x.0)
-              ∙ ap Good (closed_ends o z z_is) ∙ rw (s.1, x.1, most_is, narrow_is, n_is)
+              ∙ ap Ok (closed_ends o z z_is) ∙ rw (s.1, x.1, most_is, narrow_is, n_is)
 
           -- Each word takes at least 2 bytes, so that their number is within the limit too.
           pub joins_words : p.words + words_in l < 4294967296

@@ -3,6 +3,7 @@
 -- In order: which members are allowed; a member that breaks 5; one that breaks 6; one after members that break 6; one that joins; one
 -- after members that are too large.
 -- Assumes nothing.
+use Rattle.std.specs.Prelude.{Err, Ok, Result}
 use mathlib.Core.Bool.{Bool, true, false, ◌&&◌, ◌||◌, and-false, or-true}
 use mathlib.Core.Logic.{⊎_elim}
 use mathlib.Core.Path.{◌≡◌, sym, ◌∙◌}
@@ -14,12 +15,11 @@ use Rattle.wgsl.proofs.Absent.{both_hold, hold_both, either_holds, given_present
 use Rattle.wgsl.proofs.Power.{power_positive}
 use Rattle.layout_values.specs.declared.value.Value.{Value}
 use Rattle.layout_structs.specs.declared.Ends.{Ends}
-use Rattle.layout_structs.specs.declared.SoFar.{SoFar}
-use Rattle.layout_structs.specs.declared.SoFar.TheVariants.{Good, Unfit, TooLarge}
-use Rattle.layout_structs.specs.declared.Stepped.TheVariants.{Next, Rule}
 use Rattle.layout_structs.specs.SoFar.{followed, so_far, stepped_to, Joins, Meets}
 use Rattle.layout_structs.proofs.Going.{member_power, going_end}
 use Rattle.layout_structs.proofs.SoFarOf.{placed_before, unfit_size, unfit_align, unfit_before, large_before}
+use Rattle.layout_values.specs.declared.value.Broken.{Broken}
+use Rattle.layout_values.specs.declared.value.Broken.TheVariants.{Given, Large, Rule}
 
 -- What may follow may also be the last.
 pub allowed_last : (last : Bool) (t : Ty) → member_allowed last t ≡ true → member_allowed true t ≡ true
@@ -38,37 +38,37 @@ aligned last t e = (both_hold (is_present (align_of t)) (is_present (size_of t) 
 module _ (last : Bool) (ms : Members) (t : Ty) (m : MemberEntry) where
   -- ---- a member that breaks 5
 
-  pub steps_rest : rest_is_zero m ≡ false → stepped_to last ms t m ≡ Rule
+  pub steps_rest : rest_is_zero m ≡ false → stepped_to last ms t m ≡ Err Rule
   unfolding stepped_to
   steps_rest h = rw h
 
-  pub steps_not_allowed : member_allowed last t ≡ false → stepped_to last ms t m ≡ Rule
+  pub steps_not_allowed : member_allowed last t ≡ false → stepped_to last ms t m ≡ Err Rule
   unfolding stepped_to
   steps_not_allowed h = rw (h, and-false (rest_is_zero m))
 
   module _ (rest : rest_is_zero m ≡ true) (allowed : member_allowed last t ≡ true) where
-    pub steps_next : (r : SoFar) → so_far (followed ms t m) ≡ r → stepped_to last ms t m ≡ Next r
+    pub steps_next : (r : Result Ends Broken) → so_far (followed ms t m) ≡ r → stepped_to last ms t m ≡ Ok r
     unfolding stepped_to
     steps_next r h = rw (rest, allowed, h)
 
     -- ---- a member that breaks 6
 
-    pub steps_size : given_size_fits t (given_size m) ≡ false → stepped_to last ms t m ≡ Next Unfit
-    steps_size h = steps_next Unfit (unfit_size ms t (given_size m) (given_align m) h)
+    pub steps_size : given_size_fits t (given_size m) ≡ false → stepped_to last ms t m ≡ Ok (Err Given)
+    steps_size h = steps_next (Err Given) (unfit_size ms t (given_size m) (given_align m) h)
 
-    pub steps_align : given_align_fits t (given_align m) ≡ false → stepped_to last ms t m ≡ Next Unfit
-    steps_align h = steps_next Unfit (unfit_align ms t (given_size m) (given_align m) h)
+    pub steps_align : given_align_fits t (given_align m) ≡ false → stepped_to last ms t m ≡ Ok (Err Given)
+    steps_align h = steps_next (Err Given) (unfit_align ms t (given_size m) (given_align m) h)
 
-    module _ (run : SoFar) (l : Value) (j : Meets run l ms t) where
+    module _ (run : Result Ends Broken) (l : Value) (j : Meets run l ms t) where
       -- ---- one after members that break 6
 
-      pub steps_unfit : run ≡ Unfit → stepped_to last ms t m ≡ Next Unfit
-      steps_unfit e = steps_next Unfit (unfit_before ms t (given_size m) (given_align m) (sym j.verdict ∙ e))
+      pub steps_unfit : run ≡ Err Given → stepped_to last ms t m ≡ Ok (Err Given)
+      steps_unfit e = steps_next (Err Given) (unfit_before ms t (given_size m) (given_align m) (sym j.verdict ∙ e))
 
       module _ (size_fits : given_size_fits t (given_size m) ≡ true) (align_fits : given_align_fits t (given_align m) ≡ true) where
         -- ---- one that joins
 
-        pub steps_joins : (p : Ends) → run ≡ Good p → Joins p l m ms t
+        pub steps_joins : (p : Ends) → run ≡ Ok p → Joins p l m ms t
         steps_joins p e =
             let b = placed_before ms p (sym j.verdict ∙ e) in
             record {
@@ -85,11 +85,11 @@ module _ (last : Bool) (ms : Members) (t : Ty) (m : MemberEntry) where
 
         -- ---- one after members that are too large
 
-        pub steps_large : run ≡ TooLarge → stepped_to last ms t m ≡ Next TooLarge
+        pub steps_large : run ≡ Err Large → stepped_to last ms t m ≡ Ok (Err Large)
         steps_large e =
             let z = going_end 0 ms j.going.sized in
             let a = given_present (given_align m) (align_of t) (aligned last t allowed) in
             let power = member_power t (given_align m) a.0 j.well_formed align_fits a.1 in
-            steps_next TooLarge
+            steps_next (Err Large)
             (large_before ms t (given_size m) (given_align m) (sym j.verdict ∙ e) size_fits align_fits z.0 a.0
             z.1 a.1 (power_positive power))

@@ -2,6 +2,7 @@
 --
 -- In order: one member more; members that rule 5 refuses, and so the struct.
 -- Assumes nothing.
+use Rattle.std.specs.Prelude.{Err}
 use Rattle.file.specs.Members.{member_length}
 use Prim.Native.Nat.{ℕ, zero, suc, ◌+◌, ◌*◌, ◌<◌, ◌≤◌}
 use mathlib.Core.Bool.{Bool, true, false, ◌&&◌, and_assoc, and-true, and-false}
@@ -17,10 +18,10 @@ use Rattle.wgsl.specs.Types.{Ty, struct, Members, no_more, member}
 use Rattle.wgsl.specs.File.{between, MemberEntry, member_entry_from, given_size, given_align, rest_is_zero}
 use Rattle.wgsl.specs.Rule.{and_then, lower, count_of, is_last, member_allowed, members_allowed, is_allowed}
 use Rattle.wgsl.proofs.Said.{when_some, and_then_some}
-use Rattle.layout_values.specs.declared.value.Made.TheVariants.{Rule}
 use Rattle.layout_values.specs.Value.{verdict_on, made_of}
 use Rattle.layout_structs.specs.SoFar.{appended, followed, all_sized}
 use Rattle.layout_structs.proofs.MembersFrom.{joined, members_at}
+use Rattle.layout_values.specs.declared.value.Broken.TheVariants.{Rule}
 
 -- ---- one member more
 
@@ -45,7 +46,7 @@ allowed_after false (member u s a ms) t size align =
 
 -- ---- members that rule 5 refuses
 
-not_allowed : (long r k : ℕ) (ms : Members) → members_allowed ms ≡ false → verdict_on long r (struct k ms) ≡ Rule
+not_allowed : (long r k : ℕ) (ms : Members) → members_allowed ms ≡ false → verdict_on long r (struct k ms) ≡ Err Rule
 unfolding verdict_on is_allowed
 not_allowed long r k ms e = rw (e, and-false (between 1 1024 (count_of ms)))
 
@@ -90,10 +91,10 @@ module _ (f : List ℕ) (ts : List Ty) (at : ℕ) where
       (eq-or-lt_of_le m)
 
   -- Where the members up to i are refused, the struct is.
-  pub refused_members : (long r i n k : ℕ) → i < n → ((ms : Members) → members_at f ts at (suc i) ≡ some ms → allowed_so (eqb (i + 1) n) ms ≡ false) → made_of long r (and_then (members_at f ts at n) (λ ms. some (struct k ms))) ≡ Rule
+  pub refused_members : (long r i n k : ℕ) → i < n → ((ms : Members) → members_at f ts at (suc i) ≡ some ms → allowed_so (eqb (i + 1) n) ms ≡ false) → made_of long r (and_then (members_at f ts at n) (λ ms. some (struct k ms))) ≡ Err Rule
   unfolding and_then made_of
   refused_members long r i n k l h = go (members_at f ts at n) (refused_stays i n l h)
     where
-      go : (o : Option Members) → ((ms : Members) → o ≡ some ms → members_allowed ms ≡ false) → made_of long r (and_then o (λ ms. some (struct k ms))) ≡ Rule
+      go : (o : Option Members) → ((ms : Members) → o ≡ some ms → members_allowed ms ≡ false) → made_of long r (and_then o (λ ms. some (struct k ms))) ≡ Err Rule
       go none q = refl
       go (some ms) q = not_allowed long r k ms (q ms refl)

@@ -2,6 +2,7 @@
 --
 -- In order: members taken from the front and from the back; what they make; the lower entries.
 -- Assumes nothing.
+use Rattle.std.specs.Prelude.{Result}
 use native.Mathlib.Nat.{mul-zero, mul-suc}
 use Rattle.file.specs.Members.{member_length}
 use Prim.Native.Nat.{ℕ, zero, suc, ◌+◌, ◌*◌, ◌<◌, ◌≤◌}
@@ -15,10 +16,10 @@ use Rattle.wgsl.specs.Types.{Ty, struct, Members, no_more, member, everywhere}
 use Rattle.wgsl.specs.File.{type_entry_at, MemberEntry, member_entry_from, member_entry_at, given_size, given_align, rest_is_zero}
 use Rattle.wgsl.specs.Rule.{when, and_then, lower, members_from, is_well_formed}
 use Rattle.wgsl.proofs.AtEntry.{get_elem_past, get_elem_get_d}
-use Rattle.layout_values.specs.declared.value.Made.{Made}
 use Rattle.layout_values.specs.Value.{value_of, value_at, made_of}
 use Rattle.layout_values.proofs.ValuesOf.{own_reference, value_held}
 use Rattle.layout_structs.specs.SoFar.{Lower, appended, followed, member_place}
+use Rattle.layout_values.specs.declared.value.Broken.{Broken}
 
 -- ---- members from the front and from the back
 
@@ -72,7 +73,7 @@ members_at_lem f ts (suc n) first =
     ∙ sym (front f ts (member_place f first) n)
 
 -- What the members from byte `at` on make, those from number `first` on make, if that is where they lie.
-pub from_first : (f : List ℕ) (ts : List Ty) (long r at n first k : ℕ) (x : Made) → made_of long r (and_then (members_at f ts at n) (λ ms. some (struct k ms))) ≡ x → at ≡ member_place f first → x ≡ made_of long r (and_then (members_from f ts n first) (λ ms. some (struct k ms)))
+pub from_first : (f : List ℕ) (ts : List Ty) (long r at n first k : ℕ) (x : Result Value Broken) → made_of long r (and_then (members_at f ts at n) (λ ms. some (struct k ms))) ≡ x → at ≡ member_place f first → x ≡ made_of long r (and_then (members_from f ts n first) (λ ms. some (struct k ms)))
 from_first f ts long r at n first k x e p = sym (rw (members_at_lem f ts n first, ← p) e)
 
 -- ---- the lower entries

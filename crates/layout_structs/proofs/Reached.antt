@@ -2,6 +2,7 @@
 --
 -- In order: before the first; the next member (`Coming`), and a turn that goes on or that rule 5 ends; past the last.
 -- Assumes nothing.
+use Rattle.std.specs.Prelude.{Err, Ok, Result}
 use Rattle.file.specs.Members.{member_length}
 use Prim.Native.Nat.{ℕ, suc, ◌+◌, ◌*◌, ◌<◌, ◌≤◌}
 use mathlib.Core.Bool.{Bool, true, false, cond, ◌&&◌, and-false}
@@ -20,18 +21,16 @@ use Rattle.wgsl.specs.Rule.{when, and_then, lower, count_of, member_allowed, mem
 use Rattle.wgsl.proofs.Absent.{both_hold, hold_both, some_not_none}
 use Rattle.wgsl.proofs.Said.{when_some}
 use Rattle.layout_values.specs.declared.value.Value.{Value}
-use Rattle.layout_values.specs.declared.value.Made.TheVariants.{Rule}
 use Rattle.layout_values.specs.Value.{narrowest, value_of, value_at, verdict_on, made_of}
-use Rattle.layout_structs.specs.declared.SoFar.{SoFar}
-use Rattle.layout_structs.specs.declared.SoFar.TheVariants.{Good}
-use Rattle.layout_structs.specs.declared.Stepped.TheVariants as stepped
 use Rattle.layout_structs.specs.SoFar.{words_of_members, ends_of, members_fit, so_far, Meets, stepped_to, Closes, Lower, followed, all_sized}
 use Rattle.layout_structs.proofs.MembersFrom.{joined, members_at, lower_found, lower_past}
 use Rattle.layout_structs.proofs.Appended.{after_every, after_count}
 use Rattle.layout_structs.proofs.Meets.{allowed_last}
 use Rattle.layout_structs.proofs.MembersAllowed.{allowed_so, allowed_after, refused_members}
+use Rattle.layout_values.specs.declared.value.Broken.{Broken}
+use Rattle.layout_values.specs.declared.value.Broken.TheVariants.{Rule}
 
-pub record Reached (f : List ℕ) (ts : List Ty) (at i n : ℕ) (run : SoFar) : Type 0 where
+pub record Reached (f : List ℕ) (ts : List Ty) (at i n : ℕ) (run : Result Ends Broken) : Type 0 where
   pub members : Members
   pub read : members_at f ts at i ≡ some members
   pub verdict : run ≡ so_far members
@@ -41,11 +40,11 @@ pub record Reached (f : List ℕ) (ts : List Ty) (at i n : ℕ) (run : SoFar) : 
   pub sized : i < n → all_sized members ≡ true
 
 -- the verdict on no members
-pub no_members : Good (record { end = 0; align = 1; words = 0; opens = false; narrow = 4 }) ≡ so_far no_more
+pub no_members : Ok (record { end = 0; align = 1; words = 0; opens = false; narrow = 4 }) ≡ so_far no_more
 unfolding so_far ends_of members_fit members_given_fit words_of_members within_limits within_limit members_end members_align offsets_of present ends_in_runtime narrowest
 no_members = refl
 
-pub reached_none : {run : SoFar} (f : List ℕ) (ts : List Ty) (at n : ℕ) → run ≡ so_far no_more → Reached f ts at 0 n run
+pub reached_none : {run : (Result Ends Broken)} (f : List ℕ) (ts : List Ty) (at n : ℕ) → run ≡ so_far no_more → Reached f ts at 0 n run
 unfolding members_at every_member count_of members_allowed all_sized
 reached_none f ts at n e =
     record { members = no_more; read = refl; verdict = e; counted = refl; well_formed = refl; allowed = refl; sized = λ h. refl }
@@ -53,19 +52,19 @@ reached_none f ts at n e =
 -- ---- the next member
 
 -- what `stepped_to` tells
-next_told : (last : Bool) (ms : Members) (t : Ty) (e : MemberEntry) (r : SoFar) → stepped.Next r ≡ stepped_to last ms t e → ((rest_is_zero e && member_allowed last t) ≡ true) × (r ≡ so_far (followed ms t e))
+next_told : (last : Bool) (ms : Members) (t : Ty) (e : MemberEntry) (r : Result Ends Broken) → Ok r ≡ stepped_to last ms t e → ((rest_is_zero e && member_allowed last t) ≡ true) × (r ≡ so_far (followed ms t e))
 unfolding stepped_to
 next_told last ms t e r h = go (rest_is_zero e && member_allowed last t) h
   where
-    go : (b : Bool) → stepped.Next r ≡ cond b (stepped.Next (so_far (followed ms t e))) stepped.Rule → (b ≡ true) × (r ≡ so_far (followed ms t e))
+    go : (b : Bool) → Ok r ≡ cond b (Ok (so_far (followed ms t e))) (Err Rule) → (b ≡ true) × (r ≡ so_far (followed ms t e))
     go true q = (refl, cc)
     go false q = let z : ◌≡◌ {A = ℕ} 0 1 = cc in absurd (omega arith)
 
-rule_told : (last : Bool) (ms : Members) (t : Ty) (e : MemberEntry) → stepped.Rule ≡ stepped_to last ms t e → (rest_is_zero e && member_allowed last t) ≡ false
+rule_told : (last : Bool) (ms : Members) (t : Ty) (e : MemberEntry) → (Err Rule) ≡ stepped_to last ms t e → (rest_is_zero e && member_allowed last t) ≡ false
 unfolding stepped_to
 rule_told last ms t e h = go (rest_is_zero e && member_allowed last t) h
   where
-    go : (b : Bool) → stepped.Rule ≡ cond b (stepped.Next (so_far (followed ms t e))) stepped.Rule → b ≡ false
+    go : (b : Bool) → (Err Rule) ≡ cond b (Ok (so_far (followed ms t e))) (Err Rule) → b ≡ false
     go true q = let z : ◌≡◌ {A = ℕ} 0 1 = cc in absurd (omega arith)
     go false q = refl
 
@@ -90,7 +89,7 @@ coming {f} {ts} table k r low h e q l =
       well_formed = x.well_formed;
     }
 
-module _ {f : List ℕ} {ts : List Ty} {at i n : ℕ} {e : MemberEntry} {l : Value} (run : SoFar) (d : Reached f ts at i n run) (m : Coming f ts at i n e l) where
+module _ {f : List ℕ} {ts : List Ty} {at i n : ℕ} {e : MemberEntry} {l : Value} (run : Result Ends Broken) (d : Reached f ts at i n run) (m : Coming f ts at i n e l) where
   pub reached_meets : Meets run l d.members m.type
   reached_meets =
       record {
@@ -106,7 +105,7 @@ module _ {f : List ℕ} {ts : List Ty} {at i n : ℕ} {e : MemberEntry} {l : Val
   more_read = rw (d.read, ← m.entry, m.type_is)
 
   -- After a step that goes on, i + 1 members are known.
-  pub reached_next : (r : SoFar) → stepped.Next r ≡ stepped_to (eqb (i + 1) n) d.members m.type e → Reached f ts at (i + 1) n r
+  pub reached_next : (r : Result Ends Broken) → Ok r ≡ stepped_to (eqb (i + 1) n) d.members m.type e → Reached f ts at (i + 1) n r
   unfolding when allowed_so
   reached_next r h =
       let x = next_told (eqb (i + 1) n) d.members m.type e r h in
@@ -131,7 +130,7 @@ module _ {f : List ℕ} {ts : List Ty} {at i n : ℕ} {e : MemberEntry} {l : Val
       }
 
   -- A step that rule 5 refuses refuses the struct.
-  pub reached_rule : (long r k : ℕ) → stepped.Rule ≡ stepped_to (eqb (i + 1) n) d.members m.type e → made_of long r (and_then (members_at f ts at n) (λ ms. some (struct k ms))) ≡ Rule
+  pub reached_rule : (long r k : ℕ) → (Err Rule) ≡ stepped_to (eqb (i + 1) n) d.members m.type e → made_of long r (and_then (members_at f ts at n) (λ ms. some (struct k ms))) ≡ Err Rule
   reached_rule long r k h =
       refused_members f ts at long r i n k m.before
       (λ ms x.
@@ -142,7 +141,7 @@ module _ {f : List ℕ} {ts : List Ty} {at i n : ℕ} {e : MemberEntry} {l : Val
       ∙ rw no (and-false (all_sized d.members)))
 
 -- A member whose type is not lower refuses the struct.
-pub reached_past : {f : List ℕ} {ts : List Ty} {at i n : ℕ} {e : MemberEntry} (table : List (List ℕ)) (long r k : ℕ) (run : SoFar) → Reached f ts at i n run → Lower f table k ts → i < n → e ≡ member_entry_from f (at + member_length f * i) → k ≤ e.type → made_of long r (and_then (members_at f ts at n) (λ ms. some (struct k ms))) ≡ Rule
+pub reached_past : {f : List ℕ} {ts : List Ty} {at i n : ℕ} {e : MemberEntry} (table : List (List ℕ)) (long r k : ℕ) (run : Result Ends Broken) → Reached f ts at i n run → Lower f table k ts → i < n → e ≡ member_entry_from f (at + member_length f * i) → k ≤ e.type → made_of long r (and_then (members_at f ts at n) (λ ms. some (struct k ms))) ≡ Err Rule
 unfolding members_at and_then joined when
 reached_past {f} {ts} {at} {i} {n} {e} table long r k run d low l h past =
     refused_members f ts at long r i n k l
@@ -154,7 +153,7 @@ reached_past {f} {ts} {at} {i} {n} {e} table long r k run d low l h past =
 
 -- ---- past the last
 
-pub reached_closes : {f : List ℕ} {ts : List Ty} {at i n : ℕ} (run : SoFar) (d : Reached f ts at i n run) → i ≡ n → 1 ≤ n → n ≤ 1024 → Closes run d.members
+pub reached_closes : {f : List ℕ} {ts : List Ty} {at i n : ℕ} (run : Result Ends Broken) (d : Reached f ts at i n run) → i ≡ n → 1 ≤ n → n ≤ 1024 → Closes run d.members
 reached_closes run d e low high =
     record {
       verdict = d.verdict;
@@ -167,6 +166,6 @@ reached_closes run d e low high =
           };
     }
 
-pub reached_made : {f : List ℕ} {ts : List Ty} {at i n : ℕ} (run : SoFar) (d : Reached f ts at i n run) (long r k : ℕ) → i ≡ n → made_of long r (and_then (members_at f ts at n) (λ ms. some (struct k ms))) ≡ verdict_on long r (struct k d.members)
+pub reached_made : {f : List ℕ} {ts : List Ty} {at i n : ℕ} (run : Result Ends Broken) (d : Reached f ts at i n run) (long r k : ℕ) → i ≡ n → made_of long r (and_then (members_at f ts at n) (λ ms. some (struct k ms))) ≡ verdict_on long r (struct k d.members)
 unfolding and_then made_of
 reached_made run d long r k e = rw (← e, d.read)

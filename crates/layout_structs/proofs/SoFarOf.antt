@@ -3,6 +3,7 @@
 -- In order: the limit; the members before; given sizes and aligns that do not fit; what the limit says of one more; members that are too
 -- large already; one more that fits, or is too large.
 -- Assumes nothing.
+use Rattle.std.specs.Prelude.{Err, None, Ok, Some}
 use Prim.Native.Nat.{ℕ, ◌+◌, ◌<◌, ◌≤◌}
 use mathlib.Core.Bool.{Bool, true, false, cond, ◌&&◌, and-true, and-false}
 use mathlib.Core.List.{List, [], ◌∷◌}
@@ -17,29 +18,28 @@ use Rattle.wgsl.specs.Rule.{given_size_fits, given_align_fits, members_given_fit
 use Rattle.wgsl.proofs.Absent.{both_hold, both_none}
 use Rattle.wgsl.proofs.Round.{up_not_below}
 use Rattle.numbers.specs.Limit.{limited}
-use Rattle.numbers.specs.declared.limit.Limited.TheVariants as limits
 use Rattle.layout_structs.specs.declared.Ends.{Ends}
-use Rattle.layout_structs.specs.declared.SoFar.TheVariants.{Good, Unfit, TooLarge}
 use Rattle.layout_structs.specs.SoFar.{appended, ends_of, members_fit, so_far}
 use Rattle.layout_structs.proofs.Appended.{after_end, after_offsets, after_given, limits_append}
 use Rattle.layout_structs.proofs.Going.{next_start, next_end}
+use Rattle.layout_values.specs.declared.value.Broken.TheVariants.{Given, Large}
 
 -- ---- the limit
 
 -- A number that is told is itself, and within the limit.
-pub limited_is : (n x : ℕ) → limited n ≡ limits.Is x → (within_limit n ≡ true) × (n ≡ x)
+pub limited_is : (n x : ℕ) → limited n ≡ Some x → (within_limit n ≡ true) × (n ≡ x)
 unfolding limited
 limited_is n x e = go (within_limit n) refl e
   where
-    go : (b : Bool) → within_limit n ≡ b → cond b (limits.Is n) limits.TooLarge ≡ limits.Is x → (within_limit n ≡ true) × (n ≡ x)
+    go : (b : Bool) → within_limit n ≡ b → cond b (Some n) None ≡ Some x → (within_limit n ≡ true) × (n ≡ x)
     go true q h = (q, cc)
     go false q h = let z : ◌≡◌ {A = ℕ} 0 1 = cc in absurd (omega arith)
 
-pub limited_large : (n : ℕ) → limited n ≡ limits.TooLarge → within_limit n ≡ false
+pub limited_large : (n : ℕ) → limited n ≡ None → within_limit n ≡ false
 unfolding limited
 limited_large n e = go (within_limit n) refl e
   where
-    go : (b : Bool) → within_limit n ≡ b → cond b (limits.Is n) limits.TooLarge ≡ limits.TooLarge → within_limit n ≡ false
+    go : (b : Bool) → within_limit n ≡ b → cond b (Some n) None ≡ None → within_limit n ≡ false
     go true q h = let z : ◌≡◌ {A = ℕ} 0 1 = cc in absurd (omega arith)
     go false q h = q
 
@@ -58,29 +58,29 @@ limit_one n = and-true (within_limit n)
 -- ---- the members before
 
 -- members that are placed
-pub placed_before : (ms : Members) (p : Ends) → so_far ms ≡ Good p → (members_given_fit ms ≡ true) × (members_fit ms ≡ true) × (p ≡ ends_of ms)
+pub placed_before : (ms : Members) (p : Ends) → so_far ms ≡ Ok p → (members_given_fit ms ≡ true) × (members_fit ms ≡ true) × (p ≡ ends_of ms)
 unfolding so_far
 placed_before ms p e = go (members_given_fit ms) (members_fit ms) refl refl e
   where
-    go : (b c : Bool) → members_given_fit ms ≡ b → members_fit ms ≡ c → cond b (cond c (Good (ends_of ms)) TooLarge) Unfit ≡ Good p → (members_given_fit ms ≡ true) × (members_fit ms ≡ true) × (p ≡ ends_of ms)
+    go : (b c : Bool) → members_given_fit ms ≡ b → members_fit ms ≡ c → cond b (cond c (Ok (ends_of ms)) (Err Large)) (Err Given) ≡ Ok p → (members_given_fit ms ≡ true) × (members_fit ms ≡ true) × (p ≡ ends_of ms)
     go true true q r h = (q, r, cc)
     go true false q r h = let z : ◌≡◌ {A = ℕ} 0 1 = cc in absurd (omega arith)
     go false c q r h = let z : ◌≡◌ {A = ℕ} 0 1 = cc in absurd (omega arith)
 
-unfit_members : (ms : Members) → so_far ms ≡ Unfit → members_given_fit ms ≡ false
+unfit_members : (ms : Members) → so_far ms ≡ Err Given → members_given_fit ms ≡ false
 unfolding so_far
 unfit_members ms e = go (members_given_fit ms) (members_fit ms) refl e
   where
-    go : (b c : Bool) → members_given_fit ms ≡ b → cond b (cond c (Good (ends_of ms)) TooLarge) Unfit ≡ Unfit → members_given_fit ms ≡ false
+    go : (b c : Bool) → members_given_fit ms ≡ b → cond b (cond c (Ok (ends_of ms)) (Err Large)) (Err Given) ≡ Err Given → members_given_fit ms ≡ false
     go true true q h = let z : ◌≡◌ {A = ℕ} 0 1 = cc in absurd (omega arith)
     go true false q h = let z : ◌≡◌ {A = ℕ} 0 1 = cc in absurd (omega arith)
     go false c q h = q
 
-large_members : (ms : Members) → so_far ms ≡ TooLarge → (members_given_fit ms ≡ true) × (members_fit ms ≡ false)
+large_members : (ms : Members) → so_far ms ≡ Err Large → (members_given_fit ms ≡ true) × (members_fit ms ≡ false)
 unfolding so_far
 large_members ms e = go (members_given_fit ms) (members_fit ms) refl refl e
   where
-    go : (b c : Bool) → members_given_fit ms ≡ b → members_fit ms ≡ c → cond b (cond c (Good (ends_of ms)) TooLarge) Unfit ≡ TooLarge → (members_given_fit ms ≡ true) × (members_fit ms ≡ false)
+    go : (b c : Bool) → members_given_fit ms ≡ b → members_fit ms ≡ c → cond b (cond c (Ok (ends_of ms)) (Err Large)) (Err Given) ≡ Err Large → (members_given_fit ms ≡ true) × (members_fit ms ≡ false)
     go true true q r h = let z : ◌≡◌ {A = ℕ} 0 1 = cc in absurd (omega arith)
     go true false q r h = (q, r)
     go false c q r h = let z : ◌≡◌ {A = ℕ} 0 1 = cc in absurd (omega arith)
@@ -96,21 +96,21 @@ offsets_fit ms end e h =
 module _ (ms : Members) (t : Ty) (size align : Option ℕ) where
   -- ---- given sizes and aligns that do not fit
 
-  pub unfit_size : given_size_fits t size ≡ false → so_far (appended ms t size align) ≡ Unfit
+  pub unfit_size : given_size_fits t size ≡ false → so_far (appended ms t size align) ≡ Err Given
   unfolding so_far
   unfit_size h = rw (after_given t size align ms, h, and-false (members_given_fit ms))
 
-  pub unfit_align : given_align_fits t align ≡ false → so_far (appended ms t size align) ≡ Unfit
+  pub unfit_align : given_align_fits t align ≡ false → so_far (appended ms t size align) ≡ Err Given
   unfolding so_far
   unfit_align h = rw (after_given t size align ms, h, and-false (given_size_fits t size), and-false (members_given_fit ms))
 
-  pub unfit_before : so_far ms ≡ Unfit → so_far (appended ms t size align) ≡ Unfit
+  pub unfit_before : so_far ms ≡ Err Given → so_far (appended ms t size align) ≡ Err Given
   unfolding so_far
   unfit_before h = rw (after_given t size align ms, unfit_members ms h)
 
   -- ---- what the limit says of one more
 
-  pub fit_given : members_given_fit ms ≡ true → given_size_fits t size ≡ true → given_align_fits t align ≡ true → so_far (appended ms t size align) ≡ cond (members_fit (appended ms t size align)) (Good (ends_of (appended ms t size align))) TooLarge
+  pub fit_given : members_given_fit ms ≡ true → given_size_fits t size ≡ true → given_align_fits t align ≡ true → so_far (appended ms t size align) ≡ cond (members_fit (appended ms t size align)) (Ok (ends_of (appended ms t size align))) (Err Large)
   unfolding so_far
   fit_given g s a = rw (after_given t size align ms, g, s, a)
 
@@ -153,7 +153,7 @@ module _ (ms : Members) (t : Ty) (size align : Option ℕ) where
           fit_after end aligned e f
           ∙ rw (q, and-false (within_limits (end_after (some end) (some aligned) (given_or size (size_of t)) ∷ [])))
 
-  pub large_before : so_far ms ≡ TooLarge → given_size_fits t size ≡ true → given_align_fits t align ≡ true → (end aligned : ℕ) → members_end (some 0) ms ≡ some end → given_or align (align_of t) ≡ some aligned → 0 < aligned → so_far (appended ms t size align) ≡ TooLarge
+  pub large_before : so_far ms ≡ Err Large → given_size_fits t size ≡ true → given_align_fits t align ≡ true → (end aligned : ℕ) → members_end (some 0) ms ≡ some end → given_or align (align_of t) ≡ some aligned → 0 < aligned → so_far (appended ms t size align) ≡ Err Large
   large_before h s a end aligned e f pos =
       let before = large_members ms h in
       fit_given before.0 s a ∙ rw (past_before end aligned e f pos before.1)
@@ -161,24 +161,24 @@ module _ (ms : Members) (t : Ty) (size align : Option ℕ) where
   -- ---- one more that fits, or is too large
 
   module _ (given : members_given_fit ms ≡ true) (size_fits : given_size_fits t size ≡ true) (align_fits : given_align_fits t align ≡ true) (end aligned : ℕ) (end_is : members_end (some 0) ms ≡ some end) (align_is : given_or align (align_of t) ≡ some aligned) where
-    pub start_large : within_limit (up aligned end) ≡ false → so_far (appended ms t size align) ≡ TooLarge
+    pub start_large : within_limit (up aligned end) ≡ false → so_far (appended ms t size align) ≡ Err Large
     start_large h = fit_given given size_fits align_fits ∙ rw (start_past end aligned end_is align_is h)
 
     end_one : (z : ℕ) → given_or size (size_of t) ≡ some z → within_limits (end_after (some end) (some aligned) (given_or size (size_of t)) ∷ []) ≡ within_limit (up aligned end + z)
     end_one z e =
         ap (λ (n : Option ℕ). within_limits (n ∷ [])) (next_end refl refl e) ∙ limit_one (up aligned end + z)
 
-    pub end_large : (z : ℕ) → given_or size (size_of t) ≡ some z → within_limit (up aligned end + z) ≡ false → so_far (appended ms t size align) ≡ TooLarge
+    pub end_large : (z : ℕ) → given_or size (size_of t) ≡ some z → within_limit (up aligned end + z) ≡ false → so_far (appended ms t size align) ≡ Err Large
     end_large z e h =
         fit_given given size_fits align_fits
         ∙ rw (fit_after end aligned end_is align_is, end_one z e, h)
 
-    pub placed_closed : members_fit ms ≡ true → within_limit (up aligned end) ≡ true → (z : ℕ) → given_or size (size_of t) ≡ some z → within_limit (up aligned end + z) ≡ true → so_far (appended ms t size align) ≡ Good (ends_of (appended ms t size align))
+    pub placed_closed : members_fit ms ≡ true → within_limit (up aligned end) ≡ true → (z : ℕ) → given_or size (size_of t) ≡ some z → within_limit (up aligned end + z) ≡ true → so_far (appended ms t size align) ≡ Ok (ends_of (appended ms t size align))
     placed_closed fits h z e l =
         fit_given given size_fits align_fits
         ∙ rw (fit_after end aligned end_is align_is, end_one z e, l, offsets_fit ms end end_is fits, h)
 
-    pub placed_open : members_fit ms ≡ true → within_limit (up aligned end) ≡ true → given_or size (size_of t) ≡ none → so_far (appended ms t size align) ≡ Good (ends_of (appended ms t size align))
+    pub placed_open : members_fit ms ≡ true → within_limit (up aligned end) ≡ true → given_or size (size_of t) ≡ none → so_far (appended ms t size align) ≡ Ok (ends_of (appended ms t size align))
     unfolding end_after within_limits
     placed_open fits h e =
         fit_given given size_fits align_fits

@@ -5,7 +5,7 @@
 -- that an entry names; the lower entries.
 -- Definitions only. Assumes nothing.
 use Rattle.file.specs.Members.{member_length}
-use Rattle.std.specs.Prelude.{ℕ, ◌+◌, ◌*◌, ◌≤◌, ◌≡◌, Bool, true, false, cond, ◌&&◌, List, [], ◌∷◌, length, take}
+use Rattle.std.specs.Prelude.{ℕ, ◌+◌, ◌*◌, ◌≤◌, ◌≡◌, Bool, true, false, cond, ◌&&◌, List, [], ◌∷◌, length, take, Err, Ok, Result}
 use Rattle.std.proofs.Math.Option.{Option, some}
 use Rattle.std.proofs.Math.ListN.{get_elem?}
 use Rattle.wgsl.specs.Types.{Ty, Members, no_more, member, ends_in_runtime, everywhere, every_member, struct_kind}
@@ -13,13 +13,10 @@ use Rattle.wgsl.specs.Size.{present, members_align, members_end, offsets_of, wit
 use Rattle.wgsl.specs.File.{Trailer, trailer_of, type_entry_length, member_entry_length, TypeEntry, MemberEntry, given_size, given_align, rest_is_zero, most_types, most_members}
 use Rattle.wgsl.specs.Rule.{unused, struct_made, count_of, member_allowed, members_allowed, given_size_fits, given_align_fits, members_given_fit, is_well_formed}
 use Rattle.layout_values.specs.declared.value.Value.{Value}
-use Rattle.layout_values.specs.declared.value.Made.TheVariants as made
 use Rattle.layout_values.specs.Value.{fixed_words, narrowest, value_of, values_from, made_of}
 use Rattle.layout_structs.specs.declared.Ends.{Ends}
-use Rattle.layout_structs.specs.declared.SoFar.{SoFar}
-use Rattle.layout_structs.specs.declared.SoFar.TheVariants.{Good, Unfit, TooLarge}
-use Rattle.layout_structs.specs.declared.Stepped.{Stepped}
-use Rattle.layout_structs.specs.declared.Stepped.TheVariants.{Next, Rule}
+use Rattle.layout_values.specs.declared.value.Broken.{Broken}
+use Rattle.layout_values.specs.declared.value.Broken.TheVariants.{Given, Large, Rule}
 
 -- members, and one more after them
 unfoldable pub appended : Members → Ty → Option ℕ → Option ℕ → Members
@@ -59,8 +56,8 @@ unfoldable pub members_fit : Members → Bool
 members_fit ms = within_limits (members_end (some 0) ms ∷ offsets_of (some 0) ms)
 
 -- 6 before 7
-unfoldable pub so_far : Members → SoFar
-so_far ms = cond (members_given_fit ms) (cond (members_fit ms) (Good (ends_of ms)) TooLarge) Unfit
+unfoldable pub so_far : Members → Result Ends Broken
+so_far ms = cond (members_given_fit ms) (cond (members_fit ms) (Ok (ends_of ms)) (Err Large)) (Err Given)
 
 -- members that are no runtime arrays, so that more may follow
 unfoldable pub all_sized : Members → Bool
@@ -89,15 +86,15 @@ pub record Joins (p : Ends) (l : Value) (m : MemberEntry) (ms : Members) (t : Ty
   pub align_fits : given_align_fits t (given_align m) ≡ true
 
 -- the verdict on members is `past`, and one more of type t, whose value is l, comes
-pub record Meets (run : SoFar) (l : Value) (ms : Members) (t : Ty) : Type 0 where
+pub record Meets (run : Result Ends Broken) (l : Value) (ms : Members) (t : Ty) : Type 0 where
   pub verdict : run ≡ so_far ms
   pub layout : l ≡ value_of l.stride l.reference t
   pub going : Going ms
   pub well_formed : everywhere is_well_formed t ≡ true
 
 -- what one more member comes to: 5, or the verdict on all
-unfoldable pub stepped_to : Bool → Members → Ty → MemberEntry → Stepped
-stepped_to last ms t m = cond (rest_is_zero m && member_allowed last t) (Next (so_far (followed ms t m))) Rule
+unfoldable pub stepped_to : Bool → Members → Ty → MemberEntry → Result (Result Ends Broken) Broken
+stepped_to last ms t m = cond (rest_is_zero m && member_allowed last t) (Ok (so_far (followed ms t m))) (Err Rule)
 
 -- all members of a struct, which passed 5
 pub record Complete (ms : Members) : Type 0 where
@@ -113,7 +110,7 @@ pub record Ended (p : Ends) (ms : Members) : Type 0 where
   pub given : members_given_fit ms ≡ true
   pub fits : members_fit ms ≡ true
 
-pub record Closes (run : SoFar) (ms : Members) : Type 0 where
+pub record Closes (run : Result Ends Broken) (ms : Members) : Type 0 where
   pub verdict : run ≡ so_far ms
   pub complete : Complete ms
 
@@ -134,7 +131,7 @@ pub record Named (e : TypeEntry) (first count : ℕ) : Type 0 where
 pub record Spans (members : ℕ) (e : TypeEntry) (first count : ℕ) : Type 0 where
   pub within : first + count ≤ members
   pub named : 1 ≤ count → Named e first count
-  pub empty : e.kind ≡ struct_kind → count ≡ 0 → (f : List ℕ) (ts : List Ty) (k : ℕ) → members ≡ (trailer_of f).members → made.Rule ≡ made_of (member_length f) e.reference (struct_made f ts k e)
+  pub empty : e.kind ≡ struct_kind → count ≡ 0 → (f : List ℕ) (ts : List Ty) (k : ℕ) → members ≡ (trailer_of f).members → (Err Rule) ≡ made_of (member_length f) e.reference (struct_made f ts k e)
 
 -- the first entries of the table hold the values of these types of a file, which its rules leave
 pub record Holds (f : List ℕ) (table : List (List ℕ)) (ts : List Ty) : Type 0 where

@@ -1,20 +1,20 @@
 // A struct: its members one after the other.
 #![tactic(auto)]
 
-ghost use Rattle.std.specs.Prelude.{◌≡◌, ℕ, ◌≤◌};
+ghost use Rattle.std.specs.Prelude.{◌≡◌, ℕ, ◌≤◌, Err};
 ghost use Rattle.wgsl.specs.Types.{Ty, Members, no_more, struct};
 ghost use Rattle.wgsl.specs.Rule.{count_of};
 ghost use Rattle.file.specs.Fields.{entry_is, member_is};
 ghost use Rattle.layout_values.specs.Value.{verdict_on};
-ghost use Rattle.layout_values.specs.declared.value.Made.TheVariants.{Rule};
 ghost use Rattle.layout_structs.specs.SoFar.{so_far, followed, Joins, Meets, stepped_to, Ended, Closes, Spans, struct_of};
+ghost use Rattle.layout_values.specs.declared.value.Broken.TheVariants.{Rule};
 
 use file::fields::{MemberEntry, TypeEntry};
 use file::kinds::STRUCT;
 use layout_members::{align_fits, given_align, given_size, is_allowed, rest_is_zero, size_fits};
 use layout_values::scalars::zeros;
-use layout_values::value::{Made, Value, opens, words_of};
-use numbers::limit::{Limited, round_up, sum};
+use layout_values::value::{Value, opens, words_of};
+use numbers::limit::{round_up, sum};
 use numbers::order::{larger, smaller};
 use numbers::wide::wide;
 
@@ -29,19 +29,7 @@ pub struct Ends {
     pub narrow: u32,
 }
 
-// What the members so far come to: "5 before 6 before 7".
-#[derive(Clone, Copy)]
-pub enum SoFar {
-    Good(Ends),
-    Unfit,
-    TooLarge,
-}
 
-#[derive(Clone, Copy)]
-pub enum Stepped {
-    Next(SoFar),
-    Rule,
-}
 
 // The members that a struct's entry names, by number.
 #[derive(Clone, Copy)]
@@ -57,13 +45,13 @@ fn join(p: Ends, l: Value, m: MemberEntry) -> SoFar
 {
     let align = given_align(m, l.align);
     let size = given_size(m, l.size);
-    let Limited::Is(start) = round_up(align, p.end) else {
-        return SoFar::TooLarge;
+    let Some(start) = round_up(align, p.end) else {
+        return Err(Broken::Large);
     };
     let most = larger(p.align, align);
     let narrow = smaller(p.narrow, l.narrow);
     if opens(l) {
-        return SoFar::Good(Ends {
+        return Ok(Ends {
             end: 0,
             align: most,
             words: p.words,
@@ -71,10 +59,10 @@ fn join(p: Ends, l: Value, m: MemberEntry) -> SoFar
             narrow,
         });
     }
-    let Limited::Is(end) = sum(start, size) else {
-        return SoFar::TooLarge;
+    let Some(end) = sum(start, size) else {
+        return Err(Broken::Large);
     };
-    SoFar::Good(Ends {
+    Ok(Ends {
         end,
         align: most,
         words: p.words + words_of(l),
@@ -87,7 +75,7 @@ fn join(p: Ends, l: Value, m: MemberEntry) -> SoFar
 pub fn no_members() -> SoFar
     ensures { result ≡ so_far no_more }
 {
-    SoFar::Good(Ends {
+    Ok(Ends {
         end: 0,
         align: 1,
         words: 0,
@@ -97,26 +85,26 @@ pub fn no_members() -> SoFar
 }
 
 // One more member.
-pub fn step(past: SoFar, l: Value, m: MemberEntry, last: bool) -> Stepped
+pub fn step(past: SoFar, l: Value, m: MemberEntry, last: bool) -> Result<SoFar, Broken>
     requires { (ms : Members) × (t : Ty) × Meets past l ms t }
     ensures { (ms : Members) (t : Ty) → Meets past l ms t → result ≡ stepped_to last ms t (member_is m) }
 {
     if !rest_is_zero(m) {
-        return Stepped::Rule;
+        return Err(Broken::Rule);
     }
     if !is_allowed(l, last) {
-        return Stepped::Rule;
+        return Err(Broken::Rule);
     }
     if !size_fits(m, l) {
-        return Stepped::Next(SoFar::Unfit);
+        return Ok(Err(Broken::Given));
     }
     if !align_fits(m, l) {
-        return Stepped::Next(SoFar::Unfit);
+        return Ok(Err(Broken::Given));
     }
     match past {
-        SoFar::Good(p) => Stepped::Next(join(p, l, m)),
-        SoFar::Unfit => Stepped::Next(SoFar::Unfit),
-        SoFar::TooLarge => Stepped::Next(SoFar::TooLarge),
+        Ok(p) => Ok(join(p, l, m)),
+        Err(Broken::Given) => Ok(Err(Broken::Given)),
+        Err(Broken::Large) => Ok(Err(Broken::Large)),
     }
 }
 
@@ -137,32 +125,32 @@ fn struct_of(e: TypeEntry, p: Ends, size: u32, long: u32) -> Value
 }
 
 // The struct with the entry `e` whose members end as `p` says.
-fn whole(e: TypeEntry, p: Ends, long: u32) -> Made
+fn whole(e: TypeEntry, p: Ends, long: u32) -> Result<Value, Broken>
     requires { (ms : Members) × Ended p ms }
     ensures { (k : ℕ) (ms : Members) → Ended p ms → count_of ms ≡ e.count → result ≡ verdict_on long e.reference (struct k ms) }
 {
     if p.opens {
-        return Made::Laid(struct_of(e, p, 0, long));
+        return Ok(struct_of(e, p, 0, long));
     }
-    let Limited::Is(size) = round_up(p.align, p.end) else {
-        return Made::Large;
+    let Some(size) = round_up(p.align, p.end) else {
+        return Err(Broken::Large);
     };
-    Made::Laid(struct_of(e, p, size, long))
+    Ok(struct_of(e, p, size, long))
 }
 
 // Past the last of `count` members, whose entries are so long: a struct has one at least.
-pub fn finish(e: TypeEntry, past: SoFar, count: usize, long: u32) -> Made
+pub fn finish(e: TypeEntry, past: SoFar, count: usize, long: u32) -> Result<Value, Broken>
     requires { 1 ≤ count → (ms : Members) × Closes past ms }
-    ensures none { count ≡ 0 → result ≡ Rule }
+    ensures none { count ≡ 0 → result ≡ (Err Rule) }
     ensures all { 1 ≤ count → (k : ℕ) (ms : Members) → Closes past ms → count_of ms ≡ e.count → result ≡ verdict_on long e.reference (struct k ms) }
 {
     if count < 1 {
-        return Made::Rule;
+        return Err(Broken::Rule);
     }
     match past {
-        SoFar::Good(p) => whole(e, p, long),
-        SoFar::Unfit => Made::Given,
-        SoFar::TooLarge => Made::Large,
+        Ok(p) => whole(e, p, long),
+        Err(Broken::Given) => Err(Broken::Given),
+        Err(Broken::Large) => Err(Broken::Large),
     }
 }
 

@@ -2,6 +2,7 @@
 --
 -- In order: what `find` finds; what its answer tells.
 -- Assumes nothing.
+use Rattle.std.specs.Prelude.{Err, Ok, Result}
 use Prim.Native.Nat.{ℕ, ◌+◌, ◌*◌, ◌<◌, ◌≤◌}
 use mathlib.Core.List.{List}
 use mathlib.Core.Option.{some}
@@ -25,8 +26,6 @@ use Rattle.layout_values.proofs.ValuesOf.{table_at}
 use Rattle.layout_structs.proofs.MembersFrom.{get_elem_below}
 use Rattle.layout_table.specs.Table.{ground_of, InTable, ground_in, said_ground}
 use Rattle.layout_table.specs.declared.Ground.{Ground}
-use Rattle.layout_table.specs.declared.Grounded.{Grounded}
-use Rattle.layout_table.specs.declared.Grounded.TheVariants.{Is, Refused}
 use Rattle.layout_table.proofs.SaidTable.{Taken, inner}
 
 -- ---- what `find` finds
@@ -66,11 +65,11 @@ pub record On (f : List ℕ) (e : ℕ) (g : Ground) (table : List (List ℕ)) : 
   pub ground_is : g ≡ ground_of f e type
   pub table_is : table ≡ values_of f ts
 
-module _ (f : List ℕ) (e : ℕ) (answer : Grounded) (table : List (List ℕ)) (says : said_ground answer table ≡ ground_in f e) where
-  pub ground_told : (g : Ground) → answer ≡ Is g → On f e g table
+module _ (f : List ℕ) (e : ℕ) (answer : Result Ground Refusal) (table : List (List ℕ)) (says : said_ground answer table ≡ ground_in f e) where
+  pub ground_told : (g : Ground) → answer ≡ Ok g → On f e g table
   unfolding ground_in
   ground_told g is =
-      let x = then_good _ _ (sym says ∙ ap (λ (a : Grounded). said_ground a table) is) in
+      let x = then_good _ _ (sym says ∙ ap (λ (a : Result Ground Refusal). said_ground a table) is) in
       let y = then_good _ _ x.after in
       let same = inner y.after in
       record {
@@ -82,8 +81,8 @@ module _ (f : List ℕ) (e : ℕ) (answer : Grounded) (table : List (List ℕ)) 
         table_is = sym (ap (λ (s : InTable). s.table) same);
       }
 
-  pub ground_told_refused : (r : Refusal) → answer ≡ Refused r → entry_of f e ≡ refused (number_of r) (place_of r)
+  pub ground_told_refused : (r : Refusal) → answer ≡ Err r → entry_of f e ≡ refused (number_of r) (place_of r)
   unfolding ground_in entry_of
   ground_told_refused r is =
-      then_cases _ _ (sym says ∙ ap (λ (a : Grounded). said_ground a table) is) (λ h. then_refused _ h)
+      then_cases _ _ (sym says ∙ ap (λ (a : Result Ground Refusal). said_ground a table) is) (λ h. then_refused _ h)
       (λ x. then_cases _ _ x.after (λ h. h) (λ y. good_not_refused refl y.after))

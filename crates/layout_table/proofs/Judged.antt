@@ -3,6 +3,7 @@
 -- In order: a good trailer, and where entries and members lie; the kinds of an entry; the verdict; the entries up to one that is
 -- refused or laid out.
 -- Assumes nothing.
+use Rattle.std.specs.Prelude.{Err, Ok, Result}
 use Prim.Native.Nat.{ℕ, zero, suc, ◌+◌, ◌-◌, ◌*◌, ◌<◌}
 use mathlib.Core.Bool.{Bool, true, false, not, cond}
 use mathlib.Core.List.{List, [], ◌∷◌, ◌++◌}
@@ -22,8 +23,8 @@ use Rattle.wgsl.proofs.Trailed.{Trailed}
 use Rattle.file.specs.Members.{members_start}
 use Rattle.layout_values.specs.Value.{value_of, verdict_on, made_of}
 use Rattle.layout_values.specs.declared.value.Value.{Value}
-use Rattle.layout_values.specs.declared.value.Made.{Made}
-use Rattle.layout_values.specs.declared.value.Made.TheVariants.{Laid, Rule, Given, Large}
+use Rattle.layout_values.specs.declared.value.Broken.{Broken}
+use Rattle.layout_values.specs.declared.value.Broken.TheVariants.{Given, Large, Rule}
 
 -- ---- a good trailer
 
@@ -67,7 +68,7 @@ over_missing e =
     chosen false false false false false = refl
 
 module _ (f : List ℕ) (ts : List Ty) (k long r : ℕ) {e : TypeEntry} (is : e ≡ type_entry_at f k) where
-  pub entry_used : unused (e.zero3 ∷ e.zero6 ∷ []) ≡ false → Rule ≡ made_of long r (type_of_entry f ts k)
+  pub entry_used : unused (e.zero3 ∷ e.zero6 ∷ []) ≡ false → (Err Rule) ≡ made_of long r (type_of_entry f ts k)
   unfolding type_of_entry when made_of
   entry_used h = rw (← is, h)
 
@@ -85,7 +86,7 @@ module _ (f : List ℕ) (ts : List Ty) (k long r : ℕ) {e : TypeEntry} (is : e 
       unfolding type_of_entry when type_made
       entry_over t q h = rw (← is, zeros, high, ne_eqb e.kind struct_kind other, ← q, h)
 
-      pub entry_missing : lower ts e.reference ≡ none → Rule ≡ made_of long r (type_of_entry f ts k)
+      pub entry_missing : lower ts e.reference ≡ none → (Err Rule) ≡ made_of long r (type_of_entry f ts k)
       unfolding type_of_entry when type_made made_of
       entry_missing h =
           rw (← is, zeros, high, ne_eqb e.kind struct_kind other, h, over_missing e)
@@ -93,18 +94,18 @@ module _ (f : List ℕ) (ts : List Ty) (k long r : ℕ) {e : TypeEntry} (is : e 
 -- ---- the verdict
 
 -- what the verdict on entry k says
-unfoldable pub says : ℕ → Made → Said Value
-says k (Laid l) = good l
-says k Rule = refused 5 k
-says k Given = refused 6 k
-says k Large = refused 7 k
+unfoldable pub says : ℕ → Result Value Broken → Said Value
+says k (Ok l) = good l
+says k (Err Rule) = refused 5 k
+says k (Err Given) = refused 6 k
+says k (Err Large) = refused 7 k
 
 -- an entry's type, as the layout of it
 unfoldable valued : ℕ → ℕ → Said Ty → Said Value
 valued long r (good t) = good (value_of long r t)
 valued long r (refused number place) = refused number place
 
-steps : (k long r : ℕ) (t : Ty) (a b c : Bool) → valued long r (◌>>◌ (refuse 5 k (not a)) (◌>>◌ (refuse 6 k (not b)) (◌>>◌ (refuse 7 k (not c)) (good t)))) ≡ says k (cond a (cond b (cond c (Laid (value_of long r t)) Large) Given) Rule)
+steps : (k long r : ℕ) (t : Ty) (a b c : Bool) → valued long r (◌>>◌ (refuse 5 k (not a)) (◌>>◌ (refuse 6 k (not b)) (◌>>◌ (refuse 7 k (not c)) (good t)))) ≡ says k (cond a (cond b (cond c (Ok (value_of long r t)) (Err Large)) (Err Given)) (Err Rule))
 unfolding valued says ◌>>◌ refuse
 steps k long r t true true true = refl
 steps k long r t true true false = refl
@@ -142,7 +143,7 @@ refused_more f k zero e = rw (let z : k + 0 ≡ k = omega arith in z) e
 refused_more f k (suc d) e =
     rw (let z : k + suc d ≡ suc (k + d) = omega arith in z) (refused_next f (k + d) (refused_more f k d e))
 
-module _ {ts : List Ty} {m : Made} (f : List ℕ) (k long r : ℕ) (below : types_below f k ≡ good ts) (made : m ≡ made_of long r (type_of_entry f ts k)) where
+module _ {ts : List Ty} {m : (Result Value Broken)} (f : List ℕ) (k long r : ℕ) (below : types_below f k ≡ good ts) (made : m ≡ made_of long r (type_of_entry f ts k)) where
   -- The types up to an entry that is refused.
   pub entry_refused : {number place : ℕ} (n : ℕ) → says k m ≡ refused number place → k < n → types_below f n ≡ refused number place
   unfolding types_below
@@ -154,7 +155,7 @@ module _ {ts : List Ty} {m : Made} (f : List ℕ) (k long r : ℕ) (below : type
       rw z (refused_more f (suc k) (n - suc k) next)
 
   -- The types up to an entry that has a layout.
-  pub entry_laid : (l : Value) → m ≡ Laid l → (t : Ty) × (types_below f (suc k) ≡ good (ts ++ (t ∷ []))) × (l ≡ value_of long r t)
+  pub entry_laid : (l : Value) → m ≡ Ok l → (t : Ty) × (types_below f (suc k) ≡ good (ts ++ (t ∷ []))) × (l ≡ value_of long r t)
   unfolding types_below says
   entry_laid l e =
       let v = valued_good long r (judged f ts k) (judged_says f ts k long r ∙ ap (says k) (sym made ∙ e)) in

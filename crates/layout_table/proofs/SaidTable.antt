@@ -2,6 +2,7 @@
 --
 -- In order: an accepted file; the trailer alone; the whole table.
 -- Assumes nothing.
+use Rattle.std.specs.Prelude.{Err, Ok, Result}
 use Prim.Native.Nat.{ℕ, ◌+◌, ◌*◌, ◌≤◌}
 use mathlib.Core.List.{List}
 use mathlib.Core.Path.{◌≡◌, refl, sym, ap, ◌∙◌}
@@ -21,8 +22,6 @@ use Rattle.said.specs.declared.refusal.Refusal.{Refusal}
 use Rattle.file.specs.declared.trailer.Trailer.{Trailer}
 use Rattle.layout_values.specs.Value.{values_of}
 use Rattle.layout_table.specs.Table.{Table, table_of, said_table, accepted_trailer, said_checked}
-use Rattle.layout_table.specs.declared.Checked.{Checked}
-use Rattle.layout_table.specs.declared.Checked.TheVariants.{Types, Refused}
 
 -- ---- an accepted file
 
@@ -66,15 +65,15 @@ pub accepted_refused : {number place : ℕ} (f : List ℕ) → types_of f ≡ re
 unfolding accepted_trailer
 accepted_refused f e = sym (then_refused _ e)
 
-module _ (f : List ℕ) (answer : Checked) (says : said_checked answer ≡ accepted_trailer f) where
-  pub told : (t : Trailer) → answer ≡ Types t → Taken f t
+module _ (f : List ℕ) (answer : Result Trailer Refusal) (says : said_checked answer ≡ accepted_trailer f) where
+  pub told : (t : Trailer) → answer ≡ Ok t → Taken f t
   unfolding accepted_trailer
   told t is =
       let x = then_good _ _ (sym says ∙ ap said_checked is) in
       taken_so f t x.value x.first (cc x.after)
 
   -- A file that is refused has no types.
-  pub told_refused : (r : Refusal) → answer ≡ Refused r → types_of f ≡ refused (number_of r) (place_of r)
+  pub told_refused : (r : Refusal) → answer ≡ Err r → types_of f ≡ refused (number_of r) (place_of r)
   unfolding accepted_trailer
   told_refused r is =
       then_cases _ _ (sym says ∙ ap said_checked is) (λ h. h) (λ h. good_not_refused refl h.after)
@@ -86,23 +85,23 @@ pub inner : {A : Type 0} {a b : A} → good a ≡ good b → a ≡ b
 inner e = cc
 
 -- What is said of the table says the trailer.
-pub table_trailer : (f : List ℕ) (answer : Checked) (table : List (List ℕ)) → said_table answer table ≡ table_of f → said_checked answer ≡ accepted_trailer f
+pub table_trailer : (f : List ℕ) (answer : Result Trailer Refusal) (table : List (List ℕ)) → said_table answer table ≡ table_of f → said_checked answer ≡ accepted_trailer f
 unfolding table_of accepted_trailer
-table_trailer f (Types t) table e =
+table_trailer f (Ok t) table e =
     let x = then_good _ _ (sym e) in
     ap good (sym (ap (λ (y : Table). y.trailer) (inner x.after))) ∙ sym (then_is _ x.first)
-table_trailer f (Refused r) table e =
+table_trailer f (Err r) table e =
     sym (then_cases _ _ (sym e) (λ h. then_refused _ h) (λ h. good_not_refused refl h.after))
 
-module _ (f : List ℕ) (answer : Checked) (table : List (List ℕ)) (says : said_table answer table ≡ table_of f) where
-  pub table_refused : (r : Refusal) → answer ≡ Refused r → types_of f ≡ refused (number_of r) (place_of r)
+module _ (f : List ℕ) (answer : Result Trailer Refusal) (table : List (List ℕ)) (says : said_table answer table ≡ table_of f) where
+  pub table_refused : (r : Refusal) → answer ≡ Err r → types_of f ≡ refused (number_of r) (place_of r)
   table_refused = told_refused f answer (table_trailer f answer table says)
 
   -- The table of an accepted file holds the values of its types.
-  pub table_told : (s t : Trailer) → answer ≡ Types s → check_trailer f ≡ good (trailer_is t) → (x : Taken f t) × (table ≡ values_of f x.ts)
+  pub table_told : (s t : Trailer) → answer ≡ Ok s → check_trailer f ≡ good (trailer_is t) → (x : Taken f t) × (table ≡ values_of f x.ts)
   unfolding table_of taken_so
   table_told s t is checked =
-      let x = then_good _ _ (sym says ∙ ap (λ (a : Checked). said_table a table) is) in (
+      let x = then_good _ _ (sym says ∙ ap (λ (a : Result Trailer Refusal). said_table a table) is) in (
         taken_so f t x.value x.first (trailed f (trailer_is t) checked).is,
         sym (ap (λ (y : Table). y.values) (inner x.after)),
       )

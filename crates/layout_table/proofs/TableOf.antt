@@ -2,6 +2,7 @@
 --
 -- In order: a table that is filled up to entry k; what that entry is judged over; one entry more, or a refusal; the whole table.
 -- Assumes nothing.
+use Rattle.std.specs.Prelude.{Ok, Result}
 use Rattle.file.specs.Members.{member_length}
 use Prim.Native.Nat.{ℕ, suc, ◌+◌, ◌-◌, ◌<◌, ◌≤◌, ◌*◌}
 use mathlib.Core.List.{List, [], ◌∷◌, ◌++◌}
@@ -21,12 +22,11 @@ use Rattle.wgsl.proofs.Trailed.{Trailed, trailed}
 use Rattle.wgsl.proofs.Accepted.{below_length, below_well_formed}
 use Rattle.layout_values.specs.Value.{value_of, made_of, row_of, blank_table, values_from, values_of}
 use Rattle.layout_values.specs.declared.value.Value.{Value}
-use Rattle.layout_values.specs.declared.value.Made.{Made}
-use Rattle.layout_values.specs.declared.value.Made.TheVariants.{Laid}
 use Rattle.layout_values.proofs.ValuesOf.{values_more}
 use Rattle.layout_strays.specs.Strays.{Entries}
 use Rattle.layout_table.specs.Table.{table_of, Upward}
 use Rattle.layout_table.proofs.Judged.{types_of_lem, is_entry, base_is, members_are, says, entry_laid, entry_refused}
+use Rattle.layout_values.specs.declared.value.Broken.{Broken}
 
 -- an entry that is not filled
 abbrev blank : List ℕ
@@ -107,7 +107,7 @@ rest_more table k v h e =
     ∙ ap (λ (n : ℕ). drop 1 (replicate n blank)) z
 
 module _ {f : List ℕ} {r : Trailer} {k : ℕ} {table : List (List ℕ)} {e : TypeEntry} (t : Filled f r k table) (h : k < r.types) (is : e ≡ type_entry_at f k) where
-  pub filled_more : {l : Value} {v : List ℕ} → Laid l ≡ made_of (member_length f) e.reference (type_of_entry f t.types k) → v ≡ row_of l → Filled f r (k + 1) (set table k v)
+  pub filled_more : {l : Value} {v : List ℕ} → Ok l ≡ made_of (member_length f) e.reference (type_of_entry f t.types k) → v ≡ row_of l → Filled f r (k + 1) (set table k v)
   filled_more {l} {v} m q =
       let x = entry_laid f k (member_length f) e.reference t.below m l refl in
       let high = t.trailer.high in
@@ -124,7 +124,7 @@ module _ {f : List ℕ} {r : Trailer} {k : ℕ} {table : List (List ℕ)} {e : T
         whole = length-set table k v ∙ t.whole;
       }
 
-  pub filled_refused : {m : Made} {number place : ℕ} → m ≡ made_of (member_length f) e.reference (type_of_entry f t.types k) → says k m ≡ refused number place → refused number place ≡ table_of f
+  pub filled_refused : {m : (Result Value Broken)} {number place : ℕ} → m ≡ made_of (member_length f) e.reference (type_of_entry f t.types k) → says k m ≡ refused number place → refused number place ≡ table_of f
   unfolding table_of
   filled_refused m s =
       sym (then_refused _ (types_of_lem f r t.checked ∙ then_refused _ (entry_refused f k (member_length f) e.reference t.below m r.types s h)))

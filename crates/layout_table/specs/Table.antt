@@ -2,7 +2,7 @@
 --
 -- In order: the whole table; the entry that a call speaks of; the lower entries of one that is judged.
 -- Definitions only. Assumes nothing.
-use Rattle.std.specs.Prelude.{ℕ, ◌+◌, ◌*◌, ◌<◌, ◌≤◌, ◌≡◌, List, length}
+use Rattle.std.specs.Prelude.{ℕ, ◌+◌, ◌*◌, ◌<◌, ◌≤◌, ◌≡◌, List, length, Err, Ok, Result}
 use Rattle.wgsl.specs.Types.{Ty}
 use Rattle.wgsl.specs.Said.{Said, good, refused, ◌>>=◌}
 use Rattle.wgsl.specs.File as wgsl
@@ -14,11 +14,8 @@ use Rattle.file.specs.Fields.{trailer_is}
 use Rattle.file.specs.Members.{members_start, member_length}
 use Rattle.layout_values.specs.Value.{value_of, values_of}
 use Rattle.layout_structs.specs.SoFar.{Lower}
-use Rattle.layout_table.specs.declared.Checked.{Checked}
-use Rattle.layout_table.specs.declared.Checked.TheVariants.{Types, Refused}
 use Rattle.layout_table.specs.declared.Ground.{Ground}
-use Rattle.layout_table.specs.declared.Grounded.{Grounded}
-use Rattle.layout_table.specs.declared.Grounded.TheVariants as grounded
+use Rattle.said.specs.declared.refusal.Refusal.{Refusal}
 
 -- ---- the whole table
 
@@ -33,9 +30,9 @@ table_of f = do
   ts ← types_of f
   good (record { trailer = trailer_of f; values = values_of f ts })
 
-abbrev pub said_table : Checked → List (List ℕ) → Said Table
-said_table (Types t) table = good (record { trailer = trailer_is t; values = table })
-said_table (Refused r) table = refused (number_of r) (place_of r)
+abbrev pub said_table : Result Trailer Refusal → List (List ℕ) → Said Table
+said_table (Ok t) table = good (record { trailer = trailer_is t; values = table })
+said_table (Err r) table = refused (number_of r) (place_of r)
 
 -- the trailer alone
 unfoldable pub accepted_trailer : List ℕ → Said wgsl.Trailer
@@ -43,9 +40,9 @@ accepted_trailer f = do
   ts ← types_of f
   good (trailer_of f)
 
-abbrev pub said_checked : Checked → Said wgsl.Trailer
-said_checked (Types t) = good (trailer_is t)
-said_checked (Refused r) = refused (number_of r) (place_of r)
+abbrev pub said_checked : Result Trailer Refusal → Said wgsl.Trailer
+said_checked (Ok t) = good (trailer_is t)
+said_checked (Err r) = refused (number_of r) (place_of r)
 
 -- ---- the entry that a call speaks of
 
@@ -70,9 +67,9 @@ ground_in f e = do
   t ← entry_of f e
   good (record { ground = ground_of f e t; table = values_of f ts })
 
-abbrev pub said_ground : Grounded → List (List ℕ) → Said InTable
-said_ground (grounded.Is g) table = good (record { ground = g; table = table })
-said_ground (grounded.Refused r) table = refused (number_of r) (place_of r)
+abbrev pub said_ground : Result Ground Refusal → List (List ℕ) → Said InTable
+said_ground (Ok g) table = good (record { ground = g; table = table })
+said_ground (Err r) table = refused (number_of r) (place_of r)
 
 -- ---- the lower entries of one that is judged
 

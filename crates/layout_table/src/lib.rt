@@ -12,20 +12,15 @@ ghost use Rattle.layout_table.specs.Table.{table_of, said_table, accepted_traile
 
 use file::fields::{TYPE_ENTRY_LENGTH, TypeEntry, entry_at, member_at, member_length};
 use file::kinds::{ABSTRACT_FLOAT, STRUCT, is_scalar};
-use file::trailer::{Trailer, Trailered, check_trailer};
+use file::trailer::{Trailer, check_trailer};
 use layout_referring::over_entry;
 use layout_strays::lowest_stray;
-use layout_structs::{SoFar, Stepped, finish, no_members, span_of, step};
+use layout_structs::{SoFar, finish, no_members, span_of, step};
 use layout_values::scalars::{scalar_entry, zeros};
-use layout_values::value::{Made, Row, Value, blank, row_of, value_at};
+use layout_values::value::{Row, Value, blank, row_of, value_at};
 use numbers::wide::wide;
 use said::refusal::Refusal;
 
-#[derive(Clone, Copy)]
-pub enum Checked {
-    Types(Trailer),
-    Refused(Refusal),
-}
 
 // A struct's entry, number `k`, over the lower entries: its members one after the other.
 fn struct_entry(
@@ -36,7 +31,7 @@ fn struct_entry(
     members: usize,
     long: u32,
     table: &[Row],
-) -> Made
+) -> Result<Value, Broken>
     requires { (e.kind ≡ struct_kind) × ((ts : List Ty) × Upward f.now k (entry_is e) base members long table.now ts) }
     ensures { (ts : List Ty) → Upward f.now k (entry_is e) base members long table.now ts → result ≡ made_of long e.reference (struct_made f.now ts k (entry_is e)) }
 {
@@ -50,14 +45,14 @@ fn struct_entry(
         let m = member_at(f, at + length * i);
         let ty = wide(m.ty);
         if k <= ty {
-            return Made::Rule;
+            return Err(Broken::Rule);
         }
         match step(past, value_at(table, ty), m, i + 1 == count) {
-            Stepped::Next(r) => {
+            Ok(r) => {
                 past = r;
             }
-            Stepped::Rule => {
-                return Made::Rule;
+            Err(Broken::Rule) => {
+                return Err(Broken::Rule);
             }
         }
         i += 1;
@@ -74,12 +69,12 @@ fn entry_made(
     members: usize,
     long: u32,
     table: &[Row],
-) -> Made
+) -> Result<Value, Broken>
     requires { (ts : List Ty) × Upward f.now k (entry_is e) base members long table.now ts }
     ensures { (ts : List Ty) → Upward f.now k (entry_is e) base members long table.now ts → result ≡ made_of long e.reference (type_of_entry f.now ts k) }
 {
     if !zeros(e.zero3, e.zero6, 0, 0) {
-        return Made::Rule;
+        return Err(Broken::Rule);
     }
     // the scalars of document 01, then structs, then the scalars of 64 bits: no test is added on a struct's way
     if e.kind <= ABSTRACT_FLOAT {
@@ -93,14 +88,14 @@ fn entry_made(
     }
     let r = wide(e.reference);
     if k <= r {
-        return Made::Rule;
+        return Err(Broken::Rule);
     }
     over_entry(e, value_at(table, r))
 }
 
 // The values of the entries of a file whose trailer is good, worked out before anything else is read or written, or the refusal.
 // Refuses 5 to 7, 24.
-pub fn fill(f: &[u8], t: Trailer, table: &mut [Row]) -> Checked
+pub fn fill(f: &[u8], t: Trailer, table: &mut [Row]) -> Result<Trailer, Refusal>
     requires { (check_trailer f.now ≡ good (trailer_is t)) × (table.old ≡ blank_table) }
     ensures { said_table result table.new ≡ table_of f.now }
 {
@@ -113,36 +108,36 @@ pub fn fill(f: &[u8], t: Trailer, table: &mut [Row]) -> Checked
     while k < types {
         let e = entry_at(f, start + TYPE_ENTRY_LENGTH * k);
         match entry_made(f, e, k, base, members, long, table) {
-            Made::Laid(l) => {
+            Ok(l) => {
                 table[k] = row_of(l);
             }
-            Made::Rule => {
-                return Checked::Refused(Refusal::Rule(k));
+            Err(Broken::Rule) => {
+                return Err(Refusal::Rule(k));
             }
-            Made::Given => {
-                return Checked::Refused(Refusal::Given(k));
+            Err(Broken::Given) => {
+                return Err(Refusal::Given(k));
             }
-            Made::Large => {
-                return Checked::Refused(Refusal::Large(k));
+            Err(Broken::Large) => {
+                return Err(Refusal::Large(k));
             }
         }
         k += 1;
     }
     let stray = lowest_stray(f, start, types, members);
     if stray < members {
-        return Checked::Refused(Refusal::Stray(stray));
+        return Err(Refusal::Stray(stray));
     }
-    Checked::Types(t)
+    Ok(t)
 }
 
 // The trailer of an accepted file, or the refusal.
 // Refuses 1 to 7, 24.
-pub fn accept(f: &[u8]) -> Checked
+pub fn accept(f: &[u8]) -> Result<Trailer, Refusal>
     ensures { said_checked result ≡ accepted_trailer f.now }
 {
     match check_trailer(f) {
-        Trailered::Refused(r) => Checked::Refused(r),
-        Trailered::Good(t) => {
+        Err(r) => Err(r),
+        Ok(t) => {
             let mut table = blank();
             fill(f, t, &mut table)
         }
@@ -157,26 +152,21 @@ pub struct Ground {
     pub end: usize,
 }
 
-#[derive(Clone, Copy)]
-pub enum Grounded {
-    Is(Ground),
-    Refused(Refusal),
-}
 
 // Fills the table, and finds entry `entry` in it. Refuses 5 to 7, 24, 8.
-pub fn find(f: &[u8], t: Trailer, entry: u32, table: &mut [Row]) -> Grounded
+pub fn find(f: &[u8], t: Trailer, entry: u32, table: &mut [Row]) -> Result<Ground, Refusal>
     requires { (check_trailer f.now ≡ good (trailer_is t)) × (table.old ≡ blank_table) }
     ensures { said_ground result table.new ≡ ground_in f.now entry }
 {
     match fill(f, t, table) {
-        Checked::Refused(r) => Grounded::Refused(r),
-        Checked::Types(_) => {
+        Err(r) => Err(r),
+        Ok(_) => {
             if t.types <= entry {
-                return Grounded::Refused(Refusal::Missing);
+                return Err(Refusal::Missing);
             }
             let start = wide(t.start) + TYPE_ENTRY_LENGTH * wide(t.types);
             let end = start + wide(member_length(t.form)) * wide(t.members);
-            Grounded::Is(Ground {
+            Ok(Ground {
                 value: value_at(table, wide(entry)),
                 start,
                 end,

@@ -3,6 +3,7 @@
 -- In order: widths; which are stored; the type that a layout is of; the entry.
 -- Not here: vectors of them (`Align`).
 -- Assumes nothing.
+use Rattle.std.specs.Prelude.{Err, Ok}
 use Prim.Native.Nat.{ℕ, zero, suc, ◌<◌, ◌≤◌, min}
 use mathlib.Core.Bool.{true, false, cond}
 use mathlib.Core.List.{[], ◌∷◌}
@@ -20,7 +21,7 @@ use Rattle.wgsl.proofs.ScalarKind.{scalar_kind_is, scalar_of_kind_lem, kind_clas
 use Rattle.layout_values.proofs.VerdictOn.{present_positive, fits_small, layout_closed, layout_none, value_is, verdict_laid, made_used, made_over}
 use Rattle.layout_values.specs.Value.{stored_width, scalar_words, narrow_of, parts_of, value_of, made_of, stride_in}
 use Rattle.layout_values.specs.declared.value.Value.{Value}
-use Rattle.layout_values.specs.declared.value.Made.TheVariants.{Laid, Rule}
+use Rattle.layout_values.specs.declared.value.Broken.TheVariants.{Rule}
 
 -- ---- widths
 
@@ -178,12 +179,12 @@ unfolding words_for up
 no_bytes = refl
 
 module _ (e : TypeEntry) (long : ℕ) where
-  pub scalar_used : unused (e.columns ∷ e.rows ∷ e.reference ∷ e.count ∷ []) ≡ false → made_of long e.reference (scalar_made e) ≡ Rule
+  pub scalar_used : unused (e.columns ∷ e.rows ∷ e.reference ∷ e.count ∷ []) ≡ false → made_of long e.reference (scalar_made e) ≡ Err Rule
   unfolding scalar_made
   scalar_used h = made_used _ _ _ h
 
   module _ (zeros : unused (e.columns ∷ e.rows ∷ e.reference ∷ e.count ∷ []) ≡ true) (scalars : is_scalar_kind e.kind ≡ true) where
-    scalar_verdict : (l : Value) → l.reference ≡ e.reference → ((s : Scalar) → scalar_kind s ≡ e.kind → l ≡ value_of long l.reference (scalar s)) → made_of long e.reference (scalar_made e) ≡ Laid l
+    scalar_verdict : (l : Value) → l.reference ≡ e.reference → ((s : Scalar) → scalar_kind s ≡ e.kind → l ≡ value_of long l.reference (scalar s)) → made_of long e.reference (scalar_made e) ≡ Ok l
     unfolding scalar_made is_allowed given_fits size_of align_of min_size_of inner_numbers_of
     scalar_verdict l q h =
         let (s, k, f) = scalar_of_kind_lem e.kind scalars in
@@ -192,7 +193,7 @@ module _ (e : TypeEntry) (long : ℕ) where
         ∙ rw (← q) (verdict_laid long (scalar s) l refl refl (fits_small (scalar s) refl (omega arith) (omega arith) refl) (h s k))
 
     -- The layout of a scalar.
-    pub scalar_laid : (w n : ℕ) → ((s : Scalar) → scalar_kind s ≡ e.kind → w ≡ present (width_of s)) → ((s : Scalar) → scalar_kind s ≡ e.kind → n ≡ stored_width s) → (u : ℕ) → u ≡ words_for w → made_of long e.reference (scalar_made e) ≡ Laid (record { kind = e.kind; narrow = n; reference = e.reference; count = 1; unit = u; stride = w; size = w; align = w })
+    pub scalar_laid : (w n : ℕ) → ((s : Scalar) → scalar_kind s ≡ e.kind → w ≡ present (width_of s)) → ((s : Scalar) → scalar_kind s ≡ e.kind → n ≡ stored_width s) → (u : ℕ) → u ≡ words_for w → made_of long e.reference (scalar_made e) ≡ Ok (record { kind = e.kind; narrow = n; reference = e.reference; count = 1; unit = u; stride = w; size = w; align = w })
     unfolding kind_of narrow_of parts_of stride_in size_of align_of is_open
     scalar_laid w n width narrow u unit =
         scalar_verdict _ refl

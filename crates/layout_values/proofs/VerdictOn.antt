@@ -3,6 +3,7 @@
 -- In order: numbers that may be absent; the limit; types with and without a layout; a layout's fields; the verdict; types that are made
 -- over a scalar.
 -- Assumes nothing.
+use Rattle.std.specs.Prelude.{Err, Ok}
 use Prim.Native.Nat.{ℕ, ◌<◌, ◌≤◌}
 use mathlib.Core.Bool.{Bool, true, false, cond}
 use mathlib.Core.List.{List, [], ◌∷◌}
@@ -17,7 +18,7 @@ use Rattle.wgsl.specs.Round.{within_limit}
 use Rattle.wgsl.specs.Rule.{when, and_then, is_allowed, given_fits}
 use Rattle.layout_values.specs.Value.{narrow_of, parts_of, value_of, verdict_on, made_of, stride_in}
 use Rattle.layout_values.specs.declared.value.Value.{Value}
-use Rattle.layout_values.specs.declared.value.Made.TheVariants.{Laid, Rule}
+use Rattle.layout_values.specs.declared.value.Broken.TheVariants.{Rule}
 
 -- ---- numbers that may be absent
 
@@ -70,23 +71,23 @@ unit_none t a w h z = rw (h, z)
 
 -- ---- the verdict
 
-verdict_rule : (n r : ℕ) (t : Ty) → is_allowed t ≡ false → verdict_on n r t ≡ Rule
+verdict_rule : (n r : ℕ) (t : Ty) → is_allowed t ≡ false → verdict_on n r t ≡ Err Rule
 unfolding verdict_on
 verdict_rule n r t h = rw h
 
-pub verdict_laid : (long : ℕ) (t : Ty) (l : Value) → is_allowed t ≡ true → given_fits t ≡ true → fits_limit t ≡ true → l ≡ value_of long l.reference t → verdict_on long l.reference t ≡ Laid l
+pub verdict_laid : (long : ℕ) (t : Ty) (l : Value) → is_allowed t ≡ true → given_fits t ≡ true → fits_limit t ≡ true → l ≡ value_of long l.reference t → verdict_on long l.reference t ≡ Ok l
 unfolding verdict_on
 verdict_laid long t l a g f e = rw (a, g, f, ← e)
 
 -- ---- types that are made over a scalar
 
 -- A field that is not zero is refusal 5.
-pub made_used : (n r : ℕ) {b : Bool} (x : Option Ty) → b ≡ false → made_of n r (when b x) ≡ Rule
+pub made_used : (n r : ℕ) {b : Bool} (x : Option Ty) → b ≡ false → made_of n r (when b x) ≡ Err Rule
 unfolding when made_of
 made_used n r x h = rw h
 
 -- So is a type that is not allowed over the scalar, if there is one.
-pub made_rule : (n r : ℕ) (b : Bool) (o : Option Scalar) (f : Scalar → Ty) → ((s : Scalar) → o ≡ some s → is_allowed (f s) ≡ false) → made_of n r (when b (and_then o (λ s. some (f s)))) ≡ Rule
+pub made_rule : (n r : ℕ) (b : Bool) (o : Option Scalar) (f : Scalar → Ty) → ((s : Scalar) → o ≡ some s → is_allowed (f s) ≡ false) → made_of n r (when b (and_then o (λ s. some (f s)))) ≡ Err Rule
 unfolding when and_then made_of
 made_rule n r true (some s) f h = verdict_rule n r (f s) (h s refl)
 made_rule n r true none f h = refl

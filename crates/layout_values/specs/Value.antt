@@ -3,7 +3,7 @@
 -- In order: a type's narrowest word, its parts; its value; the numbers of a value, and values in a
 -- table; the verdict on an entry's type; values that are some type's.
 -- Definitions only. Assumes nothing.
-use Rattle.std.specs.Prelude.{ℕ, suc, ◌-◌, ◌*◌, min, ◌≡◌, true, cond, List, [], ◌∷◌, ◌++◌, eqb, length, get_or, replicate}
+use Rattle.std.specs.Prelude.{ℕ, suc, ◌-◌, ◌*◌, min, ◌≡◌, true, cond, List, [], ◌∷◌, ◌++◌, eqb, length, get_or, replicate, Err, Ok, Result}
 use Rattle.std.proofs.Math.Option.{Option, none, some}
 use Rattle.wgsl.specs.Types.{Scalar, Ty, scalar, vector, matrix, array, runtime, atomic, struct, Members, no_more, member, everywhere, kind_of, struct_kind}
 use Rattle.wgsl.specs.Size.{present, width_of, vector_align, size_of, align_of, stride_of, fits_limit, has_layout, is_stored}
@@ -12,8 +12,8 @@ use Rattle.file.specs.Members.{member_length}
 use Rattle.wgsl.specs.Rule.{count_of, is_allowed, given_fits, is_well_formed}
 use Rattle.wgsl.specs.Place.{words_for, word_count}
 use Rattle.layout_values.specs.declared.value.Value.{Value}
-use Rattle.layout_values.specs.declared.value.Made.{Made}
-use Rattle.layout_values.specs.declared.value.Made.TheVariants.{Laid, Rule, Given, Large}
+use Rattle.layout_values.specs.declared.value.Broken.{Broken}
+use Rattle.layout_values.specs.declared.value.Broken.TheVariants.{Given, Large, Rule}
 
 -- ---- a type's numbers
 
@@ -131,14 +131,14 @@ values_of f ts = values_from f 0 ts ++ replicate (most_types - length ts) (repli
 -- ---- the verdict on an entry's type
 
 -- 5, 6 or 7, or the value
-unfoldable pub verdict_on : ℕ → ℕ → Ty → Made
+unfoldable pub verdict_on : ℕ → ℕ → Ty → Result Value Broken
 verdict_on long reference t =
-    cond (is_allowed t) (cond (given_fits t) (cond (fits_limit t) (Laid (value_of long reference t)) Large) Given) Rule
+    cond (is_allowed t) (cond (given_fits t) (cond (fits_limit t) (Ok (value_of long reference t)) (Err Large)) (Err Given)) (Err Rule)
 
 -- the same of an entry with this reference whose fields make a type, or none
-unfoldable pub made_of : ℕ → ℕ → Option Ty → Made
+unfoldable pub made_of : ℕ → ℕ → Option Ty → Result Value Broken
 made_of long reference (some t) = verdict_on long reference t
-made_of long reference none = Rule
+made_of long reference none = Err Rule
 
 -- ---- values that are some type's
 

@@ -7,7 +7,7 @@ ghost use Rattle.wgsl.specs.Place.{words_for};
 ghost use Rattle.file.specs.Fields.{entry_is};
 ghost use Rattle.layout_values.specs.Value.{stored_width, made_of};
 
-use crate::value::{Made, Value};
+use crate::value::Value;
 use file::fields::TypeEntry;
 use file::kinds::{F16, F32, I32, I64};
 use numbers::order::smaller;
@@ -85,18 +85,18 @@ pub fn unless_absent(align: u32, unit: u32) -> u32
 }
 
 // A scalar's entry: kinds 0 to 6, and 13 to 15.
-pub fn scalar_entry(e: TypeEntry) -> Made
+pub fn scalar_entry(e: TypeEntry) -> Result<Value, Broken>
     requires { is_scalar_kind e.kind ≡ true }
     ensures { (long : ℕ) → result ≡ made_of long e.reference (scalar_made (entry_is e)) }
 {
     let kind = e.kind;
     if !zeros(e.columns, e.rows, e.reference, e.count) {
-        return Made::Rule;
+        return Err(Broken::Rule);
     }
     let w = scalar_size(kind);
     let narrow = stored_width(kind);
     let unit = scalar_words(w);
-    Made::Laid(Value {
+    Ok(Value {
         kind,
         narrow,
         reference: e.reference,

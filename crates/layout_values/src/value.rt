@@ -47,14 +47,6 @@ pub struct Value {
     pub align: u32,
 }
 
-// What becomes of an entry: a value, or document 01's 5, 6 or 7.
-#[derive(Clone, Copy)]
-pub enum Made {
-    Laid(Value),
-    Rule,
-    Given,
-    Large,
-}
 
 // The table before it is filled.
 pub fn blank() -> [Row; 256]

@@ -3,6 +3,7 @@
 --
 -- In order: a call's answer; demand 2; a path to one scalar, by `view_at`; demand 3.
 -- Assumes nothing.
+use Rattle.std.specs.Prelude.{Ok, Result, ℕ}
 use Prim.Native.Nat.{ℕ, ◌+◌, ◌%◌, ◌≤◌}
 use mathlib.Core.List.{List}
 use mathlib.Core.Logic.{◌⊎◌}
@@ -21,22 +22,21 @@ use Rattle.wgsl.specs.Demand.{Given, Leading, Words, SetThenRead}
 use Rattle.wgsl.proofs.Said.{good_not_refused}
 use Rattle.wgsl.proofs.Claims.{writing_good_if, writing, reading_what_was_written}
 use Rattle.wgsl.proofs.Demand.{demand_three}
-use Rattle.said.specs.declared.answer.Number.{Number}
-use Rattle.said.specs.declared.answer.Number.TheVariants.{Is}
-use Rattle.said.specs.Answer.{said_number}
 use Rattle.said.proofs.Single.{single_number}
 use Rattle.said.specs.declared.target.Target.{Target}
 use Rattle.said.specs.Target.{target_is, reached}
 use Rattle.paths.proofs.SetTarget.{scalar_shape}
 use Rattle.lepugaso.specs.Claim.{Writes, Reads, Sets}
 use Rattle.lepugaso.specs.Demand.{Filled, TwoOnTheCode, ToScalar, IsSet, OneReplaced, ThreeOnTheCode}
+use Rattle.said.specs.declared.refusal.Refusal.{Refusal}
+use Rattle.said.specs.Answer.{said}
 
 -- ---- a call's answer
 
 -- where the definition gives a value and contents, so does the call
-good_answer : {said : Said Done} {v : ℕ} {c : List ℕ} (r : Number) → said ≡ good (record { value = v; contents = c }) → said_number r ≡ answer_of said → r ≡ Is v
+good_answer : {said : Said Done} {v : ℕ} {c : List ℕ} (r : Result ℕ Refusal) → said ≡ good (record { value = v; contents = c }) → said r ≡ answer_of said → r ≡ Ok v
 unfolding answer_of
-good_answer r is q = single_number r (Is _) (q ∙ ap answer_of is) refl
+good_answer r is q = single_number r (Ok _) (q ∙ ap answer_of is) refl
 
 good_contents : {said : Said Done} {v : ℕ} {c after : List ℕ} (before : List ℕ) → said ≡ good (record { value = v; contents = c }) → after ≡ contents_of before said → after ≡ c
 unfolding contents_of
@@ -57,7 +57,7 @@ answer_refused (refused number place) before q = refl
 -- ---- demand 2
 
 module _ (f : List ℕ) (e : ℕ) (ws b : List ℕ) where
-  wrote_filled : (n : ℕ) (b' : List ℕ) → Writes f e ws b (Is n) b' → Filled f e ws b n b'
+  wrote_filled : (n : ℕ) (b' : List ℕ) → Writes f e ws b (Ok n) b' → Filled f e ws b n b'
   wrote_filled n b' x =
       let (c, is) = answer_good (write_call f e ws b) n x.answer in
       let w = writing f e ws b (record { value = n; contents = c }) is in
@@ -133,7 +133,7 @@ module _ {f : List ℕ} {e : ℕ} {b : List ℕ} (g : Given f e b) where
       ((demand_three g).apart p q t.offset u.offset s.kind z.kind s.leading z.leading v w)
 
   -- the definitions' demand, at the scalar that a path leads to
-  module _ (path : List ℕ) (t : Target) (x : ToScalar f e b path t) (new : List ℕ) (holds : Holds t.size t.offset new) (r : Number) (b' : List ℕ) (s : Sets f e path new b r b') (ws : List ℕ) (enough : word_count 0 g.type ≤ length ws) where
+  module _ (path : List ℕ) (t : Target) (x : ToScalar f e b path t) (new : List ℕ) (holds : Holds t.size t.offset new) (r : Result ℕ Refusal) (b' : List ℕ) (s : Sets f e path new b r b') (ws : List ℕ) (enough : word_count 0 g.type ≤ length ws) where
     abbrev here : ScalarAt f e b path t
     here = scalar_lies_at x
 
@@ -152,7 +152,7 @@ module _ {f : List ℕ} {e : ℕ} {b : List ℕ} (g : Given f e b) where
               ap (λ (c : List ℕ). get_or c i 0) buffer_is ∙ told.others_stay i (rw here.size_is at o);
         }
 
-    one_replaced : (p q : Number) (old now : List ℕ) → Reads f e b ws p old → Reads f e b' ws q now → OneReplaced g t new p old q now
+    one_replaced : (p q : Result ℕ Refusal) (old now : List ℕ) → Reads f e b ws p old → Reads f e b' ws q now → OneReplaced g t new p old q now
     unfolding word_places
     one_replaced p q old now before after =
         let after_is : read_call f e b' ws ≡ good (record { value = told.count; contents = sets told.old told.position new }) =

@@ -8,8 +8,8 @@ ghost use Rattle.wgsl.specs.Listing.{listed, listing_of};
 ghost use Rattle.puts.specs.Put.{Put};
 ghost use Rattle.listing_file.specs.List.{listing_room, Entries};
 
-use file::trailer::{Trailered, check_trailer};
-use layout_table::{Checked, fill};
+use file::trailer::check_trailer;
+use layout_table::fill;
 use layout_values::value::{Row, blank, stride_of, value_at};
 use listing_text::{put_heading, put_line, put_refused};
 use said::refusal::{number, place};
@@ -42,12 +42,12 @@ pub fn list(file: &[u8], out: &mut [u8]) -> usize
         return put_refused(out, 0, 17, 0);
     }
     match check_trailer(file) {
-        Trailered::Refused(r) => put_refused(out, 0, number(r), place(r)),
-        Trailered::Good(t) => {
+        Err(r) => put_refused(out, 0, number(r), place(r)),
+        Ok(t) => {
             let mut table = blank();
             match fill(file, t, &mut table) {
-                Checked::Types(_) => put_entries(out, &table, t.types),
-                Checked::Refused(r) => put_refused(out, 0, number(r), place(r)),
+                Ok(_) => put_entries(out, &table, t.types),
+                Err(r) => put_refused(out, 0, number(r), place(r)),
             }
         }
     }

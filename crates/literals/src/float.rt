@@ -3,12 +3,11 @@ ghost use Rattle.std.specs.Prelude.{◌≡◌, ◌*◌, ◌^◌, ◌<◌, ◌≤
 ghost use Rattle.wgsl.specs.Said.{or_refuse};
 ghost use Rattle.wgsl.specs.Rule.{and_then};
 ghost use Rattle.wgsl.specs.Literal as literal;
-ghost use Rattle.said.specs.Answer.{said_pattern};
 ghost use Rattle.literals.specs.Formats.{IsFormat, Fits, number_in, power_in, to_kind};
+ghost use Rattle.said.specs.Answer.{said};
 
 use file::kinds::{ABSTRACT_FLOAT, F16, F32};
 use literals_round::round_to;
-use said::answer::Pattern;
 use said::refusal::Refusal;
 
 // A float's format: the bits of its fraction, its unit as a power of two over 2 ^ -1074, and what infinity and the sign are as patterns.
@@ -54,18 +53,18 @@ pub fn double() -> Format
 }
 
 // The number * 2 ^ power, of units of 2 ^ -1074, with its sign in a format.
-pub fn in_format(f: Format, negative: bool, number: u64, power: u32) -> Pattern
+pub fn in_format(f: Format, negative: bool, number: u64, power: u32) -> Result<u64, Refusal>
     requires { Fits f × (number ≤ 9223372036854775808) × (power ≤ 2046) }
-    ensures { (g : literal.Format) → IsFormat f g → said_pattern result ≡ or_refuse 25 0 (literal.in_format g (record { negative = negative; worth = number * 2 ^ power })) }
+    ensures { (g : literal.Format) → IsFormat f g → said result ≡ or_refuse 25 0 (literal.in_format g (record { negative = negative; worth = number * 2 ^ power })) }
 {
     let pattern = round_to(number, power, f.digits, f.unit);
     if f.infinity <= pattern {
-        return Pattern::Refused(Refusal::NoConversion);
+        return Err(Refusal::NoConversion);
     }
     if negative {
-        return Pattern::Is(f.sign + pattern);
+        return Ok(f.sign + pattern);
     }
-    Pattern::Is(pattern)
+    Ok(pattern)
 }
 
 // The number and the power of two that a pattern of an abstract float, without its sign, stands for.
@@ -89,13 +88,13 @@ fn power_of(pattern: u64) -> u32
 }
 
 // An abstract float in a format.
-fn float_in(f: Format, bits: u64) -> Pattern
+fn float_in(f: Format, bits: u64) -> Result<u64, Refusal>
     requires { Fits f }
-    ensures { (g : literal.Format) → IsFormat f g → said_pattern result ≡ or_refuse 25 0 (and_then (literal.float_of bits) (literal.in_format g)) }
+    ensures { (g : literal.Format) → IsFormat f g → said result ≡ or_refuse 25 0 (and_then (literal.float_of bits) (literal.in_format g)) }
 {
     let pattern = bits % 0x8000_0000_0000_0000;
     if 0x7ff0_0000_0000_0000 <= pattern {
-        return Pattern::Refused(Refusal::NoConversion);
+        return Err(Refusal::NoConversion);
     }
     in_format(
         f,
@@ -106,11 +105,11 @@ fn float_in(f: Format, bits: u64) -> Pattern
 }
 
 // An abstract float as another kind.
-pub fn from_float(bits: u64, to: u32) -> Pattern
-    ensures { said_pattern result ≡ to_kind literal.from_float bits to }
+pub fn from_float(bits: u64, to: u32) -> Result<u64, Refusal>
+    ensures { said result ≡ to_kind literal.from_float bits to }
 {
     if to == ABSTRACT_FLOAT {
-        return Pattern::Is(bits);
+        return Ok(bits);
     }
     if to == F32 {
         return float_in(single(), bits);
@@ -118,5 +117,5 @@ pub fn from_float(bits: u64, to: u32) -> Pattern
     if to == F16 {
         return float_in(half(), bits);
     }
-    Pattern::Refused(Refusal::NoConversion)
+    Err(Refusal::NoConversion)
 }

@@ -2,12 +2,11 @@
 ghost use Rattle.std.specs.Prelude.{◌≡◌};
 ghost use Rattle.wgsl.specs.Said.{or_refuse};
 ghost use Rattle.wgsl.specs.Literal as literal;
-ghost use Rattle.said.specs.Answer.{said_pattern};
 ghost use Rattle.literals.specs.Formats.{IsFormat, Fits, NoInteger, to_kind};
+ghost use Rattle.said.specs.Answer.{said};
 
 use crate::float::{Format, double, half, in_format, single};
 use file::kinds::{ABSTRACT_FLOAT, ABSTRACT_INT, F16, F32, I32, U32};
-use said::answer::Pattern;
 use said::refusal::Refusal;
 
 // Without its sign.
@@ -20,38 +19,38 @@ fn magnitude(bits: u64) -> u64
     0xffff_ffff_ffff_ffff - bits + 1
 }
 
-fn in_i32(bits: u64) -> Pattern
-    ensures { said_pattern result ≡ or_refuse 25 0 (literal.in_i32 (literal.whole_of bits)) }
+fn in_i32(bits: u64) -> Result<u64, Refusal>
+    ensures { said result ≡ or_refuse 25 0 (literal.in_i32 (literal.whole_of bits)) }
 {
     if bits < 0x8000_0000 {
-        return Pattern::Is(bits);
+        return Ok(bits);
     }
     if bits < 0xffff_ffff_8000_0000 {
-        return Pattern::Refused(Refusal::NoConversion);
+        return Err(Refusal::NoConversion);
     }
-    Pattern::Is(bits - 0xffff_ffff_0000_0000)
+    Ok(bits - 0xffff_ffff_0000_0000)
 }
 
-fn in_u32(bits: u64) -> Pattern
-    ensures { said_pattern result ≡ or_refuse 25 0 (literal.in_u32 (literal.whole_of bits)) }
+fn in_u32(bits: u64) -> Result<u64, Refusal>
+    ensures { said result ≡ or_refuse 25 0 (literal.in_u32 (literal.whole_of bits)) }
 {
     if bits < 0x1_0000_0000 {
-        return Pattern::Is(bits);
+        return Ok(bits);
     }
-    Pattern::Refused(Refusal::NoConversion)
+    Err(Refusal::NoConversion)
 }
 
-fn int_in(f: Format, bits: u64) -> Pattern
+fn int_in(f: Format, bits: u64) -> Result<u64, Refusal>
     requires { Fits f }
-    ensures { (g : literal.Format) → IsFormat f g → said_pattern result ≡ or_refuse 25 0 (literal.in_format g (literal.literal_of (literal.whole_of bits))) }
+    ensures { (g : literal.Format) → IsFormat f g → said result ≡ or_refuse 25 0 (literal.in_format g (literal.literal_of (literal.whole_of bits))) }
 {
     in_format(f, 0x8000_0000_0000_0000 <= bits, magnitude(bits), 1074)
 }
 
 // As a float of any format.
-fn in_float(bits: u64, to: u32) -> Pattern
+fn in_float(bits: u64, to: u32) -> Result<u64, Refusal>
     requires { NoInteger to }
-    ensures { said_pattern result ≡ to_kind literal.from_int bits to }
+    ensures { said result ≡ to_kind literal.from_int bits to }
 {
     if to == F32 {
         return int_in(single(), bits);
@@ -62,15 +61,15 @@ fn in_float(bits: u64, to: u32) -> Pattern
     if to == ABSTRACT_FLOAT {
         return int_in(double(), bits);
     }
-    Pattern::Refused(Refusal::NoConversion)
+    Err(Refusal::NoConversion)
 }
 
 // As any kind.
-pub fn from_int(bits: u64, to: u32) -> Pattern
-    ensures { said_pattern result ≡ to_kind literal.from_int bits to }
+pub fn from_int(bits: u64, to: u32) -> Result<u64, Refusal>
+    ensures { said result ≡ to_kind literal.from_int bits to }
 {
     if to == ABSTRACT_INT {
-        return Pattern::Is(bits);
+        return Ok(bits);
     }
     if to == I32 {
         return in_i32(bits);

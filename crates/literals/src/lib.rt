@@ -7,12 +7,11 @@ pub mod int;
 ghost use Rattle.std.specs.Prelude.{◌≡◌, ◌%◌, ◌^◌};
 ghost use Rattle.wgsl.specs.Types.{Scalar, scalar_kind};
 ghost use Rattle.wgsl.specs.Literal.{pattern_bits, convert_call};
-ghost use Rattle.said.specs.Answer.{said_pattern};
+ghost use Rattle.said.specs.Answer.{said};
 
 use crate::float::from_float;
 use crate::int::from_int;
 use file::kinds::{ABSTRACT_FLOAT, ABSTRACT_INT, BOOL, F16, F32, is_scalar};
-use said::answer::Pattern;
 use said::refusal::Refusal;
 
 // The pattern of a scalar of this kind, in the lowest bits.
@@ -32,8 +31,8 @@ fn low_bits(kind: u32, bits: u64) -> u64
 }
 
 // The pattern `bits` of kind `from` as one of kind `to`; else 25.
-pub fn convert(from: u32, bits: u64, to: u32) -> Pattern
-    ensures { said_pattern result ≡ convert_call from bits to }
+pub fn convert(from: u32, bits: u64, to: u32) -> Result<u64, Refusal>
+    ensures { said result ≡ convert_call from bits to }
 {
     if from == ABSTRACT_INT {
         return from_int(bits, to);
@@ -42,10 +41,10 @@ pub fn convert(from: u32, bits: u64, to: u32) -> Pattern
         return from_float(bits, to);
     }
     if from != to {
-        return Pattern::Refused(Refusal::NoConversion);
+        return Err(Refusal::NoConversion);
     }
     if !is_scalar(from) {
-        return Pattern::Refused(Refusal::NoConversion);
+        return Err(Refusal::NoConversion);
     }
-    Pattern::Is(low_bits(from, bits))
+    Ok(low_bits(from, bits))
 }

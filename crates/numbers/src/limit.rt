@@ -9,25 +9,20 @@ use crate::wide::{wide, wide32};
 // The most that a number may be, and so the most bytes of a buffer.
 pub const LIMIT: usize = 4294967295;
 
-#[derive(Clone, Copy)]
-pub enum Limited {
-    Is(u32),
-    TooLarge,
-}
 
 // The number itself, if it is within the limit.
-pub fn within(n: u64) -> Limited
+pub fn within(n: u64) -> Option<u32>
     ensures { result ≡ limited n }
 {
     if n <= 4294967295 {
-        Limited::Is(n as u32)
+        Some(n as u32)
     } else {
-        Limited::TooLarge
+        None
     }
 }
 
 // The least multiple of `a` not below `n`, by the mask of `up_power`, in 64 bits.
-pub fn round_up(a: u32, n: u32) -> Limited
+pub fn round_up(a: u32, n: u32) -> Option<u32>
     requires { IsPower a }
     ensures { result ≡ limited (up a n) }
 {
@@ -35,14 +30,14 @@ pub fn round_up(a: u32, n: u32) -> Limited
 }
 
 // The product of two numbers.
-pub fn product(a: u32, b: u32) -> Limited
+pub fn product(a: u32, b: u32) -> Option<u32>
     ensures { result ≡ limited (a * b) }
 {
     within(wide32(a) * wide32(b))
 }
 
 // The sum of two numbers.
-pub fn sum(a: u32, b: u32) -> Limited
+pub fn sum(a: u32, b: u32) -> Option<u32>
     ensures { result ≡ limited (a + b) }
 {
     within(wide32(a) + wide32(b))

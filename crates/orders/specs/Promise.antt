@@ -2,20 +2,20 @@
 --
 -- In order: where a struct ends as it stands; a struct that a call means; the two calls.
 -- Definitions only. Assumes nothing.
-use Rattle.std.specs.Prelude.{ℕ, ◌≡◌, true, List}
+use Rattle.std.specs.Prelude.{ℕ, ◌≡◌, true, List, Result}
 use Rattle.wgsl.specs.Types.{Ty, struct, Members, is_open, everywhere}
 use Rattle.wgsl.specs.Rule.{is_well_formed}
 use Rattle.wgsl.specs.Said.{or_refuse}
 use Rattle.wgsl.specs.Place.{extent_of}
 use Rattle.wgsl.specs.Order.{new_end, plan_members, plan_call, order_call}
-use Rattle.said.specs.declared.answer.Number.{Number}
-use Rattle.said.specs.Answer.{said_number, Answered}
+use Rattle.said.specs.Answer.{said, Answered}
 use Rattle.layout_values.specs.declared.value.Value.{Value}
 use Rattle.layout_values.specs.Value.{value_of}
 use Rattle.layout_table.specs.declared.Ground.{Ground}
 use Rattle.walk_decide.specs.Decide.{rest_from, Findable}
 use Rattle.walk_decide.specs.Meant.{Meant}
 use Rattle.orders_members.specs.Entries.{Struct}
+use Rattle.said.specs.declared.refusal.Refusal.{Refusal}
 
 -- ---- where a struct ends as it stands
 
@@ -35,17 +35,17 @@ pub record StructMeant (bytes : List ℕ) (table : List (List ℕ)) (l : Value) 
 
 -- ---- the two calls
 
-abbrev pub StructOrdered : List ℕ → List (List ℕ) → Value → List ℕ → Number → Type 0
+abbrev pub StructOrdered : List ℕ → List (List ℕ) → Value → List ℕ → Result ℕ Refusal → Type 0
 StructOrdered bytes table l order r =
-    (k : ℕ) (ms : Members) → StructMeant bytes table l ms → said_number r ≡ or_refuse 23 0 (new_end k ms order)
+    (k : ℕ) (ms : Members) → StructMeant bytes table l ms → said r ≡ or_refuse 23 0 (new_end k ms order)
 
-abbrev pub StructPlanned : List ℕ → List (List ℕ) → Value → Number → List ℕ → List ℕ → Type 0
+abbrev pub StructPlanned : List ℕ → List (List ℕ) → Value → Result ℕ Refusal → List ℕ → List ℕ → Type 0
 StructPlanned bytes table l r before after =
     (ms : Members) → Struct bytes table l ms → Answered (plan_members ms before) r before after
 
-abbrev pub MeantOrdered : List ℕ → ℕ → Ground → List (List ℕ) → List ℕ → Number → Type 0
-MeantOrdered f e g table order r = (t : Ty) → Meant f e g table t → said_number r ≡ order_call f e order
+abbrev pub MeantOrdered : List ℕ → ℕ → Ground → List (List ℕ) → List ℕ → Result ℕ Refusal → Type 0
+MeantOrdered f e g table order r = (t : Ty) → Meant f e g table t → said r ≡ order_call f e order
 
-abbrev pub MeantPlanned : List ℕ → ℕ → Ground → List (List ℕ) → Number → List ℕ → List ℕ → Type 0
+abbrev pub MeantPlanned : List ℕ → ℕ → Ground → List (List ℕ) → Result ℕ Refusal → List ℕ → List ℕ → Type 0
 MeantPlanned f e g table r before after =
     (t : Ty) → Meant f e g table t → Answered (plan_call f e before) r before after

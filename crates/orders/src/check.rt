@@ -3,18 +3,16 @@ ghost use Rattle.std.specs.Prelude.{◌≡◌};
 ghost use Rattle.wgsl.specs.Types.{Ty, Members};
 ghost use Rattle.wgsl.specs.Place.{extent_of};
 ghost use Rattle.wgsl.specs.Order.{order_call};
-ghost use Rattle.said.specs.Answer.{said_number};
 ghost use Rattle.walk_decide.specs.Meant.{Meant};
 ghost use Rattle.orders.specs.Promise.{Ends, StructMeant, StructOrdered, MeantOrdered};
+ghost use Rattle.said.specs.Answer.{said};
 
 use file::kinds::STRUCT;
-use file::trailer::{Trailered, check_trailer};
-use layout_table::{Ground, Grounded, find};
+use file::trailer::check_trailer;
+use layout_table::{Ground, find};
 use layout_values::value::{Row, Value, blank, opens};
-use numbers::limit::Limited;
 use numbers::wide::wide;
 use orders_check::{all_once, end_in};
-use said::answer::Number;
 use said::refusal::Refusal;
 use walk_decide::rest_of;
 
@@ -30,34 +28,34 @@ fn end_now(members: &[u8], table: &[Row], l: Value) -> usize
 }
 
 // 23 for a struct of the value `l`: every position once, and a smaller end.
-fn check_struct(members: &[u8], table: &[Row], l: Value, order: &[u32]) -> Number
+fn check_struct(members: &[u8], table: &[Row], l: Value, order: &[u32]) -> Result<u32, Refusal>
     requires { (ms : Members) × StructMeant members.now table.now l ms }
     ensures { StructOrdered members.now table.now l order.now result }
 {
     let count = wide(l.count);
     if order.len() != count {
-        return Number::Refused(Refusal::NoOrder);
+        return Err(Refusal::NoOrder);
     }
     if !all_once(order, count) {
-        return Number::Refused(Refusal::NoOrder);
+        return Err(Refusal::NoOrder);
     }
-    let Limited::Is(end) = end_in(members, table, l, order) else {
-        return Number::Refused(Refusal::NoOrder);
+    let Some(end) = end_in(members, table, l, order) else {
+        return Err(Refusal::NoOrder);
     };
     if wide(end) < end_now(members, table, l) {
-        return Number::Is(end);
+        return Ok(end);
     }
-    Number::Refused(Refusal::NoOrder)
+    Err(Refusal::NoOrder)
 }
 
 // 9, and then the rest.
-fn check_entry_at(file: &[u8], e: usize, g: Ground, table: &[Row], order: &[u32]) -> Number
+fn check_entry_at(file: &[u8], e: usize, g: Ground, table: &[Row], order: &[u32]) -> Result<u32, Refusal>
     requires { (t : Ty) × Meant file.now e g table.now t }
     ensures { MeantOrdered file.now e g table.now order.now result }
 {
     let l = g.value;
     if l.kind != STRUCT {
-        return Number::Refused(Refusal::Absent);
+        return Err(Refusal::Absent);
     }
     let start = g.start;
     let end = g.end;
@@ -67,16 +65,16 @@ fn check_entry_at(file: &[u8], e: usize, g: Ground, table: &[Row], order: &[u32]
 // Whether the members of entry `entry`, a struct, may stand in this order, given as their positions: every one once, a runtime array still
 // last, no number above the limit, and a smaller end, which is the answer: the size, or where the runtime array starts.
 // Refuses 1 to 7, 24 (file), 8, 9 (no struct), 23 (any other order, of whatever length).
-pub fn check_order(file: &[u8], entry: u32, order: &[u32]) -> Number
-    ensures { said_number result ≡ order_call file.now entry order.now }
+pub fn check_order(file: &[u8], entry: u32, order: &[u32]) -> Result<u32, Refusal>
+    ensures { said result ≡ order_call file.now entry order.now }
 {
     match check_trailer(file) {
-        Trailered::Refused(r) => Number::Refused(r),
-        Trailered::Good(t) => {
+        Err(r) => Err(r),
+        Ok(t) => {
             let mut table = blank();
             match find(file, t, entry, &mut table) {
-                Grounded::Refused(r) => Number::Refused(r),
-                Grounded::Is(g) => check_entry_at(file, wide(entry), g, &table, order),
+                Err(r) => Err(r),
+                Ok(g) => check_entry_at(file, wide(entry), g, &table, order),
             }
         }
     }

@@ -3,40 +3,39 @@ ghost use Rattle.std.specs.Prelude.{◌≡◌};
 ghost use Rattle.wgsl.specs.Types.{Ty, Members};
 ghost use Rattle.wgsl.specs.Call.{answer_of, contents_of};
 ghost use Rattle.wgsl.specs.Order.{plan_call};
-ghost use Rattle.said.specs.Answer.{said_number};
 ghost use Rattle.walk_decide.specs.Meant.{Meant};
 ghost use Rattle.orders_members.specs.Entries.{Struct};
 ghost use Rattle.orders.specs.Promise.{StructPlanned, MeantPlanned};
+ghost use Rattle.said.specs.Answer.{said};
 
 use file::kinds::STRUCT;
-use file::trailer::{Trailered, check_trailer};
-use layout_table::{Ground, Grounded, find};
+use file::trailer::check_trailer;
+use layout_table::{Ground, find};
 use layout_values::value::{Row, Value, blank};
 use numbers::wide::wide;
 use orders_plan::plan_members;
-use said::answer::Number;
 use said::refusal::Refusal;
 
 // 14, and then the order.
-fn plan_struct(members: &[u8], table: &[Row], l: Value, order: &mut [u32]) -> Number
+fn plan_struct(members: &[u8], table: &[Row], l: Value, order: &mut [u32]) -> Result<u32, Refusal>
     requires { (ms : Members) × Struct members.now table.now l ms }
     ensures { StructPlanned members.now table.now l result order.old order.new }
 {
     if order.len() < wide(l.count) {
-        return Number::Refused(Refusal::Count);
+        return Err(Refusal::Count);
     }
     plan_members(members, table, l, order);
-    Number::Is(l.count)
+    Ok(l.count)
 }
 
 // 9, and then the rest.
-fn plan_entry_at(file: &[u8], e: usize, g: Ground, table: &[Row], order: &mut [u32]) -> Number
+fn plan_entry_at(file: &[u8], e: usize, g: Ground, table: &[Row], order: &mut [u32]) -> Result<u32, Refusal>
     requires { (t : Ty) × Meant file.now e g table.now t }
     ensures { MeantPlanned file.now e g table.now result order.old order.new }
 {
     let l = g.value;
     if l.kind != STRUCT {
-        return Number::Refused(Refusal::Absent);
+        return Err(Refusal::Absent);
     }
     let start = g.start;
     let end = g.end;
@@ -46,17 +45,17 @@ fn plan_entry_at(file: &[u8], e: usize, g: Ground, table: &[Row], order: &mut [u
 // The positions of the members of entry `entry`, a struct, by falling alignment, ties as they stand, a runtime array last, into the front of
 // the list; answers how many. Later places stay. It is an order, and no gain is promised: `check_order` says whether it is one.
 // Refuses 1 to 7, 24 (file), 8, 9 (no struct), 14 (the list is shorter than the members).
-pub fn plan_order(file: &[u8], entry: u32, order: &mut [u32]) -> Number
-    ensures answer { said_number result ≡ answer_of (plan_call file.now entry order.old) }
+pub fn plan_order(file: &[u8], entry: u32, order: &mut [u32]) -> Result<u32, Refusal>
+    ensures answer { said result ≡ answer_of (plan_call file.now entry order.old) }
     ensures list { order.new ≡ contents_of order.old (plan_call file.now entry order.old) }
 {
     match check_trailer(file) {
-        Trailered::Refused(r) => Number::Refused(r),
-        Trailered::Good(t) => {
+        Err(r) => Err(r),
+        Ok(t) => {
             let mut table = blank();
             match find(file, t, entry, &mut table) {
-                Grounded::Refused(r) => Number::Refused(r),
-                Grounded::Is(g) => plan_entry_at(file, wide(entry), g, &table, order),
+                Err(r) => Err(r),
+                Ok(g) => plan_entry_at(file, wide(entry), g, &table, order),
             }
         }
     }

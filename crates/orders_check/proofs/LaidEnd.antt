@@ -2,6 +2,7 @@
 --
 -- In order: what the verdict on a type says; where a struct ends; the tail of members and one more; members that are too large.
 -- Assumes nothing.
+use Rattle.std.specs.Prelude.{Err, Ok, Result}
 use Prim.Native.Nat.{ℕ}
 use mathlib.Core.Bool.{Bool, true, false, cond, ◌&&◌}
 use mathlib.Core.Option.{Option, none, some}
@@ -14,13 +15,12 @@ use Rattle.wgsl.specs.Place.{Tail, tail_at, members_tail, extent_by}
 use Rattle.wgsl.specs.Order.{end_of}
 use Rattle.wgsl.proofs.Absent.{true_not_false}
 use Rattle.layout_values.specs.declared.value.Value.{Value}
-use Rattle.layout_values.specs.declared.value.Made.TheVariants.{Laid, Rule, Given, Large}
 use Rattle.layout_values.specs.Value.{value_of, verdict_on}
 use Rattle.layout_structs.specs.declared.Ends.{Ends}
-use Rattle.layout_structs.specs.declared.SoFar.{SoFar}
-use Rattle.layout_structs.specs.declared.SoFar.TheVariants.{Good, Unfit, TooLarge}
 use Rattle.layout_structs.specs.SoFar.{appended, ends_of, members_fit, so_far}
 use Rattle.orders_check.specs.Checked.{laid_end}
+use Rattle.layout_values.specs.declared.value.Broken.{Broken}
+use Rattle.layout_values.specs.declared.value.Broken.TheVariants.{Given, Large, Rule}
 
 -- ---- what the verdict on a type says
 
@@ -28,22 +28,22 @@ pub never : {A : Type 0} → ◌≡◌ {A = ℕ} 0 1 → A
 never e = absurd (omega arith)
 
 -- A type that is laid out is well formed, and its value is the one told.
-pub verdict_laid : (long r : ℕ) (t : Ty) (l : Value) → verdict_on long r t ≡ Laid l → (is_well_formed t ≡ true) × (value_of long r t ≡ l)
+pub verdict_laid : (long r : ℕ) (t : Ty) (l : Value) → verdict_on long r t ≡ Ok l → (is_well_formed t ≡ true) × (value_of long r t ≡ l)
 unfolding verdict_on is_well_formed
 verdict_laid long r t l e = go (is_allowed t) (given_fits t) (fits_limit t) e
   where
-    go : (a g f : Bool) → cond a (cond g (cond f (Laid (value_of long r t)) Large) Given) Rule ≡ Laid l → ((a && g && f) ≡ true) × (value_of long r t ≡ l)
+    go : (a g f : Bool) → cond a (cond g (cond f (Ok (value_of long r t)) (Err Large)) (Err Given)) (Err Rule) ≡ Ok l → ((a && g && f) ≡ true) × (value_of long r t ≡ l)
     go true true true h = (refl, cc)
     go true true false h = never cc
     go true false f h = never cc
     go false g f h = never cc
 
 -- One that is too large is not well formed.
-pub verdict_large : (long r : ℕ) (t : Ty) → verdict_on long r t ≡ Large → is_well_formed t ≡ false
+pub verdict_large : (long r : ℕ) (t : Ty) → verdict_on long r t ≡ Err Large → is_well_formed t ≡ false
 unfolding verdict_on is_well_formed
 verdict_large long r t e = go (is_allowed t) (given_fits t) (fits_limit t) e
   where
-    go : (a g f : Bool) → cond a (cond g (cond f (Laid (value_of long r t)) Large) Given) Rule ≡ Large → (a && g && f) ≡ false
+    go : (a g f : Bool) → cond a (cond g (cond f (Ok (value_of long r t)) (Err Large)) (Err Given)) (Err Rule) ≡ Err Large → (a && g && f) ≡ false
     go true true true h = never cc
     go true true false h = refl
     go true false f h = never cc
@@ -81,12 +81,12 @@ tail_start (struct k ms) size o e = true_not_false e refl
 -- ---- members that are too large
 
 -- Members whose given sizes and aligns fit are placed or too large.
-pub not_placed : (ms : Members) (r : SoFar) → members_given_fit ms ≡ true → r ≡ so_far ms → ((x : Ends) → r ≡ Good x → ⊥) → r ≡ TooLarge
+pub not_placed : (ms : Members) (r : Result Ends Broken) → members_given_fit ms ≡ true → r ≡ so_far ms → ((x : Ends) → r ≡ Ok x → ⊥) → r ≡ Err Large
 unfolding so_far
-not_placed ms (Good p) g e h = absurd (h p refl)
-not_placed ms Unfit g e h = go (members_fit ms) (rw g at e)
+not_placed ms (Ok p) g e h = absurd (h p refl)
+not_placed ms (Err Given) g e h = go (members_fit ms) (rw g at e)
   where
-    go : (b : Bool) → Unfit ≡ cond b (Good (ends_of ms)) TooLarge → Unfit ≡ TooLarge
+    go : (b : Bool) → (Err Given) ≡ cond b (Ok (ends_of ms)) (Err Large) → (Err Given) ≡ Err Large
     go true q = never cc
     go false q = q
-not_placed ms TooLarge g e h = refl
+not_placed ms (Err Large) g e h = refl

@@ -2,6 +2,7 @@
 --
 -- In order: a number given or the type's own; all its members; members that are too large; a last member that is a runtime array; one that is not.
 -- Assumes nothing.
+use Rattle.std.specs.Prelude.{Err, None, Ok, Option, Result, Some, ℕ}
 use Prim.Native.Nat.{ℕ, max, min}
 use mathlib.Core.Bool.{true, false, ◌&&◌, ◌||◌}
 use mathlib.Core.Logic.{⊎_elim}
@@ -18,15 +19,10 @@ use Rattle.wgsl.specs.Order.{end_of}
 use Rattle.wgsl.proofs.Absent.{both_hold, hold_both, either_holds, true_not_false, present_some, present_is}
 use Rattle.wgsl.proofs.Tail.{closed_not_runtime, closed_extent, sized_closed}
 use Rattle.numbers.specs.Limit.{limited}
-use Rattle.numbers.specs.declared.limit.Limited.{Limited}
-use Rattle.numbers.specs.declared.limit.Limited.TheVariants as limits
 use Rattle.layout_members.specs.Given.{or_own}
 use Rattle.layout_values.specs.declared.value.Value.{Value}
 use Rattle.layout_values.specs.Value.{value_of}
 use Rattle.layout_structs.specs.declared.Ends.{Ends}
-use Rattle.layout_structs.specs.declared.SoFar.{SoFar}
-use Rattle.layout_structs.specs.declared.SoFar.TheVariants.{Good, TooLarge}
-use Rattle.layout_structs.specs.declared.Stepped.TheVariants.{Next}
 use Rattle.layout_structs.specs.SoFar.{all_sized, followed, ends_of, struct_of, so_far, stepped_to, Joins, Complete, Ended}
 use Rattle.layout_structs.proofs.Appended.{after_count, after_every, after_given, after_runtime}
 use Rattle.layout_structs.proofs.Going.{next_start, going_end}
@@ -35,8 +31,11 @@ use Rattle.layout_structs.proofs.MembersAllowed.{allowed_so, allowed_after}
 use Rattle.layout_structs.proofs.Joins.{joins_power, joins_past, joins_open}
 use Rattle.layout_structs.proofs.Meets.{steps_next, steps_joins, steps_large}
 use Rattle.layout_structs.proofs.Ended.{closes_placed, closes_past, ended_power, ended_opens, ended_closes, ended_past}
-use Rattle.orders_check.specs.Checked.{found, laid_end, Last}
+use Rattle.orders_check.specs.Checked.{laid_end, Last}
 use Rattle.orders_check.proofs.LaidEnd.{verdict_laid, verdict_large, end_none, end_some, tail_after, tail_start, not_placed}
+use Rattle.layout_values.specs.declared.value.Broken.{Broken}
+use Rattle.layout_values.specs.declared.value.Broken.TheVariants.{Large}
+use Rattle.said.specs.Answer.{maybe_of}
 
 -- the number given, or the type's own
 given_known : (given own : Option ℕ) (x z : ℕ) → own ≡ some x → z ≡ or_own given x → given_or given own ≡ some z
@@ -44,7 +43,7 @@ unfolding or_own given_or present
 given_known (some n) own x z e f = ap some (sym f)
 given_known none own x z e f = e ∙ ap some (sym f)
 
-module _ {run : SoFar} {l : Value} {m : MemberEntry} {ms : Members} {t : Ty} (j : Last run l m ms t) where
+module _ {run : (Result Ends Broken)} {l : Value} {m : MemberEntry} {ms : Members} {t : Ty} (j : Last run l m ms t) where
   -- ---- all its members
 
   complete : Complete (followed ms t m)
@@ -73,30 +72,30 @@ module _ {run : SoFar} {l : Value} {m : MemberEntry} {ms : Members} {t : Ty} (j 
       record { kind = 12; columns = 0; rows = 0; zero3 = 0; reference = 0; zero6 = 0; count = count_of (followed ms t m) }
 
   -- The last member is stepped to.
-  pub last_stepped : stepped_to true ms t m ≡ Next (so_far (followed ms t m))
+  pub last_stepped : stepped_to true ms t m ≡ Ok (so_far (followed ms t m))
   last_stepped = steps_next true ms t m j.rest_zero j.allowed (so_far (followed ms t m)) refl
 
   -- ---- members that are too large
 
-  large_none : (k : ℕ) → so_far (followed ms t m) ≡ TooLarge → none ≡ laid_end k (followed ms t m)
+  large_none : (k : ℕ) → so_far (followed ms t m) ≡ Err Large → none ≡ laid_end k (followed ms t m)
   large_none k e =
       end_none k (followed ms t m)
       (verdict_large 0 0 (struct k (followed ms t m))
       (closes_past 0 0 k (followed ms t m) (record { verdict = sym e; complete = complete })))
 
   -- Where those before are too large, so are all.
-  pub before_large : (k : ℕ) → ((x : Ends) → run ≡ Good x → ⊥) → none ≡ laid_end k (followed ms t m)
+  pub before_large : (k : ℕ) → ((x : Ends) → run ≡ Ok x → ⊥) → none ≡ laid_end k (followed ms t m)
   before_large k h =
       let e = not_placed ms run j.given j.meets.verdict h in
       let s = steps_large true ms t m j.rest_zero j.allowed run l j.meets j.size_fits j.align_fits e in
       large_none k (cc (last_stepped, s))
 
-  pub all_large : (k : ℕ) (r : SoFar) → r ≡ so_far (followed ms t m) → ((x : Ends) → r ≡ Good x → ⊥) → none ≡ laid_end k (followed ms t m)
+  pub all_large : (k : ℕ) (r : Result Ends Broken) → r ≡ so_far (followed ms t m) → ((x : Ends) → r ≡ Ok x → ⊥) → none ≡ laid_end k (followed ms t m)
   all_large k r e h = large_none k (sym e ∙ not_placed (followed ms t m) r given_fits_lem e h)
 
   -- ---- a last member that is a runtime array
 
-  module _ (p : Ends) (is : run ≡ Good p) (al : ℕ) (al_is : al ≡ or_own (given_align m) l.align) where
+  module _ (p : Ends) (is : run ≡ Ok p) (al : ℕ) (al_is : al ≡ or_own (given_align m) l.align) where
     joins : Joins p l m ms t
     joins = steps_joins true ms t m j.rest_zero j.allowed run l j.meets j.size_fits j.align_fits p is
 
@@ -139,17 +138,17 @@ module _ {run : SoFar} {l : Value} {m : MemberEntry} {ms : Members} {t : Ty} (j 
         (tail_start t (size_of (struct k (followed ms t m))) (up al p.end) (open_runtime o))
 
     -- The struct ends where it starts.
-    pub open_found : (k : ℕ) → is_open t ≡ true → (r : Limited) → r ≡ limited (up al p.end) → found r ≡ laid_end k (followed ms t m)
-    open_found k o (limits.Is n) h =
+    pub open_found : (k : ℕ) → is_open t ≡ true → (r : Option ℕ) → r ≡ limited (up al p.end) → maybe_of r ≡ laid_end k (followed ms t m)
+    open_found k o (Some n) h =
         let placed = joins_open p l m ms t joins al al_is n (sym h) (max p.align al) refl (min p.narrow l.narrow) refl o in
         let ended = closes_placed _ (followed ms t m) (record { verdict = sym placed; complete = complete }) in
         let v = verdict_laid 0 0 (struct k (followed ms t m)) _ (ended_opens 0 k entry _ (followed ms t m) ended refl refl) in
         end_some k (followed ms t m) n v.0 (open_end k o ∙ (limited_is (up al p.end) n (sym h)).1)
-    open_found k o limits.TooLarge h = large_none k (joins_past p l m ms t joins al al_is (sym h))
+    open_found k o None h = large_none k (joins_past p l m ms t joins al al_is (sym h))
 
   -- ---- one that is not
 
-  module _ (o : is_open t ≡ false) (p : Ends) (is : Good p ≡ so_far (followed ms t m)) where
+  module _ (o : is_open t ≡ false) (p : Ends) (is : Ok p ≡ so_far (followed ms t m)) where
     ended : Ended p (followed ms t m)
     ended = closes_placed p (followed ms t m) (record { verdict = is; complete = complete })
 
@@ -168,10 +167,10 @@ module _ {run : SoFar} {l : Value} {m : MemberEntry} {ms : Members} {t : Ty} (j 
     closed_end k n e = closed_extent 0 (struct k (followed ms t m)) no_tail ∙ ap (λ (x : Value). x.size) e
 
     -- The struct ends at its size.
-    pub closed_found : (k : ℕ) (r : Limited) → r ≡ limited (up p.align p.end) → found r ≡ laid_end k (followed ms t m)
-    closed_found k (limits.Is n) h =
+    pub closed_found : (k : ℕ) (r : Option ℕ) → r ≡ limited (up p.align p.end) → maybe_of r ≡ laid_end k (followed ms t m)
+    closed_found k (Some n) h =
         let v = verdict_laid 0 0 (struct k (followed ms t m)) _ (ended_closes 0 k entry p (followed ms t m) n ended refl not_open h) in
         end_some k (followed ms t m) n v.0 (closed_end k n v.1)
-    closed_found k limits.TooLarge h =
+    closed_found k None h =
         end_none k (followed ms t m)
         (verdict_large 0 0 (struct k (followed ms t m)) (ended_past 0 0 k p (followed ms t m) ended not_open h))

@@ -2,6 +2,7 @@
 --
 -- In order: before the first; the next member, and a turn that goes on; a turn that rule 5 ends; the last member.
 -- Assumes nothing.
+use Rattle.std.specs.Prelude.{Err, Ok, Result}
 use Prim.Native.Nat.{ℕ, suc, ◌+◌, ◌<◌, ◌≤◌}
 use mathlib.Core.Bool.{true, false, ◌&&◌, and-false}
 use mathlib.Core.List.{List}
@@ -17,8 +18,6 @@ use Rattle.wgsl.specs.Rule.{count_of, member_allowed, members_allowed, is_allowe
 use Rattle.wgsl.specs.Order.{reordered}
 use Rattle.wgsl.proofs.Absent.{hold_both, yes_or_no}
 use Rattle.layout_values.specs.declared.value.Value.{Value}
-use Rattle.layout_structs.specs.declared.SoFar.{SoFar}
-use Rattle.layout_structs.specs.declared.Stepped.TheVariants.{Next, Rule}
 use Rattle.layout_structs.specs.SoFar.{followed, so_far, all_sized, Going, Meets, stepped_to}
 use Rattle.layout_structs.proofs.Appended.{after_every, after_given}
 use Rattle.layout_structs.proofs.MembersAllowed.{allowed_so, allowed_after}
@@ -27,8 +26,10 @@ use Rattle.orders_check.specs.Checked.{laid_end, Last}
 use Rattle.orders_check.proofs.LaidEnd.{never, end_none}
 use Rattle.orders_check.proofs.Reordered.{reordered_count, reordered_after, reordered_refused}
 use Rattle.orders_check.proofs.Entries.{Coming, Ordered}
+use Rattle.layout_values.specs.declared.value.Broken.{Broken}
+use Rattle.layout_values.specs.declared.value.Broken.TheVariants.{Rule}
 
-pub record Walked (ms : Members) (order : List ℕ) (i : ℕ) (run : SoFar) : Type 0 where
+pub record Walked (ms : Members) (order : List ℕ) (i : ℕ) (run : Result Ends Broken) : Type 0 where
   pub members : Members
   pub read : reordered ms (take i order) ≡ some members
   pub verdict : run ≡ so_far members
@@ -37,7 +38,7 @@ pub record Walked (ms : Members) (order : List ℕ) (i : ℕ) (run : SoFar) : Ty
 
 -- ---- before the first
 
-pub walked_none : {run : SoFar} (ms : Members) (order : List ℕ) → run ≡ so_far no_more → Walked ms order 0 run
+pub walked_none : {run : (Result Ends Broken)} (ms : Members) (order : List ℕ) → run ≡ so_far no_more → Walked ms order 0 run
 unfolding reordered all_sized every_member members_given_fit
 walked_none ms order e =
     record { members = no_more; read = refl; verdict = e; going = record { sized = refl; well_formed = refl }; given = refl }
@@ -45,13 +46,13 @@ walked_none ms order e =
 -- ---- the next member
 
 -- what `stepped_to` tells of a member that is not the last
-next_told : {r : SoFar} (ms : Members) (t : Ty) (e : MemberEntry) → rest_is_zero e ≡ true → Next r ≡ stepped_to false ms t e → (member_allowed false t ≡ true) × (r ≡ so_far (followed ms t e))
+next_told : {r : (Result Ends Broken)} (ms : Members) (t : Ty) (e : MemberEntry) → rest_is_zero e ≡ true → Ok r ≡ stepped_to false ms t e → (member_allowed false t ≡ true) × (r ≡ so_far (followed ms t e))
 next_told {r} ms t e z h =
     yes_or_no (member_allowed false t)
     (λ q. (q, let s = steps_next false ms t e z q (so_far (followed ms t e)) refl in cc (h, s)))
     (λ q. let s = steps_not_allowed false ms t e q in never (cc (h, s)))
 
-rule_told : (ms : Members) (t : Ty) (e : MemberEntry) → rest_is_zero e ≡ true → Rule ≡ stepped_to false ms t e → member_allowed false t ≡ false
+rule_told : (ms : Members) (t : Ty) (e : MemberEntry) → rest_is_zero e ≡ true → (Err Rule) ≡ stepped_to false ms t e → member_allowed false t ≡ false
 rule_told ms t e z h =
     yes_or_no (member_allowed false t)
     (λ q. let s = steps_next false ms t e z q (so_far (followed ms t e)) refl in never (cc (h, s)))
@@ -62,17 +63,17 @@ not_allowed : (k : ℕ) (ms : Members) → members_allowed ms ≡ false → is_w
 unfolding is_well_formed is_allowed
 not_allowed k ms e = rw (e, and-false (between 1 most_members (count_of ms)))
 
-pub walked_meets : {ms : Members} {order : List ℕ} {i : ℕ} {run : SoFar} {e : MemberEntry} {l : Value} (d : Walked ms order i run) (m : Coming ms (get_or order i 0) e l) → Meets run l d.members m.type
+pub walked_meets : {ms : Members} {order : List ℕ} {i : ℕ} {run : (Result Ends Broken)} {e : MemberEntry} {l : Value} (d : Walked ms order i run) (m : Coming ms (get_or order i 0) e l) → Meets run l d.members m.type
 walked_meets d m = record { verdict = d.verdict; layout = m.layout; going = d.going; well_formed = m.well_formed }
 
-module _ {bytes : List ℕ} {table : List (List ℕ)} {order : List ℕ} {first long last : ℕ} {ms : Members} {i : ℕ} {run : SoFar} {e : MemberEntry} {l : Value} (o : Ordered bytes table order first long last ms) (d : Walked ms order i run) (m : Coming ms (get_or order i 0) e l) (low : i ≤ last) where
+module _ {bytes : List ℕ} {table : List (List ℕ)} {order : List ℕ} {first long last : ℕ} {ms : Members} {i : ℕ} {run : (Result Ends Broken)} {e : MemberEntry} {l : Value} (o : Ordered bytes table order first long last ms) (d : Walked ms order i run) (m : Coming ms (get_or order i 0) e l) (low : i ≤ last) where
   more_read : reordered ms (take (suc i) order) ≡ some (followed d.members m.type e)
   more_read =
       rw (take-suc order i 0 (omega (arith, o.length_is)))
       (reordered_after ms (get_or order i 0) m.type (given_size e) (given_align e) m.picks (take i order) d.members d.read)
 
   -- After a step that goes on, one more is known.
-  pub walked_next : (r : SoFar) → Next r ≡ stepped_to false d.members m.type e → Walked ms order (i + 1) r
+  pub walked_next : (r : Result Ends Broken) → Ok r ≡ stepped_to false d.members m.type e → Walked ms order (i + 1) r
   unfolding allowed_so
   walked_next r h =
       let x = next_told d.members m.type e m.rest_zero h in
@@ -98,7 +99,7 @@ module _ {bytes : List ℕ} {table : List (List ℕ)} {order : List ℕ} {first 
   -- ---- a turn that rule 5 ends
 
   -- A runtime array that is not the last refuses the struct.
-  pub walked_rule : (k : ℕ) (new : Members) → i < last → Rule ≡ stepped_to false d.members m.type e → reordered ms order ≡ some new → none ≡ laid_end k new
+  pub walked_rule : (k : ℕ) (new : Members) → i < last → (Err Rule) ≡ stepped_to false d.members m.type e → reordered ms order ≡ some new → none ≡ laid_end k new
   unfolding allowed_so
   walked_rule k new more h is =
       let no = rule_told d.members m.type e m.rest_zero h in

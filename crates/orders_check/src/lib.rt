@@ -9,13 +9,14 @@ ghost use Rattle.wgsl.specs.Order.{all_differ, reordered};
 ghost use Rattle.file.specs.Fields.{member_is};
 ghost use Rattle.layout_structs.specs.SoFar.{followed};
 ghost use Rattle.orders_members.specs.Entries.{Struct};
-ghost use Rattle.orders_check.specs.Checked.{all_below, found, laid_end, Last};
+ghost use Rattle.orders_check.specs.Checked.{all_below, laid_end, Last};
+ghost use Rattle.said.specs.Answer.{maybe_of};
 
 use file::fields::{MemberEntry, member_at};
 use layout_members::given_align;
-use layout_structs::{SoFar, Stepped, no_members, step};
+use layout_structs::{SoFar, no_members, step};
 use layout_values::value::{Row, Value, opens, value_at};
-use numbers::limit::{Limited, round_up};
+use numbers::limit::round_up;
 use numbers::wide::wide;
 
 // Whether every number of the list is below `n`, at most 1,024, and no two are the same.
@@ -41,30 +42,30 @@ pub fn all_once(order: &[u32], n: usize) -> bool
 
 // Where a struct ends whose last member, of the value `l`, comes after those that are told by `past`: its size, or where that member starts,
 // if it is a runtime array.
-fn end_after(past: SoFar, l: Value, m: MemberEntry) -> Limited
+fn end_after(past: SoFar, l: Value, m: MemberEntry) -> Option<u32>
     requires { (ms : Members) × (t : Ty) × Last past l (member_is m) ms t }
-    ensures { (k : ℕ) (ms : Members) (t : Ty) → Last past l (member_is m) ms t → found result ≡ laid_end k (followed ms t (member_is m)) }
+    ensures { (k : ℕ) (ms : Members) (t : Ty) → Last past l (member_is m) ms t → maybe_of result ≡ laid_end k (followed ms t (member_is m)) }
 {
     if opens(l) {
         return match past {
-            SoFar::Good(p) => round_up(given_align(m, l.align), p.end),
-            _ => Limited::TooLarge,
+            Ok(p) => round_up(given_align(m, l.align), p.end),
+            _ => None,
         };
     }
-    let Stepped::Next(all) = step(past, l, m, true) else {
-        return Limited::TooLarge;
+    let Ok(all) = step(past, l, m, true) else {
+        return None;
     };
     match all {
-        SoFar::Good(p) => round_up(p.align, p.end),
-        _ => Limited::TooLarge,
+        Ok(p) => round_up(p.align, p.end),
+        _ => None,
     }
 }
 
 // Where a struct of the value `l` ends with its members in this order: its size, or where its runtime array starts. None where a runtime
 // array is not the last, or a number passes the limit.
-pub fn end_in(members: &[u8], table: &[Row], l: Value, order: &[u32]) -> Limited
+pub fn end_in(members: &[u8], table: &[Row], l: Value, order: &[u32]) -> Option<u32>
     requires { (ms : Members) × Struct members.now table.now l ms × (length order.now ≡ count_of ms) × (all_below (count_of ms) order.now ≡ true) }
-    ensures { (k : ℕ) (ms new : Members) → Struct members.now table.now l ms → reordered ms order.now ≡ some new → found result ≡ laid_end k new }
+    ensures { (k : ℕ) (ms new : Members) → Struct members.now table.now l ms → reordered ms order.now ≡ some new → maybe_of result ≡ laid_end k new }
 {
     let first = wide(l.reference);
     let length = wide(l.stride);
@@ -74,11 +75,11 @@ pub fn end_in(members: &[u8], table: &[Row], l: Value, order: &[u32]) -> Limited
     while i < last {
         let m = member_at(members, (first + wide(order[i])) * length);
         match step(past, value_at(table, wide(m.ty)), m, false) {
-            Stepped::Next(r) => {
+            Ok(r) => {
                 past = r;
             }
-            Stepped::Rule => {
-                return Limited::TooLarge;
+            Err(Broken::Rule) => {
+                return None;
             }
         }
         i += 1;

@@ -2,6 +2,7 @@
 --
 -- In order: an entry; a type of fixed size; an open type; the target by what is held.
 -- Assumes nothing.
+use Rattle.std.specs.Prelude.{None, Option, Some}
 use Prim.Native.Nat.{ℕ, suc, ◌+◌, ◌*◌, ◌<◌, ◌≤◌}
 use mathlib.Core.Bool.{Bool, true, false}
 use mathlib.Core.List.{List, map}
@@ -24,12 +25,10 @@ use Rattle.layout_values.specs.declared.value.Value.{Value}
 use Rattle.layout_values.specs.Value.{value_of}
 use Rattle.walk_shapes.proofs.Basis.{basis_well_formed}
 use Rattle.walk_decide.specs.declared.Rest as declared
-use Rattle.walk_decide.specs.declared.Fits.TheVariants as found
 use Rattle.walk_decide.specs.Decide.{elements_found, rest_from, Findable}
 use Rattle.walk_decide.proofs.CallSteps.{found_short, found_there}
 use Rattle.walk_decide.proofs.Tailed.{layout_value, open_found, found_opened}
 use Rattle.paths.specs.declared.locate.Held.{Held}
-use Rattle.paths.specs.declared.locate.Held.TheVariants.{Is, No}
 use Rattle.paths.specs.Locate.{held_of, Viewable, Opening}
 
 -- ---- an entry
@@ -48,11 +47,11 @@ module _ {f ms : List ℕ} {table : List (List ℕ)} {e : ℕ} {l : Value} {t : 
   -- ---- a type of fixed size
 
   module _ (b : List ℕ) (o : is_open t ≡ false) where
-    pub closed_short : length b < l.size → held_of t b ≡ No
+    pub closed_short : length b < l.size → held_of t b ≡ None
     unfolding held_of is_short
     closed_short h = rw (o, lt-ltb (length b) (present (size_of t)) (rw size_is at h)) refl
 
-    pub closed_there : l.size ≤ length b → held_of t b ≡ Is 0 l.size
+    pub closed_there : l.size ≤ length b → held_of t b ≡ Some (record { elements = 0; size = l.size })
     unfolding held_of is_short elements_in elements_by
     closed_there h =
         rw (o, le-ltb (length b) (present (size_of t)) (rw size_is at h), closed_tail t o, closed_extent 0 t o, ← size_is) refl
@@ -80,11 +79,11 @@ module _ {t : Ty} {y : declared.Rest} (x : Opening t y) where
       rw same at z.2
 
   module _ (b : List ℕ) where
-    pub open_short : elements_found (length b) y.offset y.value.stride ≡ found.No → held_of t b ≡ No
+    pub open_short : elements_found (length b) y.offset y.value.stride ≡ None → held_of t b ≡ None
     unfolding held_of
     open_short h = rw (found_short t x.opens y.offset y.value.stride x.tail_is b h) refl
 
-    pub open_there : {n : ℕ} → elements_found (length b) y.offset y.value.stride ≡ found.Is n → held_of t b ≡ Is n (y.offset + n * y.value.stride)
+    pub open_there : {n : ℕ} → elements_found (length b) y.offset y.value.stride ≡ Some n → held_of t b ≡ Some (record { elements = n; size = (y.offset + n * y.value.stride) })
     unfolding held_of extent_of extent_by
     open_there h =
         let z = found_there t x.opens y.offset y.value.stride x.tail_is b h in
@@ -93,23 +92,23 @@ module _ {t : Ty} {y : declared.Rest} (x : Opening t y) where
 -- ---- the target
 
 -- which answer it is, and its numbers
-abbrev tag : Held → ℕ
-tag (Is n size) = suc n
-tag No = 0
+abbrev tag : Option Held → ℕ
+tag (Some h) = suc h.elements
+tag None = 0
 
-abbrev end : Held → ℕ
-end (Is n size) = size
-end No = 0
+abbrev end : Option Held → ℕ
+end (Some h) = h.size
+end None = 0
 
 module _ (t : Ty) (path b : List ℕ) where
-  pub target_short : held_of t b ≡ No → target_in t path b ≡ refused 15 0
+  pub target_short : held_of t b ≡ None → target_in t path b ≡ refused 15 0
   unfolding held_of target_in ◌>>◌ refuse
   target_short e = go (is_short t b) refl
     where
       go : (s : Bool) → is_short t b ≡ s → target_in t path b ≡ refused 15 0
       go true q = rw q refl
       go false q =
-          let is : held_of t b ≡ Is (elements_in (length b) t) (extent_of (elements_in (length b) t) t) = rw q refl in
+          let is : held_of t b ≡ Some (record { elements = elements_in (length b) t; size = extent_of (elements_in (length b) t) t }) = rw q refl in
           let z : suc (elements_in (length b) t) ≡ 0 = ap tag (sym is ∙ e) in
           absurd (omega arith)
 
@@ -119,17 +118,17 @@ module _ (t : Ty) (path b : List ℕ) where
     pub inside : extent_of n t ≤ length b
     pub target_is : target_in t path b ≡ walk 0 0 (shape_of n t) (map step_of path)
 
-  pub target_there : {n size : ℕ} → held_of t b ≡ Is n size → There n size
+  pub target_there : {n size : ℕ} → held_of t b ≡ Some (record { elements = n; size = size }) → There n size
   unfolding held_of target_in ◌>>◌ refuse
   target_there {n} {size} e = go (is_short t b) refl
     where
       go : (s : Bool) → is_short t b ≡ s → There n size
       go true q =
-          let is : held_of t b ≡ No = rw q refl in
+          let is : held_of t b ≡ None = rw q refl in
           let z : 0 ≡ suc n = ap tag (sym is ∙ e) in
           absurd (omega arith)
       go false q =
-          let is : held_of t b ≡ Is (elements_in (length b) t) (extent_of (elements_in (length b) t) t) = rw q refl in
+          let is : held_of t b ≡ Some (record { elements = elements_in (length b) t; size = extent_of (elements_in (length b) t) t }) = rw q refl in
           let same : suc (elements_in (length b) t) ≡ suc n = ap tag (sym is ∙ e) in
           let n_is : elements_in (length b) t ≡ n = omega arith in
           record {

@@ -2,7 +2,7 @@
 --
 -- In order: what a buffer holds of an entry; an entry of the table.
 -- Definitions only. Assumes nothing.
-use Rattle.std.specs.Prelude.{ℕ, ◌≡◌, true, cond, List, length}
+use Rattle.std.specs.Prelude.{ℕ, ◌≡◌, true, cond, List, length, None, Option, Some}
 use Rattle.std.proofs.Math.Option.{some}
 use Rattle.std.proofs.Math.ListN.{get_elem?}
 use Rattle.wgsl.specs.Types.{Ty, is_open, everywhere}
@@ -15,15 +15,14 @@ use Rattle.layout_values.specs.Value.{value_at}
 use Rattle.walk_shapes.specs.Basis.{Basis}
 use Rattle.walk_decide.specs.declared.Rest.{Rest}
 use Rattle.paths.specs.declared.locate.Held.{Held}
-use Rattle.paths.specs.declared.locate.Held.TheVariants.{Is, No}
 
 -- ---- what a buffer holds of an entry
 
 -- unless 15 is to be said: how many elements the runtime array of an open type has, and where the type ends
-unfoldable pub held_of : Ty → List ℕ → Held
+unfoldable pub held_of : Ty → List ℕ → Option Held
 held_of t b =
     let n : ℕ = elements_in (length b) t in
-    cond (is_short t b) No (Is n (extent_of n t))
+    cond (is_short t b) None (Some (record { elements = n; size = extent_of n t }))
 
 -- ---- an entry of the table
 

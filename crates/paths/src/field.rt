@@ -1,41 +1,39 @@
 // Bit fields of one i32 or u32 at a path. Document 02's order is that of a set, with 14 for a scalar of another type too.
-ghost use Rattle.std.specs.Prelude.{◌≡◌, List, ℕ, length};
+ghost use Rattle.std.specs.Prelude.{◌≡◌, List, ℕ, length, Ok};
 ghost use Rattle.wgsl.specs.Path as path;
 ghost use Rattle.wgsl.specs.Call.{answer_of, contents_of};
 ghost use Rattle.wgsl.specs.BitFieldCall.{FoundInteger, integer_at, word_of, extracted_as, extract_call, insert_call, integer_of};
-ghost use Rattle.said.specs.Answer.{said_number};
-ghost use Rattle.said.specs.declared.answer.Number.TheVariants.{Is};
-ghost use Rattle.said.specs.Target.{said_walked, target_is};
+ghost use Rattle.said.specs.Target.{target_is};
 ghost use Rattle.paths.specs.Field.{found_in, Integer, FieldPut};
+ghost use Rattle.said.specs.Answer.{said};
 
 use crate::locate::locate;
 use bits::{extract_bits_u32, extract_pattern, insert_bits_u32};
 use file::kinds::{I32, U32};
 use numbers::bytes::{store_u32, u32_at};
-use said::answer::Number;
 use said::refusal::Refusal;
-use said::target::{Target, Walked};
+use said::target::Target;
 
 // 14, but for an i32 or a u32.
-fn integer_of(t: Target) -> Walked
-    ensures { (u : path.Target) → t ≡ target_is u → said_walked result ≡ found_in (integer_of u) }
+fn integer_of(t: Target) -> Result<Target, Refusal>
+    ensures { (u : path.Target) → t ≡ target_is u → said result ≡ found_in (integer_of u) }
 {
     if t.scalar == I32 {
-        return Walked::To(t);
+        return Ok(t);
     }
     if t.scalar == U32 {
-        return Walked::To(t);
+        return Ok(t);
     }
-    Walked::Refused(Refusal::Count)
+    Err(Refusal::Count)
 }
 
 // The one i32 or u32 that `path` leads to in a buffer of so many bytes.
-fn integer_at(file: &[u8], entry: u32, path: &[u32], bytes: usize) -> Walked
-    ensures { (b : List ℕ) → length b ≡ bytes → said_walked result ≡ found_in (integer_at file.now entry path.now b) }
+fn integer_at(file: &[u8], entry: u32, path: &[u32], bytes: usize) -> Result<Target, Refusal>
+    ensures { (b : List ℕ) → length b ≡ bytes → said result ≡ found_in (integer_at file.now entry path.now b) }
 {
     match locate(file, entry, path, bytes, true) {
-        Walked::Refused(r) => Walked::Refused(r),
-        Walked::To(t) => integer_of(t),
+        Err(r) => Err(r),
+        Ok(t) => integer_of(t),
     }
 }
 
@@ -53,15 +51,15 @@ fn field_of(t: Target, offset: u32, count: u32, buf: &[u8]) -> u32
 }
 
 // Puts `newbits` into the field of the scalar `t`.
-fn put_field(t: Target, newbits: u32, offset: u32, count: u32, buf: &mut [u8]) -> Number
+fn put_field(t: Target, newbits: u32, offset: u32, count: u32, buf: &mut [u8]) -> Result<u32, Refusal>
     requires { (x : FoundInteger) × Integer t x (length buf.old) }
-    ensures answer { result ≡ Is t.offset }
+    ensures answer { result ≡ Ok t.offset }
     ensures buffer { FieldPut t newbits offset count buf.old buf.new }
 {
     let at = t.offset;
     let word = u32_at(buf, at);
     store_u32(buf, at, insert_bits_u32(word, newbits, offset, count));
-    Number::Is(at as u32)
+    Ok(at as u32)
 }
 
 // The bits of the one i32 or u32 that `path` leads to from entry `entry`: WGSL's extractBits, as a word (of an i32, its pattern).
@@ -73,12 +71,12 @@ pub fn extract_bits(
     buf: &[u8],
     offset: u32,
     count: u32,
-) -> Number
-    ensures { said_number result ≡ extract_call file.now entry path.now buf.now offset count }
+) -> Result<u32, Refusal>
+    ensures { said result ≡ extract_call file.now entry path.now buf.now offset count }
 {
     match integer_at(file, entry, path, buf.len()) {
-        Walked::Refused(r) => Number::Refused(r),
-        Walked::To(t) => Number::Is(field_of(t, offset, count, buf)),
+        Err(r) => Err(r),
+        Ok(t) => Ok(field_of(t, offset, count, buf)),
     }
 }
 
@@ -92,12 +90,12 @@ pub fn insert_bits(
     offset: u32,
     count: u32,
     buf: &mut [u8],
-) -> Number
-    ensures answer { said_number result ≡ answer_of (insert_call file.now entry path.now newbits offset count buf.old) }
+) -> Result<u32, Refusal>
+    ensures answer { said result ≡ answer_of (insert_call file.now entry path.now newbits offset count buf.old) }
     ensures buffer { buf.new ≡ contents_of buf.old (insert_call file.now entry path.now newbits offset count buf.old) }
 {
     match integer_at(file, entry, path, buf.len()) {
-        Walked::Refused(r) => Number::Refused(r),
-        Walked::To(t) => put_field(t, newbits, offset, count, buf),
+        Err(r) => Err(r),
+        Ok(t) => put_field(t, newbits, offset, count, buf),
     }
 }

@@ -4,39 +4,33 @@ ghost use Rattle.wgsl.specs.Round.{limit};
 ghost use Rattle.wgsl.specs.Types.{Ty};
 ghost use Rattle.wgsl.specs.Call.{target_in, target_call};
 ghost use Rattle.walk_decide.specs.Meant.{Meant};
-ghost use Rattle.said.specs.Target.{said_walked, reached};
+ghost use Rattle.said.specs.Target.{reached};
 ghost use Rattle.paths.specs.Locate.{held_of, Viewable, Opening};
+ghost use Rattle.said.specs.Answer.{said};
 
-use file::trailer::{Trailered, check_trailer};
-use layout_table::{Ground, Grounded, find};
+use file::trailer::check_trailer;
+use layout_table::{Ground, find};
 use layout_values::value::{Row, Value, blank, opens};
 use numbers::wide::wide;
 use said::refusal::Refusal;
-use said::target::Walked;
-use walk_decide::{Allowed, Fits, Rest, allow, elements_in, rest_of};
+use walk_decide::{Rest, allow, elements_in, rest_of};
 use walk_path::enter::Stand;
 use walk_path::walk::walk;
 
-// What a buffer holds of an entry: the elements of its runtime array, if it has one, and where it ends.
-#[derive(Clone, Copy)]
-pub enum Held {
-    Is(usize, usize),
-    No,
-}
 
 // 15 for an open type with the tail `x`: a buffer with no whole element.
-fn held_open(x: Rest, bytes: usize) -> Held
+fn held_open(x: Rest, bytes: usize) -> Option<Held>
     requires { (t : Ty) × Opening t x × (bytes ≤ limit) }
     ensures { (t : Ty) (b : List ℕ) → Opening t x → length b ≡ bytes → result ≡ held_of t b }
 {
     match elements_in(bytes, x.offset, x.value.stride) {
-        Fits::No => Held::No,
-        Fits::Is(n) => Held::Is(n, x.offset + n * wide(x.value.stride)),
+        None => None,
+        Some(n) => Some(Held(n, x.offset + n * wide(x.value.stride))),
     }
 }
 
 // 15: for an entry of the value `l` and a buffer of so many bytes.
-fn held_of(members: &[u8], table: &[Row], l: Value, bytes: usize) -> Held
+fn held_of(members: &[u8], table: &[Row], l: Value, bytes: usize) -> Option<Held>
     requires { (f : List ℕ) × (e : ℕ) × (t : Ty) × Viewable f members.now table.now e l t × (bytes ≤ limit) }
     ensures { (f : List ℕ) (e : ℕ) (t : Ty) (b : List ℕ) → Viewable f members.now table.now e l t → length b ≡ bytes → result ≡ held_of t b }
 {
@@ -45,9 +39,9 @@ fn held_of(members: &[u8], table: &[Row], l: Value, bytes: usize) -> Held
     }
     let size = wide(l.size);
     if bytes < size {
-        return Held::No;
+        return None;
     }
-    Held::Is(0, size)
+    Some(Held(0, size))
 }
 
 // What lies under a path: 15, and then the first bad step.
@@ -58,13 +52,13 @@ fn target_in(
     l: Value,
     path: &[u32],
     bytes: usize,
-) -> Walked
+) -> Result<Target, Refusal>
     requires { (f : List ℕ) × (t : Ty) × Viewable f members.now table.now e l t × (bytes ≤ limit) }
-    ensures { (f : List ℕ) (t : Ty) (b : List ℕ) → Viewable f members.now table.now e l t → length b ≡ bytes → said_walked result ≡ reached (target_in t path.now b) }
+    ensures { (f : List ℕ) (t : Ty) (b : List ℕ) → Viewable f members.now table.now e l t → length b ≡ bytes → said result ≡ reached (target_in t path.now b) }
 {
     match held_of(members, table, l, bytes) {
-        Held::No => Walked::Refused(Refusal::Buffer),
-        Held::Is(n, size) => walk(members, table, n, Stand::Entry(e), size, path, 0, 0),
+        None => Err(Refusal::Buffer),
+        Some(Held(n, size)) => walk(members, table, n, Stand::Entry(e), size, path, 0, 0),
     }
 }
 
@@ -77,14 +71,14 @@ fn target_at(
     path: &[u32],
     bytes: usize,
     stored: bool,
-) -> Walked
+) -> Result<Target, Refusal>
     requires { (t : Ty) × Meant file.now e g table.now t }
-    ensures { (t : Ty) (b : List ℕ) → Meant file.now e g table.now t → length b ≡ bytes → said_walked result ≡ reached (target_call stored file.now e path.now b) }
+    ensures { (t : Ty) (b : List ℕ) → Meant file.now e g table.now t → length b ≡ bytes → said result ≡ reached (target_call stored file.now e path.now b) }
 {
     let l = g.value;
     match allow(l, bytes, stored) {
-        Allowed::Refused(r) => Walked::Refused(r),
-        Allowed::Yes => {
+        Err(r) => Err(r),
+        Ok(()) => {
             let start = g.start;
             let end = g.end;
             target_in(&file[start..end], table, e, l, path, bytes)
@@ -94,16 +88,16 @@ fn target_at(
 
 // What `path` leads to from entry `entry` in a buffer of so many bytes; `stored` says that the entry must be storable.
 // Refuses 1 to 7, 24 (file), 8, 17, 9 (no layout), 10, 15, then 11 to 13 (the first bad step).
-pub fn locate(file: &[u8], entry: u32, path: &[u32], bytes: usize, stored: bool) -> Walked
-    ensures { (b : List ℕ) → length b ≡ bytes → said_walked result ≡ reached (target_call stored file.now entry path.now b) }
+pub fn locate(file: &[u8], entry: u32, path: &[u32], bytes: usize, stored: bool) -> Result<Target, Refusal>
+    ensures { (b : List ℕ) → length b ≡ bytes → said result ≡ reached (target_call stored file.now entry path.now b) }
 {
     match check_trailer(file) {
-        Trailered::Refused(r) => Walked::Refused(r),
-        Trailered::Good(t) => {
+        Err(r) => Err(r),
+        Ok(t) => {
             let mut table = blank();
             match find(file, t, entry, &mut table) {
-                Grounded::Refused(r) => Walked::Refused(r),
-                Grounded::Is(g) => target_at(file, wide(entry), g, &table, path, bytes, stored),
+                Err(r) => Err(r),
+                Ok(g) => target_at(file, wide(entry), g, &table, path, bytes, stored),
             }
         }
     }

@@ -6,93 +6,90 @@ ghost use Rattle.wgsl.specs.Types.{Scalar};
 ghost use Rattle.wgsl.specs.Size.{width_of};
 ghost use Rattle.wgsl.specs.Path as path;
 ghost use Rattle.wgsl.specs.Call.{answer_of, contents_of, set_call, set_target, set_scalar};
-ghost use Rattle.said.specs.Answer.{said_number, Answered};
-ghost use Rattle.walk_decide.specs.Decide.{said_allowed};
+ghost use Rattle.said.specs.Answer.{said, Answered};
 ghost use Rattle.paths.specs.Set.{InBuffer, fit_of};
 
 use crate::locate::locate;
 use file::kinds::is_scalar;
 use numbers::bytes::{store_u16, store_u32};
-use said::answer::Number;
 use said::refusal::Refusal;
-use said::target::{Target, Walked};
-use walk_decide::Allowed;
+use said::target::Target;
 
 // 14, 16 for an f16, and its two bytes at `at`.
-fn set_half(at: usize, words: &[u32], buf: &mut [u8]) -> Number
+fn set_half(at: usize, words: &[u32], buf: &mut [u8]) -> Result<u32, Refusal>
     requires { (at + 2 ≤ length buf.old) × (length buf.old ≤ limit) }
     ensures { (s : Scalar) → width_of s ≡ some 2 → Answered (set_scalar s at words.now buf.old) result buf.old buf.new }
 {
     if words.len() != 1 {
-        return Number::Refused(Refusal::Count);
+        return Err(Refusal::Count);
     }
     let word = words[0];
     if 65535 < word {
-        return Number::Refused(Refusal::Word(0));
+        return Err(Refusal::Word(0));
     }
     store_u16(buf, at, word as u16);
-    Number::Is(at as u32)
+    Ok(at as u32)
 }
 
 // 14 for a scalar of four bytes, and these.
-fn set_four(at: usize, words: &[u32], buf: &mut [u8]) -> Number
+fn set_four(at: usize, words: &[u32], buf: &mut [u8]) -> Result<u32, Refusal>
     requires { (at + 4 ≤ length buf.old) × (length buf.old ≤ limit) }
     ensures { (s : Scalar) → width_of s ≡ some 4 → Answered (set_scalar s at words.now buf.old) result buf.old buf.new }
 {
     if words.len() != 1 {
-        return Number::Refused(Refusal::Count);
+        return Err(Refusal::Count);
     }
     store_u32(buf, at, words[0]);
-    Number::Is(at as u32)
+    Ok(at as u32)
 }
 
 // 14 for a scalar of eight bytes, and these: the low word first.
-fn set_eight(at: usize, words: &[u32], buf: &mut [u8]) -> Number
+fn set_eight(at: usize, words: &[u32], buf: &mut [u8]) -> Result<u32, Refusal>
     requires { (at + 8 ≤ length buf.old) × (length buf.old ≤ limit) }
     ensures { (s : Scalar) → width_of s ≡ some 8 → Answered (set_scalar s at words.now buf.old) result buf.old buf.new }
 {
     if words.len() != 2 {
-        return Number::Refused(Refusal::Count);
+        return Err(Refusal::Count);
     }
     let low = words[0];
     let high = words[1];
     store_u32(buf, at, low);
     store_u32(buf, at + 4, high);
-    Number::Is(at as u32)
+    Ok(at as u32)
 }
 
 // Whether words can be stored in the scalar `t`: 14, 16.
-pub fn fit_scalar(t: Target, words: &[u32]) -> Allowed
+pub fn fit_scalar(t: Target, words: &[u32]) -> Result<(), Refusal>
     requires { (u : path.Target) × (bytes : ℕ) × InBuffer t u bytes }
-    ensures { (u : path.Target) (bytes : ℕ) → InBuffer t u bytes → (b : List ℕ) → said_allowed result ≡ fit_of (set_target u words.now b) }
+    ensures { (u : path.Target) (bytes : ℕ) → InBuffer t u bytes → (b : List ℕ) → said result ≡ fit_of (set_target u words.now b) }
 {
     if !is_scalar(t.scalar) {
-        return Allowed::Refused(Refusal::Count);
+        return Err(Refusal::Count);
     }
     if t.size == 8 {
         if words.len() != 2 {
-            return Allowed::Refused(Refusal::Count);
+            return Err(Refusal::Count);
         }
-        return Allowed::Yes;
+        return Ok(());
     }
     if words.len() != 1 {
-        return Allowed::Refused(Refusal::Count);
+        return Err(Refusal::Count);
     }
     if t.size == 2 {
         if 65535 < words[0] {
-            return Allowed::Refused(Refusal::Word(0));
+            return Err(Refusal::Word(0));
         }
     }
-    Allowed::Yes
+    Ok(())
 }
 
 // 14, 16, and the scalar's bytes.
-pub fn set_scalar(t: Target, words: &[u32], buf: &mut [u8]) -> Number
+pub fn set_scalar(t: Target, words: &[u32], buf: &mut [u8]) -> Result<u32, Refusal>
     requires { (u : path.Target) × InBuffer t u (length buf.old) }
     ensures { (u : path.Target) → InBuffer t u (length buf.old) → Answered (set_target u words.now buf.old) result buf.old buf.new }
 {
     if !is_scalar(t.scalar) {
-        return Number::Refused(Refusal::Count);
+        return Err(Refusal::Count);
     }
     if t.size == 2 {
         return set_half(t.offset, words, buf);
@@ -105,12 +102,12 @@ pub fn set_scalar(t: Target, words: &[u32], buf: &mut [u8]) -> Number
 
 // Stores `words` in the one scalar that `path` leads to from entry `entry`, the lowest first; answers its offset. Every other byte stays.
 // Refuses 1 to 7, 24 (file), 8, 17, 9 (no layout), 10, 15, 11 to 13 (the first bad step), 14 (no scalar, or not as many words as it takes), 16.
-pub fn set(file: &[u8], entry: u32, path: &[u32], words: &[u32], buf: &mut [u8]) -> Number
-    ensures answer { said_number result ≡ answer_of (set_call file.now entry path.now words.now buf.old) }
+pub fn set(file: &[u8], entry: u32, path: &[u32], words: &[u32], buf: &mut [u8]) -> Result<u32, Refusal>
+    ensures answer { said result ≡ answer_of (set_call file.now entry path.now words.now buf.old) }
     ensures buffer { buf.new ≡ contents_of buf.old (set_call file.now entry path.now words.now buf.old) }
 {
     match locate(file, entry, path, buf.len(), true) {
-        Walked::Refused(r) => Number::Refused(r),
-        Walked::To(t) => set_scalar(t, words, buf),
+        Err(r) => Err(r),
+        Ok(t) => set_scalar(t, words, buf),
     }
 }

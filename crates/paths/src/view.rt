@@ -1,16 +1,16 @@
 // `view` and `view_mut`: the bytes that a path leads to, as that part of the caller's own buffer.
 ghost use Rattle.std.specs.Prelude.{◌≡◌, List, ℕ, length};
 ghost use Rattle.wgsl.specs.Call.{view_call, part_of, part_start};
-ghost use Rattle.said.specs.Target.{said_walked, reached, after};
+ghost use Rattle.said.specs.Target.{reached, after};
 ghost use Rattle.paths.specs.View.{PartIs};
+ghost use Rattle.said.specs.Answer.{said};
 
 use crate::locate::locate;
-use said::target::Walked;
 
 // What `path` leads to from entry `entry`: its offset, its bytes and its scalar.
 // Refuses 1 to 7, 24 (file), 8, 17, 9 (no layout), 15, then 11 to 13 (the first bad step).
-pub fn view_at(file: &[u8], entry: u32, path: &[u32], buf: &[u8]) -> Walked
-    ensures { said_walked result ≡ reached (view_call file.now entry path.now buf.now) }
+pub fn view_at(file: &[u8], entry: u32, path: &[u32], buf: &[u8]) -> Result<Target, Refusal>
+    ensures { said result ≡ reached (view_call file.now entry path.now buf.now) }
 {
     locate(file, entry, path, buf.len(), false)
 }
@@ -28,11 +28,11 @@ fn part_at(file: &[u8], entry: u32, path: &[u32], bytes: usize) -> Part
     ensures { (b : List ℕ) → length b ≡ bytes → PartIs result (view_call file.now entry path.now b) b }
 {
     match locate(file, entry, path, bytes, false) {
-        Walked::To(t) => Part {
+        Ok(t) => Part {
             from: t.offset,
             to: t.offset + t.size,
         },
-        Walked::Refused(_) => Part { from: 0, to: 0 },
+        Err(_) => Part { from: 0, to: 0 },
     }
 }
 

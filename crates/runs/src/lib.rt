@@ -6,7 +6,8 @@ ghost use Rattle.std.specs.Prelude.{◌≡◌, ◌⊎◌, ℕ, ◌+◌, ◌*◌,
 ghost use Rattle.wgsl.specs.Number.{store};
 ghost use Rattle.runs.specs.Fold.{Stores, Loads, Tests};
 ghost use Rattle.runs.specs.Run.{run_places, part_places};
-ghost use Rattle.runs.specs.Ask.{PartsRoom, said_scan};
+ghost use Rattle.runs.specs.Ask.{PartsRoom};
+ghost use Rattle.said.specs.Answer.{said};
 
 use numbers::bytes::{store_u16, store_u32, u16_at, u32_at};
 
@@ -19,12 +20,6 @@ pub struct Parts {
     pub stride: usize,
 }
 
-// That the words fit, or the position of the first that does not.
-#[derive(Clone, Copy)]
-pub enum Scan {
-    Fine,
-    Bad(usize),
-}
 
 // Two, three and four numbers of four bytes, one after the other. They are handed on as numbers, so that all are read before the first is
 // stored: the compiler, which cannot know that a store changes no word, then moves them together.
@@ -334,38 +329,38 @@ pub fn largest(words: &[u32], k: usize, n: usize, most: u32) -> u32
 }
 
 // The first of `n` words from word `k` on that does not fit into two bytes.
-fn first_past(words: &[u32], k: usize, n: usize) -> Scan
+fn first_past(words: &[u32], k: usize, n: usize) -> Result<(), Refusal>
     requires { k + n ≤ length words.now }
-    ensures { Tests words.now (run_places n 2 0) k (said_scan result) }
+    ensures { Tests words.now (run_places n 2 0) k (said result) }
 {
     let mut i: usize = 0;
     while i < n {
         if 65535 < words[k + i] {
-            return Scan::Bad(k + i);
+            return Err(Refusal::Word(k + i));
         }
         i += 1;
     }
-    Scan::Fine
+    Ok(())
 }
 
 // Whether `n` words from word `k` on fit into two bytes each: by the largest of them, and one by one only where that does not fit.
-fn scan_two(words: &[u32], k: usize, n: usize) -> Scan
+fn scan_two(words: &[u32], k: usize, n: usize) -> Result<(), Refusal>
     requires { k + n ≤ length words.now }
-    ensures { Tests words.now (run_places n 2 0) k (said_scan result) }
+    ensures { Tests words.now (run_places n 2 0) k (said result) }
 {
     if largest(words, k, n, 0) <= 65535 {
-        return Scan::Fine;
+        return Ok(());
     }
     first_past(words, k, n)
 }
 
 // Whether `n` words from word `k` on fit into `width` bytes each.
-pub fn scan_run(words: &[u32], k: usize, n: usize, width: usize) -> Scan
+pub fn scan_run(words: &[u32], k: usize, n: usize, width: usize) -> Result<(), Refusal>
     requires { ((width ≡ 2) ⊎ (width ≡ 4)) × (k + n ≤ length words.now) }
-    ensures { Tests words.now (run_places n width 0) k (said_scan result) }
+    ensures { Tests words.now (run_places n width 0) k (said result) }
 {
     if width == 2 {
         return scan_two(words, k, n);
     }
-    Scan::Fine
+    Ok(())
 }

@@ -3,6 +3,7 @@
 -- In order: anything that tells itself; refusals; a number or a refusal; a pattern or a refusal; a number or a length beside what was lent; what cleaning changed; the mask of a site block, and
 -- its buffer; the four numbers of an entry; a target or a refusal; a part of the buffer.
 -- Assumes nothing.
+use Rattle.std.specs.Prelude.{Err, None, Ok, Option, Result, Some, ℕ}
 use Prim.Native.Nat.{ℕ}
 use mathlib.Core.List.{List, [], ◌∷◌}
 use mathlib.Core.Option.{Option, none, some}
@@ -17,17 +18,10 @@ use Rattle.wgsl.specs.Site.{SiteDone, site_answer, site_after, mask_set, zero_of
 use Rattle.said.specs.Refusal.{number_of, place_of}
 use Rattle.said.specs.declared.refusal.Refusal.{Refusal}
 use Rattle.said.specs.declared.refusal.Refusal.TheVariants.{Short, Form, Counts, Length, Rule, Given, Large, Missing, Absent, Unstorable, NoMember, PastEnd, NoIndex, Count, Buffer, Word, Long, NoRank, NotUniform, Named, NoSite, NoOrder, Stray, NoConversion}
-use Rattle.said.specs.Answer.{said_number, said_moved, said_pattern, gaps_of, said_cleaned, maybe_of, said_answer}
-use Rattle.said.specs.declared.answer.Number.{Number}
-use Rattle.said.specs.declared.answer.Moved.{Moved}
-use Rattle.said.specs.declared.answer.Pattern.{Pattern}
+use Rattle.said.specs.Answer.{said, gaps_of, maybe_of, said_answer}
 use Rattle.said.specs.declared.answer.Gaps.{Gaps}
-use Rattle.said.specs.declared.answer.Cleaned.{Cleaned}
-use Rattle.said.specs.declared.answer.Maybe.{Maybe}
-use Rattle.said.specs.declared.answer.Answer.{Answer}
 use Rattle.said.specs.declared.target.Target.{Target}
-use Rattle.said.specs.declared.target.Walked.{Walked}
-use Rattle.said.specs.Target.{said_walked, after}
+use Rattle.said.specs.Target.{after}
 
 -- ---- anything that tells itself
 
@@ -73,120 +67,120 @@ refusal_told NoConversion = refl
 
 -- ---- a number or a refusal
 
-abbrev number_from : Said ℕ → Number
-number_from (good n) = Number.Is n
-number_from (refused number place) = Number.Refused (refusal_from place number)
+abbrev number_from : Said ℕ → Result ℕ Refusal
+number_from (good n) = Ok n
+number_from (refused number place) = Err (refusal_from place number)
 
-number_told : (a : Number) → number_from (said_number a) ≡ a
-number_told (Number.Is n) = refl
-number_told (Number.Refused r) = ap Number.Refused (refusal_told r)
+number_told : (a : Result ℕ Refusal) → number_from (said a) ≡ a
+number_told (Ok n) = refl
+number_told (Err r) = ap Err (refusal_told r)
 
 -- Two numbers that a claim of check, size, align, min_size, rank, common, uniform or check_order allows are the same.
-pub single_number : {said : Said ℕ} (a b : Number) → said_number a ≡ said → said_number b ≡ said → a ≡ b
-single_number = single said_number number_from number_told
+pub single_number : {said : Said ℕ} (a b : Result ℕ Refusal) → said a ≡ said → said b ≡ said → a ≡ b
+single_number = single said number_from number_told
 
 -- ---- a pattern or a refusal
 
-abbrev pattern_from : Said ℕ → Pattern
-pattern_from (good p) = Pattern.Is p
-pattern_from (refused number place) = Pattern.Refused (refusal_from place number)
+abbrev pattern_from : Said ℕ → Result ℕ Refusal
+pattern_from (good p) = Ok p
+pattern_from (refused number place) = Err (refusal_from place number)
 
-pattern_told : (a : Pattern) → pattern_from (said_pattern a) ≡ a
-pattern_told (Pattern.Is p) = refl
-pattern_told (Pattern.Refused r) = ap Pattern.Refused (refusal_told r)
+pattern_told : (a : Result ℕ Refusal) → pattern_from (said a) ≡ a
+pattern_told (Ok p) = refl
+pattern_told (Err r) = ap Err (refusal_told r)
 
 -- Two patterns that the claim of convert allows are the same.
-pub single_pattern : {said : Said ℕ} (a b : Pattern) → said_pattern a ≡ said → said_pattern b ≡ said → a ≡ b
-single_pattern = single said_pattern pattern_from pattern_told
+pub single_pattern : {said : Said ℕ} (a b : Result ℕ Refusal) → said a ≡ said → said b ≡ said → a ≡ b
+single_pattern = single said pattern_from pattern_told
 
 -- ---- a number beside what was lent
 
 -- Two results that a claim of write, read, set or plan_order allows are the same, the answer and the contents of what was lent. `said` is
 -- what `write_call`, `read_call`, `set_call` or `plan_call` says, and `before` what was lent.
-pub single_done : (before : List ℕ) (said : Said call.Done) (a b : Number) (x y : List ℕ) → said_number a ≡ call.answer_of said → said_number b ≡ call.answer_of said → x ≡ call.contents_of before said → y ≡ call.contents_of before said → (a ≡ b) × (x ≡ y)
+pub single_done : (before : List ℕ) (said : Said call.Done) (a b : Result ℕ Refusal) (x y : List ℕ) → said a ≡ call.answer_of said → said b ≡ call.answer_of said → x ≡ call.contents_of before said → y ≡ call.contents_of before said → (a ≡ b) × (x ≡ y)
 single_done before said a b x y p q r s = (single_number a b p q, r ∙ sym s)
 
 -- ---- a length beside what was lent
 
-abbrev length_from : Said ℕ → Moved
-length_from (good n) = Moved.Is n
-length_from (refused number place) = Moved.Refused (refusal_from place number)
+abbrev length_from : Said ℕ → Result ℕ Refusal
+length_from (good n) = Ok n
+length_from (refused number place) = Err (refusal_from place number)
 
-length_told : (a : Moved) → length_from (said_moved a) ≡ a
-length_told (Moved.Is n) = refl
-length_told (Moved.Refused r) = ap Moved.Refused (refusal_told r)
+length_told : (a : Result ℕ Refusal) → length_from (said a) ≡ a
+length_told (Ok n) = refl
+length_told (Err r) = ap Err (refusal_told r)
 
 -- Two results that a claim of a move allows are the same, the answer and the contents of what was lent.
-pub single_moved : (before : List ℕ) (said : Said call.Done) (a b : Moved) (x y : List ℕ) → said_moved a ≡ call.answer_of said → said_moved b ≡ call.answer_of said → x ≡ call.contents_of before said → y ≡ call.contents_of before said → (a ≡ b) × (x ≡ y)
-single_moved before said a b x y p q r s = (single said_moved length_from length_told a b p q, r ∙ sym s)
+pub single_moved : (before : List ℕ) (said : Said call.Done) (a b : Result ℕ Refusal) (x y : List ℕ) → said a ≡ call.answer_of said → said b ≡ call.answer_of said → x ≡ call.contents_of before said → y ≡ call.contents_of before said → (a ≡ b) × (x ≡ y)
+single_moved before said a b x y p q r s = (single said length_from length_told a b p q, r ∙ sym s)
 
 -- ---- what cleaning changed, beside what was lent
 
-abbrev cleaned_from : Said Gaps → Cleaned
-cleaned_from (good g) = Cleaned.Is g
-cleaned_from (refused number place) = Cleaned.Refused (refusal_from place number)
+abbrev cleaned_from : Said Gaps → Result Gaps Refusal
+cleaned_from (good g) = Ok g
+cleaned_from (refused number place) = Err (refusal_from place number)
 
-cleaned_told : (a : Cleaned) → cleaned_from (said_cleaned a) ≡ a
-cleaned_told (Cleaned.Is g) = refl
-cleaned_told (Cleaned.Refused r) = ap Cleaned.Refused (refusal_told r)
+cleaned_told : (a : Result Gaps Refusal) → cleaned_from (said a) ≡ a
+cleaned_told (Ok g) = refl
+cleaned_told (Err r) = ap Err (refusal_told r)
 
 -- Two results that the claim of clean allows are the same, the answer and the contents of the buffer.
-pub single_cleaned : (before : List ℕ) (said : Said CleanDone) (a b : Cleaned) (x y : List ℕ) → said_cleaned a ≡ gaps_of said → said_cleaned b ≡ gaps_of said → x ≡ clean_after before said → y ≡ clean_after before said → (a ≡ b) × (x ≡ y)
-single_cleaned before said a b x y p q r s = (single said_cleaned cleaned_from cleaned_told a b p q, r ∙ sym s)
+pub single_cleaned : (before : List ℕ) (said : Said CleanDone) (a b : Result Gaps Refusal) (x y : List ℕ) → said a ≡ gaps_of said → said b ≡ gaps_of said → x ≡ clean_after before said → y ≡ clean_after before said → (a ≡ b) × (x ≡ y)
+single_cleaned before said a b x y p q r s = (single said cleaned_from cleaned_told a b p q, r ∙ sym s)
 
 -- ---- the mask of a site block, and its buffer
 
 -- Two results that a claim of an inheriting block or of clearing allows are the same, the answer and the mask. `said` is what
 -- `inheriting_call` or `clear_call` says, and `before` what the mask was.
-pub single_mask : (before : ℕ) (said : Said ℕ) (a b : Number) (x y : ℕ) → said_number a ≡ zero_of said → said_number b ≡ zero_of said → x ≡ mask_after before said → y ≡ mask_after before said → (a ≡ b) × (x ≡ y)
+pub single_mask : (before : ℕ) (said : Said ℕ) (a b : Result ℕ Refusal) (x y : ℕ) → said a ≡ zero_of said → said b ≡ zero_of said → x ≡ mask_after before said → y ≡ mask_after before said → (a ≡ b) × (x ≡ y)
 single_mask before said a b x y p q r s = (single_number a b p q, r ∙ sym s)
 
 -- The same of a fresh block and of a set on site: the answer, the site buffer and the mask.
-pub single_site : (before : List ℕ) (mask : ℕ) (said : Said SiteDone) (a b : Number) (x y : List ℕ) (m n : ℕ) → said_number a ≡ site_answer said → said_number b ≡ site_answer said → x ≡ site_after before said → y ≡ site_after before said → m ≡ mask_set mask said → n ≡ mask_set mask said → (a ≡ b) × (x ≡ y) × (m ≡ n)
+pub single_site : (before : List ℕ) (mask : ℕ) (said : Said SiteDone) (a b : Result ℕ Refusal) (x y : List ℕ) (m n : ℕ) → said a ≡ site_answer said → said b ≡ site_answer said → x ≡ site_after before said → y ≡ site_after before said → m ≡ mask_set mask said → n ≡ mask_set mask said → (a ≡ b) × (x ≡ y) × (m ≡ n)
 single_site before mask said a b x y m n p q r s u v = (single_number a b p q, r ∙ sym s, u ∙ sym v)
 
 -- ---- the four numbers of an entry
 
-abbrev maybe_from : Option ℕ → Maybe
-maybe_from none = Maybe.Absent
-maybe_from (some n) = Maybe.Is n
+abbrev maybe_from : Option ℕ → Option ℕ
+maybe_from none = None
+maybe_from (some n) = Some n
 
-maybe_told : (m : Maybe) → maybe_from (maybe_of m) ≡ m
-maybe_told Maybe.Absent = refl
-maybe_told (Maybe.Is n) = refl
+maybe_told : (m : Option ℕ) → maybe_from (maybe_of m) ≡ m
+maybe_told None = refl
+maybe_told (Some n) = refl
 
-abbrev answer_from : Said call.Layout → Answer
+abbrev answer_from : Said call.Layout → Result Sizes Refusal
 answer_from (good l) =
-    Answer.Is (record {
+    Ok (record {
       size = maybe_from l.size;
       align = maybe_from l.align;
       min = maybe_from l.min_size;
       stride = maybe_from l.stride;
     })
-answer_from (refused number place) = Answer.Refused (refusal_from place number)
+answer_from (refused number place) = Err (refusal_from place number)
 
-answer_told : (a : Answer) → answer_from (said_answer a) ≡ a
-answer_told (Answer.Is s) =
+answer_told : (a : Result Sizes Refusal) → answer_from (said_answer a) ≡ a
+answer_told (Ok s) =
     rw (maybe_told s.size, maybe_told s.align, maybe_told s.min, maybe_told s.stride)
-answer_told (Answer.Refused r) = ap Answer.Refused (refusal_told r)
+answer_told (Err r) = ap Err (refusal_told r)
 
 -- Two answers that the claim of layout allows are the same.
-pub single_answer : {said : Said call.Layout} (a b : Answer) → said_answer a ≡ said → said_answer b ≡ said → a ≡ b
+pub single_answer : {said : Said call.Layout} (a b : Result Sizes Refusal) → said_answer a ≡ said → said_answer b ≡ said → a ≡ b
 single_answer = single said_answer answer_from answer_told
 
 -- ---- a target or a refusal
 
-abbrev walked_from : Said Target → Walked
-walked_from (good t) = Walked.To t
-walked_from (refused number place) = Walked.Refused (refusal_from place number)
+abbrev walked_from : Said Target → Result Target Refusal
+walked_from (good t) = Ok t
+walked_from (refused number place) = Err (refusal_from place number)
 
-walked_told : (a : Walked) → walked_from (said_walked a) ≡ a
-walked_told (Walked.To t) = refl
-walked_told (Walked.Refused r) = ap Walked.Refused (refusal_told r)
+walked_told : (a : Result Target Refusal) → walked_from (said a) ≡ a
+walked_told (Ok t) = refl
+walked_told (Err r) = ap Err (refusal_told r)
 
 -- Two answers that the claim of view_at allows are the same.
-pub single_walked : {said : Said Target} (a b : Walked) → said_walked a ≡ said → said_walked b ≡ said → a ≡ b
-single_walked = single said_walked walked_from walked_told
+pub single_walked : {said : Said Target} (a b : Result Target Refusal) → said a ≡ said → said b ≡ said → a ≡ b
+single_walked = single said walked_from walked_told
 
 -- ---- a part of the buffer
 

@@ -5,10 +5,7 @@ use Rattle.wgsl.specs.Types.{scalar_kind}
 use Rattle.wgsl.specs.Said.{Said, good, refused}
 use Rattle.wgsl.specs.Place.{Shape, one, parts, field, whole, span_of}
 use Rattle.wgsl.specs.Path as path
-use Rattle.said.specs.Refusal.{number_of, place_of}
 use Rattle.said.specs.declared.target.Target.{Target}
-use Rattle.said.specs.declared.target.Walked.{Walked}
-use Rattle.said.specs.declared.target.Walked.TheVariants.{To, Refused}
 
 -- what stands for a kind where there is no scalar
 abbrev pub no_scalar : ℕ
@@ -28,10 +25,6 @@ target_is t = record { offset = t.offset; size = span_of t.shape; scalar = kind_
 abbrev pub reached : Said path.Target → Said Target
 reached (good t) = good (target_is t)
 reached (refused number place) = refused number place
-
-abbrev pub said_walked : Walked → Said Target
-said_walked (To t) = good t
-said_walked (Refused r) = refused (number_of r) (place_of r)
 
 -- so many bytes after a place in memory, which is a block and an offset in it
 abbrev pub after : ℕ × ℕ → ℕ → ℕ × ℕ

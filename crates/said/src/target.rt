@@ -12,8 +12,3 @@ pub struct Target {
     pub scalar: u32,
 }
 
-#[derive(Clone, Copy)]
-pub enum Walked {
-    To(Target),
-    Refused(Refusal),
-}

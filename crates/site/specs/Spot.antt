@@ -1,21 +1,14 @@
 -- A member of a block and what a path leads to in it, as the code has them (crates/wgsl, specs/Site).
 -- Definitions only. Assumes nothing.
 use Rattle.std.specs.Prelude.{ℕ, List, map}
-use Rattle.wgsl.specs.Said.{Said, good, refused, ◌>>=◌}
+use Rattle.wgsl.specs.Said.{Said, good, ◌>>=◌}
 use Rattle.wgsl.specs.Place.{Shape, shape_of, span_of}
 use Rattle.wgsl.specs.Path as path
 use Rattle.wgsl.specs.Path.{enter, walk, step_of}
 use Rattle.wgsl.specs.Site.{block_in}
-use Rattle.said.specs.Refusal.{number_of, place_of}
 use Rattle.said.specs.declared.target.Target.{Target}
 use Rattle.said.specs.Target.{target_is}
 use Rattle.site.specs.declared.spot.Spot.{Spot}
-use Rattle.site.specs.declared.spot.Found.{Found}
-use Rattle.site.specs.declared.spot.Found.TheVariants.{At, Refused}
-
-abbrev pub said_found : Found → Said Spot
-said_found (At s) = good s
-said_found (Refused r) = refused (number_of r) (place_of r)
 
 -- a member of the shape y that lies at an offset, and a target in it
 abbrev pub spot_of : ℕ → Shape → Target → Spot

@@ -5,15 +5,15 @@ ghost use Rattle.wgsl.specs.Rule.{is_well_formed};
 ghost use Rattle.wgsl.specs.Site.{is_block};
 ghost use Rattle.layout_values.specs.Value.{value_of, blank_table};
 ghost use Rattle.layout_table.specs.Table.{said_ground};
-ghost use Rattle.walk_decide.specs.Decide.{said_allowed};
 ghost use Rattle.site.specs.Block.{block_allowed, block_ground};
+ghost use Rattle.said.specs.Answer.{said};
 
 use file::kinds::STRUCT;
-use file::trailer::{Trailered, check_trailer};
-use layout_table::{Grounded, find};
+use file::trailer::check_trailer;
+use layout_table::find;
 use layout_values::value::{Row, Value, opens};
 use said::refusal::Refusal;
-use walk_decide::{Allowed, allow};
+use walk_decide::allow;
 
 // The most members that a block has.
 const MOST_SETTINGS: u32 = 64;
@@ -46,34 +46,34 @@ pub fn is_block(l: Value, mask: u64) -> bool
 }
 
 // 17, 9, 10 and 21, for an entry of the value `l`; `bytes` is the length of the longer buffer.
-fn allow_block(l: Value, mask: u64, bytes: usize) -> Allowed
-    ensures { (t : Ty) → l ≡ value_of l.stride l.reference t → everywhere is_well_formed t ≡ true → said_allowed result ≡ block_allowed mask t bytes }
+fn allow_block(l: Value, mask: u64, bytes: usize) -> Result<(), Refusal>
+    ensures { (t : Ty) → l ≡ value_of l.stride l.reference t → everywhere is_well_formed t ≡ true → said result ≡ block_allowed mask t bytes }
 {
     match allow(l, bytes, true) {
-        Allowed::Refused(r) => Allowed::Refused(r),
-        Allowed::Yes => {
+        Err(r) => Err(r),
+        Ok(()) => {
             if is_block(l, mask) {
-                return Allowed::Yes;
+                return Ok(());
             }
-            Allowed::Refused(Refusal::NoSite)
+            Err(Refusal::NoSite)
         }
     }
 }
 
 // Fills the table, and finds in it the block that entry `entry` is with this mask. Refuses 1 to 7, 24, 8, 17, 9, 10, 21.
-pub fn find_block(file: &[u8], entry: u32, mask: u64, bytes: usize, table: &mut [Row]) -> Grounded
+pub fn find_block(file: &[u8], entry: u32, mask: u64, bytes: usize, table: &mut [Row]) -> Result<Ground, Refusal>
     requires { table.old ≡ blank_table }
     ensures { said_ground result table.new ≡ block_ground file.now entry mask bytes }
 {
     match check_trailer(file) {
-        Trailered::Refused(r) => Grounded::Refused(r),
-        Trailered::Good(t) => match find(file, t, entry, table) {
-            Grounded::Refused(r) => Grounded::Refused(r),
-            Grounded::Is(g) => {
+        Err(r) => Err(r),
+        Ok(t) => match find(file, t, entry, table) {
+            Err(r) => Err(r),
+            Ok(g) => {
                 let l = g.value;
                 match allow_block(l, mask, bytes) {
-                    Allowed::Refused(r) => Grounded::Refused(r),
-                    Allowed::Yes => Grounded::Is(g),
+                    Err(r) => Err(r),
+                    Ok(()) => Ok(g),
                 }
             }
         },

@@ -3,45 +3,42 @@ ghost use Rattle.std.specs.Prelude.{◌≡◌, List, ℕ};
 ghost use Rattle.wgsl.specs.Types.{Ty};
 ghost use Rattle.wgsl.specs.Place.{Shape, shape_of};
 ghost use Rattle.wgsl.specs.Site.{clear_call, zero_of, mask_after};
-ghost use Rattle.said.specs.Answer.{said_number};
 ghost use Rattle.walk_path.specs.declared.enter.Stand.TheVariants.{Entry};
 ghost use Rattle.walk_path.specs.Way.{Standing};
-ghost use Rattle.walk_decide.specs.Decide.{said_allowed};
 ghost use Rattle.site.specs.Block.{BlockAt};
 ghost use Rattle.site.specs.Clear.{there_in, can_clear};
+ghost use Rattle.said.specs.Answer.{said};
 
 use crate::block::find_block;
 use crate::mask::without_bit;
-use layout_table::{Ground, Grounded};
+use layout_table::Ground;
 use layout_values::value::{Row, blank};
 use numbers::wide::wide;
-use said::answer::Number;
 use said::refusal::Refusal;
-use walk_decide::Allowed;
-use walk_path::enter::{Entered, Stand, enter};
+use walk_path::enter::{Stand, enter};
 use walk_path::step::Step;
 
 // 11, with place 0, for a member that entry `e` has not.
-fn member_there(members: &[u8], table: &[Row], e: usize, k: u32) -> Allowed
+fn member_there(members: &[u8], table: &[Row], e: usize, k: u32) -> Result<(), Refusal>
     requires { (f : List ℕ) × (ts : List Ty) × (x : Shape) × Standing f ts members.now table.now 0 (Entry e) x }
-    ensures { (f : List ℕ) (ts : List Ty) (x : Shape) → Standing f ts members.now table.now 0 (Entry e) x → said_allowed result ≡ there_in x k }
+    ensures { (f : List ℕ) (ts : List Ty) (x : Shape) → Standing f ts members.now table.now 0 (Entry e) x → said result ≡ there_in x k }
 {
     let step = Step {
         member: true,
         number: k,
     };
     match enter(members, table, 0, Stand::Entry(e), step) {
-        Entered::Into(_) => Allowed::Yes,
-        Entered::NoMember => Allowed::Refused(Refusal::NoMember(0)),
-        Entered::PastEnd => Allowed::Refused(Refusal::PastEnd(0)),
-        Entered::NoIndex => Allowed::Refused(Refusal::NoIndex(0)),
+        Ok(_) => Ok(()),
+        Err(NoStep::NoMember) => Err(Refusal::NoMember(0)),
+        Err(NoStep::PastEnd) => Err(Refusal::PastEnd(0)),
+        Err(NoStep::NoIndex) => Err(Refusal::NoIndex(0)),
     }
 }
 
 // The same in the block that was found.
-fn there_in(file: &[u8], e: usize, g: Ground, table: &[Row], k: u32) -> Allowed
+fn there_in(file: &[u8], e: usize, g: Ground, table: &[Row], k: u32) -> Result<(), Refusal>
     requires { (t : Ty) × (mask : ℕ) × (bytes : ℕ) × BlockAt file.now e g table.now mask bytes t }
-    ensures { (t : Ty) (mask bytes : ℕ) → BlockAt file.now e g table.now mask bytes t → said_allowed result ≡ there_in (shape_of 0 t) k }
+    ensures { (t : Ty) (mask bytes : ℕ) → BlockAt file.now e g table.now mask bytes t → said result ≡ there_in (shape_of 0 t) k }
 {
     let start = g.start;
     let end = g.end;
@@ -50,28 +47,28 @@ fn there_in(file: &[u8], e: usize, g: Ground, table: &[Row], k: u32) -> Allowed
 
 // Whether member `k` of a block can be cleared.
 // Refuses 1 to 7, 24, 8, 9, 10, 21, 11 (no such member, place 0).
-fn can_clear(file: &[u8], entry: u32, k: u32, mask: u64) -> Allowed
-    ensures { said_allowed result ≡ can_clear file.now entry k mask }
+fn can_clear(file: &[u8], entry: u32, k: u32, mask: u64) -> Result<(), Refusal>
+    ensures { said result ≡ can_clear file.now entry k mask }
 {
     let mut table = blank();
     match find_block(file, entry, mask, 0, &mut table) {
-        Grounded::Refused(r) => Allowed::Refused(r),
-        Grounded::Is(g) => there_in(file, wide(entry), g, &table, k),
+        Err(r) => Err(r),
+        Ok(g) => there_in(file, wide(entry), g, &table, k),
     }
 }
 
 // Drops the bit of member `k`, which shows the factory's bytes again; the answer is 0.
 // Refuses 1 to 7, 24, 8, 9, 10, 21, 11 (no such member, place 0).
-pub fn clear(file: &[u8], entry: u32, k: u32, mask: &mut u64) -> Number
-    ensures answer { said_number result ≡ zero_of (clear_call file.now entry k mask.old) }
+pub fn clear(file: &[u8], entry: u32, k: u32, mask: &mut u64) -> Result<u32, Refusal>
+    ensures answer { said result ≡ zero_of (clear_call file.now entry k mask.old) }
     ensures mask { mask.new ≡ mask_after mask.old (clear_call file.now entry k mask.old) }
 {
     let m = *mask;
     match can_clear(file, entry, k, m) {
-        Allowed::Refused(r) => Number::Refused(r),
-        Allowed::Yes => {
+        Err(r) => Err(r),
+        Ok(()) => {
             *mask = without_bit(m, k);
-            Number::Is(0)
+            Ok(0)
         }
     }
 }

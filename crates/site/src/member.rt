@@ -2,30 +2,30 @@
 ghost use Rattle.std.specs.Prelude.{◌≡◌, cond, List, ℕ, ◌-◌, ◌≤◌, length, take, drop};
 ghost use Rattle.wgsl.specs.Call.{part_of, part_start};
 ghost use Rattle.wgsl.specs.Site.{member_call, handed_from};
-ghost use Rattle.said.specs.Target.{said_walked, reached, after};
+ghost use Rattle.said.specs.Target.{reached, after};
+ghost use Rattle.said.specs.Answer.{said};
 
 use crate::mask::bit;
-use crate::spot::{Found, locate_in};
-use said::target::Walked;
+use crate::spot::locate_in;
 
 // Where member `k` lies, in buffers of so many bytes.
-fn member_in(file: &[u8], entry: u32, k: u32, mask: u64, factory: usize, site: usize) -> Walked
-    ensures { (a b : List ℕ) → length a ≡ factory → length b ≡ site → said_walked result ≡ reached (member_call file.now entry k mask a b) }
+fn member_in(file: &[u8], entry: u32, k: u32, mask: u64, factory: usize, site: usize) -> Result<Target, Refusal>
+    ensures { (a b : List ℕ) → length a ≡ factory → length b ≡ site → said result ≡ reached (member_call file.now entry k mask a b) }
 {
     let none = [0u32; 1];
     match locate_in(file, entry, k, &none[..0], mask, factory, site) {
-        Found::Refused(r) => Walked::Refused(r),
-        Found::At(s) => {
+        Err(r) => Err(r),
+        Ok(s) => {
             let t = s.target;
-            Walked::To(t)
+            Ok(t)
         }
     }
 }
 
 // Where member `k` lies in its block: its offset, its bytes and its scalar.
 // Refuses 1 to 7, 24, 8, 17, 9, 10, 21, 15 (either buffer), 11 (no such member, place 0).
-pub fn member_at(file: &[u8], entry: u32, k: u32, mask: u64, factory: &[u8], site: &[u8]) -> Walked
-    ensures { said_walked result ≡ reached (member_call file.now entry k mask factory.now site.now) }
+pub fn member_at(file: &[u8], entry: u32, k: u32, mask: u64, factory: &[u8], site: &[u8]) -> Result<Target, Refusal>
+    ensures { said result ≡ reached (member_call file.now entry k mask factory.now site.now) }
 {
     member_in(file, entry, k, mask, factory.len(), site.len())
 }
@@ -56,8 +56,8 @@ pub fn member<'a>(
     ensures place { result.ref_ptr ≡ after (handed_from (member_call file.now entry k mask factory.now site.now) mask k factory.entry.ref_ptr site.entry.ref_ptr) (part_start (member_call file.now entry k mask factory.now site.now)) }
 {
     match member_in(file, entry, k, mask, factory.len(), site.len()) {
-        Walked::Refused(_) => &factory[0..0],
-        Walked::To(t) => {
+        Err(_) => &factory[0..0],
+        Ok(t) => {
             let from = t.offset;
             let to = t.offset + t.size;
             part_of(factory, site, bit(mask, k), from, to)

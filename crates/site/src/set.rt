@@ -4,16 +4,14 @@ ghost use Rattle.std.proofs.lemmas.List.Edits.{sets};
 ghost use Rattle.wgsl.specs.Path as path;
 ghost use Rattle.wgsl.specs.Call.{set_target};
 ghost use Rattle.wgsl.specs.Site.{site_set_call, site_answer, site_after, mask_set};
-ghost use Rattle.said.specs.Answer.{said_number, Answered};
+ghost use Rattle.said.specs.Answer.{said, Answered};
 ghost use Rattle.paths.specs.Set.{InBuffer};
 ghost use Rattle.site.specs.Set.{brought_in};
 
 use crate::mask::{bit, with_bit};
-use crate::spot::{Found, Spot, locate_in};
+use crate::spot::{Spot, locate_in};
 use paths::set::{fit_scalar, set_scalar};
 use puts::put;
-use said::answer::Number;
-use walk_decide::Allowed;
 
 // Brings a member's bytes from the factory buffer, unless it was set on site.
 fn bring(on: bool, from: usize, size: usize, factory: &[u8], site: &mut [u8])
@@ -27,14 +25,14 @@ fn bring(on: bool, from: usize, size: usize, factory: &[u8], site: &mut [u8])
 }
 
 // 14, 16; then the member's bytes, unless it was set on site, and the words in its scalar.
-fn store_in(s: Spot, on: bool, words: &[u32], factory: &[u8], site: &mut [u8]) -> Number
+fn store_in(s: Spot, on: bool, words: &[u32], factory: &[u8], site: &mut [u8]) -> Result<u32, Refusal>
     requires { (s.from + s.size ≤ length factory.now) × (s.from + s.size ≤ length site.old) × ((u : path.Target) × InBuffer s.target u (length site.old)) }
     ensures { (u : path.Target) → InBuffer s.target u (length site.old) → Answered (set_target u words.now (brought_in on s.from s.size factory.now site.old)) result site.old site.new }
 {
     let target = s.target;
     match fit_scalar(target, words) {
-        Allowed::Refused(r) => Number::Refused(r),
-        Allowed::Yes => {
+        Err(r) => Err(r),
+        Ok(()) => {
             bring(on, s.from, s.size, factory, site);
             set_scalar(target, words, site)
         }
@@ -53,19 +51,19 @@ pub fn set(
     factory: &[u8],
     site: &mut [u8],
     mask: &mut u64,
-) -> Number
-    ensures answer { said_number result ≡ site_answer (site_set_call file.now entry k path.now words.now mask.old factory.now site.old) }
+) -> Result<u32, Refusal>
+    ensures answer { said result ≡ site_answer (site_set_call file.now entry k path.now words.now mask.old factory.now site.old) }
     ensures site { site.new ≡ site_after site.old (site_set_call file.now entry k path.now words.now mask.old factory.now site.old) }
     ensures mask { mask.new ≡ mask_set mask.old (site_set_call file.now entry k path.now words.now mask.old factory.now site.old) }
 {
     let m = *mask;
     match locate_in(file, entry, k, path, m, factory.len(), site.len()) {
-        Found::Refused(r) => Number::Refused(r),
-        Found::At(s) => match store_in(s, bit(m, k), words, factory, site) {
-            Number::Refused(r) => Number::Refused(r),
-            Number::Is(at) => {
+        Err(r) => Err(r),
+        Ok(s) => match store_in(s, bit(m, k), words, factory, site) {
+            Err(r) => Err(r),
+            Ok(at) => {
                 *mask = with_bit(m, k);
-                Number::Is(at)
+                Ok(at)
             }
         },
     }

@@ -6,16 +6,17 @@ ghost use Rattle.wgsl.specs.Place.{Shape, span_of};
 ghost use Rattle.walk_path.specs.declared.enter.Stand.TheVariants.{Entry};
 ghost use Rattle.walk_path.specs.Way.{Standing};
 ghost use Rattle.site.specs.Block.{BlockAt};
-ghost use Rattle.site.specs.Spot.{said_found, spot_from, spot_at, spot_call};
+ghost use Rattle.site.specs.Spot.{spot_from, spot_at, spot_call};
+ghost use Rattle.said.specs.Answer.{said};
 
 use crate::block::find_block;
 use crate::buffers::{both_have, longer};
-use layout_table::{Ground, Grounded};
+use layout_table::Ground;
 use layout_values::value::{Row, blank};
 use numbers::wide::wide;
 use said::refusal::Refusal;
-use said::target::{Target, Walked};
-use walk_path::enter::{Entered, Inner, Stand, enter};
+use said::target::Target;
+use walk_path::enter::{Inner, Stand, enter};
 use walk_path::step::Step;
 use walk_path::walk::walk;
 
@@ -27,40 +28,35 @@ pub struct Spot {
     pub target: Target,
 }
 
-#[derive(Clone, Copy)]
-pub enum Found {
-    At(Spot),
-    Refused(Refusal),
-}
 
 // What `path` leads to from the member `i`.
-fn spot_from(members: &[u8], table: &[Row], i: Inner, path: &[u32]) -> Found
+fn spot_from(members: &[u8], table: &[Row], i: Inner, path: &[u32]) -> Result<Spot, Refusal>
     requires { (f : List ℕ) × (ts : List Ty) × (y : Shape) × Standing f ts members.now table.now 0 i.stand y × (i.size ≡ span_of y) × (i.offset + span_of y ≤ limit) }
-    ensures { (f : List ℕ) (ts : List Ty) (y : Shape) → Standing f ts members.now table.now 0 i.stand y → i.size ≡ span_of y → said_found result ≡ spot_from i.offset y path.now }
+    ensures { (f : List ℕ) (ts : List Ty) (y : Shape) → Standing f ts members.now table.now 0 i.stand y → i.size ≡ span_of y → said result ≡ spot_from i.offset y path.now }
 {
     let from = i.offset;
     let size = i.size;
     let stand = i.stand;
     match walk(members, table, 0, stand, size, path, 0, from) {
-        Walked::Refused(r) => Found::Refused(r),
-        Walked::To(target) => Found::At(Spot { from, size, target }),
+        Err(r) => Err(r),
+        Ok(target) => Ok(Spot { from, size, target }),
     }
 }
 
 // Member `k` of entry `e`, and what `path` leads to in it.
-fn spot_at(members: &[u8], table: &[Row], e: usize, k: u32, path: &[u32]) -> Found
+fn spot_at(members: &[u8], table: &[Row], e: usize, k: u32, path: &[u32]) -> Result<Spot, Refusal>
     requires { (f : List ℕ) × (ts : List Ty) × (x : Shape) × Standing f ts members.now table.now 0 (Entry e) x }
-    ensures { (f : List ℕ) (ts : List Ty) (x : Shape) → Standing f ts members.now table.now 0 (Entry e) x → said_found result ≡ spot_at x k path.now }
+    ensures { (f : List ℕ) (ts : List Ty) (x : Shape) → Standing f ts members.now table.now 0 (Entry e) x → said result ≡ spot_at x k path.now }
 {
     let step = Step {
         member: true,
         number: k,
     };
     match enter(members, table, 0, Stand::Entry(e), step) {
-        Entered::Into(i) => spot_from(members, table, i, path),
-        Entered::NoMember => Found::Refused(Refusal::NoMember(0)),
-        Entered::PastEnd => Found::Refused(Refusal::PastEnd(0)),
-        Entered::NoIndex => Found::Refused(Refusal::NoIndex(0)),
+        Ok(i) => spot_from(members, table, i, path),
+        Err(NoStep::NoMember) => Err(Refusal::NoMember(0)),
+        Err(NoStep::PastEnd) => Err(Refusal::PastEnd(0)),
+        Err(NoStep::NoIndex) => Err(Refusal::NoIndex(0)),
     }
 }
 
@@ -74,9 +70,9 @@ fn spot_in(
     path: &[u32],
     factory: usize,
     site: usize,
-) -> Found
+) -> Result<Spot, Refusal>
     requires { (t : Ty) × (mask : ℕ) × BlockAt file.now e g table.now mask (max factory site) t }
-    ensures { (t : Ty) (mask : ℕ) (a b : List ℕ) → BlockAt file.now e g table.now mask (max factory site) t → length a ≡ factory → length b ≡ site → said_found result ≡ spot_call file.now e k path.now mask a b }
+    ensures { (t : Ty) (mask : ℕ) (a b : List ℕ) → BlockAt file.now e g table.now mask (max factory site) t → length a ≡ factory → length b ≡ site → said result ≡ spot_call file.now e k path.now mask a b }
 {
     let size = wide(g.value.size);
     if both_have(size, factory, site) {
@@ -84,7 +80,7 @@ fn spot_in(
         let end = g.end;
         return spot_at(&file[start..end], table, e, k, path);
     }
-    Found::Refused(Refusal::Buffer)
+    Err(Refusal::Buffer)
 }
 
 // Member `k` of a block of entry `entry`, and what `path` leads to in it; the buffers have so many bytes.
@@ -97,12 +93,12 @@ pub fn locate_in(
     mask: u64,
     factory: usize,
     site: usize,
-) -> Found
-    ensures { (a b : List ℕ) → length a ≡ factory → length b ≡ site → said_found result ≡ spot_call file.now entry k path.now mask a b }
+) -> Result<Spot, Refusal>
+    ensures { (a b : List ℕ) → length a ≡ factory → length b ≡ site → said result ≡ spot_call file.now entry k path.now mask a b }
 {
     let mut table = blank();
     match find_block(file, entry, mask, longer(factory, site), &mut table) {
-        Grounded::Refused(r) => Found::Refused(r),
-        Grounded::Is(g) => spot_in(file, wide(entry), g, &table, k, path, factory, site),
+        Err(r) => Err(r),
+        Ok(g) => spot_in(file, wide(entry), g, &table, k, path, factory, site),
     }
 }

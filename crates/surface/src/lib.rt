@@ -12,12 +12,10 @@ ghost use Rattle.wgsl.specs.Site.{inheriting_call, fresh_call, clear_call, membe
 ghost use Rattle.wgsl.specs.Order.{plan_call, order_call};
 ghost use Rattle.wgsl.specs.Literal.{convert_call};
 ghost use Rattle.wgsl.specs.Clean.{clean_call, changed_of, first_after, clean_after};
-ghost use Rattle.said.specs.Answer.{said_number, said_moved, said_pattern, maybe_of};
+ghost use Rattle.said.specs.Answer.{said, maybe_of};
 ghost use Rattle.surface.specs.Crossing.{crossed, crossed_maybe, told, laid_out, size_out, site_out};
 
-use said::answer::{Answer, Cleaned, Maybe, Moved, Number, Pattern};
 use said::refusal::{number, place};
-use said::target::Walked;
 
 // An answer as it crosses to C: 0 or document 01's number, its place, the value (0 when refused).
 #[repr(C)]
@@ -29,16 +27,16 @@ pub struct Crossing {
 }
 
 // A number or a refusal, as it crosses.
-fn cross(n: Number) -> Crossing
-    ensures { result ≡ crossed (said_number n) }
+fn cross(n: Result<u32, Refusal>) -> Crossing
+    ensures { result ≡ crossed (said n) }
 {
     match n {
-        Number::Is(value) => Crossing {
+        Ok(value) => Crossing {
             refusal: 0,
             place: 0,
             value: value as u64,
         },
-        Number::Refused(r) => Crossing {
+        Err(r) => Crossing {
             refusal: number(r),
             place: place(r),
             value: 0,
@@ -47,40 +45,40 @@ fn cross(n: Number) -> Crossing
 }
 
 // A length or a refusal, as it crosses.
-fn cross_moved(m: Moved) -> Crossing
-    ensures { result ≡ crossed (said_moved m) }
+fn cross_moved(m: Result<usize, Refusal>) -> Crossing
+    ensures { result ≡ crossed (said m) }
 {
     match m {
-        Moved::Is(length) => Crossing {
+        Ok(length) => Crossing {
             refusal: 0,
             place: 0,
             value: length as u64,
         },
-        Moved::Refused(r) => cross(Number::Refused(r)),
+        Err(r) => cross(Err(r)),
     }
 }
 
 // A pattern or a refusal, as it crosses.
-fn cross_pattern(p: Pattern) -> Crossing
-    ensures { result ≡ crossed (said_pattern p) }
+fn cross_pattern(p: Result<u64, Refusal>) -> Crossing
+    ensures { result ≡ crossed (said p) }
 {
     match p {
-        Pattern::Is(bits) => Crossing {
+        Ok(bits) => Crossing {
             refusal: 0,
             place: 0,
             value: bits,
         },
-        Pattern::Refused(r) => cross(Number::Refused(r)),
+        Err(r) => cross(Err(r)),
     }
 }
 
 // A number that may be absent, as it crosses.
-fn cross_maybe(m: Maybe) -> u64
+fn cross_maybe(m: Option<u32>) -> u64
     ensures { result ≡ crossed_maybe (maybe_of m) }
 {
     match m {
-        Maybe::Is(n) => n as u64,
-        Maybe::Absent => 0xffff_ffff_ffff_ffff,
+        Some(n) => n as u64,
+        None => 0xffff_ffff_ffff_ffff,
     }
 }
 
@@ -119,7 +117,7 @@ pub extern "C" fn lepugaso_surface_layout(file: &[u8], entry: u32, out: &mut [u6
     ensures out { out.new ≡ laid_out (layout_call file.now entry) out.old }
 {
     match lepugaso::layout(file, entry) {
-        Answer::Is(s) => {
+        Ok(s) => {
             let size = s.size;
             let align = s.align;
             let min = s.min;
@@ -130,9 +128,9 @@ pub extern "C" fn lepugaso_surface_layout(file: &[u8], entry: u32, out: &mut [u6
                 cross_maybe(min),
                 cross_maybe(stride),
             ];
-            cross(Number::Is(0))
+            cross(Ok(0))
         }
-        Answer::Refused(r) => cross(Number::Refused(r)),
+        Err(r) => cross(Err(r)),
     }
 }
 
@@ -189,7 +187,7 @@ pub extern "C" fn lepugaso_surface_view(
     ensures size { size.new ≡ size_out (view_call file.now entry path.now buf.now) size.old }
 {
     match lepugaso::view_at(file, entry, path, buf) {
-        Walked::To(t) => {
+        Ok(t) => {
             *size = t.size as u64;
             Crossing {
                 refusal: 0,
@@ -197,7 +195,7 @@ pub extern "C" fn lepugaso_surface_view(
                 value: t.offset as u64,
             }
         }
-        Walked::Refused(r) => cross(Number::Refused(r)),
+        Err(r) => cross(Err(r)),
     }
 }
 
@@ -370,7 +368,7 @@ pub extern "C" fn lepugaso_surface_site_member(
     ensures shown { shown.new ≡ site_out (member_call file.now entry member mask factory.now site.now) mask member shown.old }
 {
     match lepugaso::site_member_at(file, entry, member, mask, factory, site) {
-        Walked::To(t) => {
+        Ok(t) => {
             *size = t.size as u64;
             *shown = cross_bool(lepugaso::site_shows(mask, member));
             Crossing {
@@ -379,7 +377,7 @@ pub extern "C" fn lepugaso_surface_site_member(
                 value: t.offset as u64,
             }
         }
-        Walked::Refused(r) => cross(Number::Refused(r)),
+        Err(r) => cross(Err(r)),
     }
 }
 
@@ -414,11 +412,11 @@ pub extern "C" fn lepugaso_surface_clean(
     ensures first { first.new ≡ first_after first.old (clean_call file.now entry buf.old) }
 {
     match lepugaso::clean(file, entry, buf) {
-        Cleaned::Is(g) => {
+        Ok(g) => {
             *first = g.first as u64;
-            cross(Number::Is(g.changed))
+            cross(Ok(g.changed))
         }
-        Cleaned::Refused(r) => cross(Number::Refused(r)),
+        Err(r) => cross(Err(r)),
     }
 }
 

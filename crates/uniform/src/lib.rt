@@ -6,24 +6,22 @@ ghost use Rattle.std.specs.Prelude.{◌≡◌, true, List, ℕ, ◌*◌, ◌<◌
 ghost use Rattle.wgsl.specs.Types.{Ty, everywhere};
 ghost use Rattle.wgsl.specs.Rule.{is_well_formed};
 ghost use Rattle.wgsl.specs.Uniform.{may_live, uniform_call};
-ghost use Rattle.said.specs.Answer.{said_number};
 ghost use Rattle.layout_values.specs.Value.{value_of};
 ghost use Rattle.walk_shapes.specs.Basis.{Basis};
-ghost use Rattle.walk_decide.specs.Decide.{said_allowed};
 ghost use Rattle.walk_decide.specs.Meant.{Meant};
 ghost use Rattle.uniform.specs.Lowest.{types_at, TypesInside, lowest_among, refers_by, RefersInside, lowest_by, LowestAsks, verdict_of, IsLowest};
+ghost use Rattle.said.specs.Answer.{said};
 
 use file::fields::member_at;
 use file::kinds::{STRUCT, is_scalar};
-use file::trailer::{Trailered, check_trailer};
-use layout_table::{Ground, Grounded, find};
+use file::trailer::check_trailer;
+use layout_table::{Ground, find};
 use layout_values::value::{Row, Value, blank, value_at};
 use numbers::order::smaller;
 use numbers::wide::wide;
-use said::answer::Number;
 use said::refusal::Refusal;
 use uniform_rules::keeps;
-use walk_decide::{Allowed, allow};
+use walk_decide::allow;
 
 // What stands for an entry where none is broken.
 const NO_ENTRY: u32 = 256;
@@ -93,33 +91,33 @@ fn lowest_broken(members: &[u8], table: &[Row], e: usize) -> u32
 }
 
 // 9, for open types too, and 10; `l` is the value of the entry's type.
-fn may_live(l: Value) -> Allowed
-    ensures { (t : Ty) → l ≡ value_of l.stride l.reference t → everywhere is_well_formed t ≡ true → said_allowed result ≡ may_live t }
+fn may_live(l: Value) -> Result<(), Refusal>
+    ensures { (t : Ty) → l ≡ value_of l.stride l.reference t → everywhere is_well_formed t ≡ true → said result ≡ may_live t }
 {
     if l.size == 0 {
-        return Allowed::Refused(Refusal::Absent);
+        return Err(Refusal::Absent);
     }
     allow(l, 0, true)
 }
 
 // 19, where an entry is broken.
-fn verdict(low: u32) -> Number
-    ensures { said_number result ≡ verdict_of low }
+fn verdict(low: u32) -> Result<u32, Refusal>
+    ensures { said result ≡ verdict_of low }
 {
     if low == NO_ENTRY {
-        return Number::Is(0);
+        return Ok(0);
     }
-    Number::Refused(Refusal::NotUniform(wide(low)))
+    Err(Refusal::NotUniform(wide(low)))
 }
 
 // 9, 10 and 19, of entry `e`, which is found in the table.
-fn uniform_at(file: &[u8], e: usize, g: Ground, table: &[Row]) -> Number
+fn uniform_at(file: &[u8], e: usize, g: Ground, table: &[Row]) -> Result<u32, Refusal>
     requires { (t : Ty) × Meant file.now e g table.now t }
-    ensures { (t : Ty) → Meant file.now e g table.now t → said_number result ≡ uniform_call file.now e }
+    ensures { (t : Ty) → Meant file.now e g table.now t → said result ≡ uniform_call file.now e }
 {
     match may_live(g.value) {
-        Allowed::Refused(r) => Number::Refused(r),
-        Allowed::Yes => {
+        Err(r) => Err(r),
+        Ok(()) => {
             let start = g.start;
             let end = g.end;
             verdict(lowest_broken(&file[start..end], table, e))
@@ -129,16 +127,16 @@ fn uniform_at(file: &[u8], e: usize, g: Ground, table: &[Row]) -> Number
 
 // Whether entry `entry` may live in a uniform buffer: 0, or what is in the way.
 // Refuses 1 to 7, 24 (file), 8, 9 (no layout, or open), 10, 19 (the lowest entry, of it and those that it reaches, that breaks a rule).
-pub fn uniform(file: &[u8], entry: u32) -> Number
-    ensures { said_number result ≡ uniform_call file.now entry }
+pub fn uniform(file: &[u8], entry: u32) -> Result<u32, Refusal>
+    ensures { said result ≡ uniform_call file.now entry }
 {
     match check_trailer(file) {
-        Trailered::Refused(r) => Number::Refused(r),
-        Trailered::Good(t) => {
+        Err(r) => Err(r),
+        Ok(t) => {
             let mut table = blank();
             match find(file, t, entry, &mut table) {
-                Grounded::Refused(r) => Number::Refused(r),
-                Grounded::Is(g) => uniform_at(file, wide(entry), g, &table),
+                Err(r) => Err(r),
+                Ok(g) => uniform_at(file, wide(entry), g, &table),
             }
         }
     }

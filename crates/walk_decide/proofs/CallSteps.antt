@@ -3,6 +3,7 @@
 -- In order: a type of fixed size; an open type: the elements that words fill, where they end, and the elements that bytes hold; what is
 -- left when those are known.
 -- Assumes nothing.
+use Rattle.std.specs.Prelude.{None, Option, Some, ℕ}
 use Prim.Native.Nat.{ℕ, suc, ◌+◌, ◌-◌, ◌*◌, ◌/◌, ◌<◌, ◌≤◌}
 use mathlib.Core.Bool.{Bool, true, false, cond, not, ◌&&◌, ◌||◌}
 use mathlib.Core.List.{List, ◌++◌}
@@ -21,8 +22,6 @@ use Rattle.wgsl.specs.Place.{tail_of, extent_of, elements_by, elements_in, place
 use Rattle.wgsl.specs.Call.{is_short, elements_for, is_wrong_count, write_type, read_type, write_elements, write_words, read_elements}
 use Rattle.wgsl.proofs.Tail.{closed_tail, closed_extent}
 use Rattle.wgsl.proofs.Closed.{closed_shape}
-use Rattle.walk_decide.specs.declared.Fits.{Fits}
-use Rattle.walk_decide.specs.declared.Fits.TheVariants.{Is, No}
 use Rattle.walk_decide.specs.Decide.{elements_of, extent_for, elements_found}
 
 -- ---- a type of fixed size
@@ -60,14 +59,14 @@ module _ (t : Ty) (w : everywhere is_well_formed t ≡ true) (o : is_open t ≡ 
 -- ---- an open type
 
 -- which answer it is
-abbrev tag : Fits → ℕ
-tag (Is k) = suc k
-tag No = 0
+abbrev tag : Option ℕ → ℕ
+tag (Some k) = suc k
+tag None = 0
 
-is_not_no : {A : Type 0} {k : ℕ} → Is k ≡ No → A
+is_not_no : {A : Type 0} {k : ℕ} → Some k ≡ None → A
 is_not_no {k = k} q = let e : suc k ≡ 0 = ap tag q in absurd (omega arith)
 
-is_same : {j k : ℕ} → Is j ≡ Is k → j ≡ k
+is_same : {j k : ℕ} → Some j ≡ Some k → j ≡ k
 is_same {j} {k} q = let e : suc j ≡ suc k = ap tag q in omega arith
 
 -- the elements that words fill
@@ -87,11 +86,11 @@ module _ (t : Ty) (o : is_open t ≡ true) (fixed unit : ℕ) (words_are : (n : 
   unfolding is_wrong_count
   tests p q hp hq = rw (elements_are, words_are filled, hp, hq, o) refl
 
-  answers : (p q : Bool) → eqb (length ws) (fixed + filled * unit) ≡ p → eqb filled 0 ≡ q → elements_of (length ws) fixed unit ≡ cond (p && not q) (Is filled) No
+  answers : (p q : Bool) → eqb (length ws) (fixed + filled * unit) ≡ p → eqb filled 0 ≡ q → elements_of (length ws) fixed unit ≡ cond (p && not q) (Some filled) None
   unfolding elements_of
   answers p q hp hq = rw (hp, hq) refl
 
-  pub open_wrong : elements_of (length ws) fixed unit ≡ No → write_type t ws b ≡ refused 14 0
+  pub open_wrong : elements_of (length ws) fixed unit ≡ None → write_type t ws b ≡ refused 14 0
   unfolding write_type ◌>>◌ refuse
   open_wrong e = go (eqb (length ws) (fixed + filled * unit)) (eqb filled 0) refl refl
     where
@@ -100,7 +99,7 @@ module _ (t : Ty) (o : is_open t ≡ true) (fixed unit : ℕ) (words_are : (n : 
       go true false hp hq = is_not_no (sym (answers true false hp hq) ∙ e)
       go false q hp hq = rw (tests false q hp hq) refl
 
-  pub open_right : {k : ℕ} → elements_of (length ws) fixed unit ≡ Is k → (length ws ≡ word_count k t) × (1 ≤ k) × (write_type t ws b ≡ write_elements k t ws b)
+  pub open_right : {k : ℕ} → elements_of (length ws) fixed unit ≡ Some k → (length ws ≡ word_count k t) × (1 ≤ k) × (write_type t ws b ≡ write_elements k t ws b)
   unfolding write_type write_elements ◌>>◌ refuse
   open_right {k} e = go (eqb (length ws) (fixed + filled * unit)) (eqb filled 0) refl refl
     where
@@ -117,7 +116,7 @@ module _ (t : Ty) (o : is_open t ≡ true) (fixed unit : ℕ) (words_are : (n : 
 
 -- where elements end
 module _ (t : Ty) (offset stride : ℕ) (extent_is : (n : ℕ) → extent_of n t ≡ offset + n * stride) (n : ℕ) (ws b : List ℕ) where
-  pub extent_short : extent_for (length b) offset stride n ≡ No → write_elements n t ws b ≡ refused 15 0
+  pub extent_short : extent_for (length b) offset stride n ≡ None → write_elements n t ws b ≡ refused 15 0
   unfolding extent_for write_elements ◌>>◌ refuse
   extent_short e = go (leb (offset + n * stride) (length b)) refl
     where
@@ -125,7 +124,7 @@ module _ (t : Ty) (offset stride : ℕ) (extent_is : (n : ℕ) → extent_of n t
       go true h = is_not_no {k = offset + n * stride} (sym (rw h refl) ∙ e)
       go false h = rw (extent_is n, lt-ltb (length b) (offset + n * stride) (leb-false (offset + n * stride) (length b) h)) refl
 
-  pub extent_there : {k : ℕ} → extent_for (length b) offset stride n ≡ Is k → (k ≡ extent_of n t) × (k ≤ length b) × (write_elements n t ws b ≡ write_words n t ws b)
+  pub extent_there : {k : ℕ} → extent_for (length b) offset stride n ≡ Some k → (k ≡ extent_of n t) × (k ≤ length b) × (write_elements n t ws b ≡ write_words n t ws b)
   unfolding extent_for write_elements write_words ◌>>◌ refuse
   extent_there {k} e = go (leb (offset + n * stride) (length b)) refl
     where
@@ -141,7 +140,7 @@ module _ (bytes offset stride : ℕ) where
   abbrev held : ℕ
   held = (bytes - offset) / stride
 
-  found_zero : elements_found bytes offset stride ≡ No → eqb held 0 ≡ true
+  found_zero : elements_found bytes offset stride ≡ None → eqb held 0 ≡ true
   unfolding elements_found
   found_zero e = go (eqb held 0) refl
     where
@@ -149,7 +148,7 @@ module _ (bytes offset stride : ℕ) where
       go true h = refl
       go false h = is_not_no {k = held} (sym (rw h refl) ∙ e)
 
-  found_above : {k : ℕ} → elements_found bytes offset stride ≡ Is k → (eqb held 0 ≡ false) × (held ≡ k)
+  found_above : {k : ℕ} → elements_found bytes offset stride ≡ Some k → (eqb held 0 ≡ false) × (held ≡ k)
   unfolding elements_found
   found_above {k} e = go (eqb held 0) refl
     where
@@ -158,7 +157,7 @@ module _ (bytes offset stride : ℕ) where
       go false h = (refl, is_same (sym (rw h refl) ∙ e))
 
   -- They end inside the bytes.
-  pub found_inside : {k : ℕ} → elements_found bytes offset stride ≡ Is k → offset + k * stride ≤ bytes
+  pub found_inside : {k : ℕ} → elements_found bytes offset stride ≡ Some k → offset + k * stride ≤ bytes
   found_inside e =
       let x = found_above e in
       let d : ¬ (held ≡ 0) = eqb-false held 0 x.0 in
@@ -170,22 +169,22 @@ module _ (t : Ty) (o : is_open t ≡ true) (offset stride : ℕ) (tail_is : tail
   held_is bytes = rw tail_is refl
 
   -- what 15 says of them
-  pub found_short : (b : List ℕ) → elements_found (length b) offset stride ≡ No → is_short t b ≡ true
+  pub found_short : (b : List ℕ) → elements_found (length b) offset stride ≡ None → is_short t b ≡ true
   unfolding is_short
   found_short b e = rw (o, held_is (length b)) (found_zero (length b) offset stride e)
 
-  pub found_there : (b : List ℕ) {k : ℕ} → elements_found (length b) offset stride ≡ Is k → (is_short t b ≡ false) × (elements_in (length b) t ≡ k)
+  pub found_there : (b : List ℕ) {k : ℕ} → elements_found (length b) offset stride ≡ Some k → (is_short t b ≡ false) × (elements_in (length b) t ≡ k)
   unfolding is_short
   found_there b e =
       let x = found_above (length b) offset stride e in
       (rw (o, held_is (length b)) x.0, held_is (length b) ∙ x.1)
 
   module _ (ws b : List ℕ) where
-    pub elements_short : elements_found (length b) offset stride ≡ No → read_type t b ws ≡ refused 15 0
+    pub elements_short : elements_found (length b) offset stride ≡ None → read_type t b ws ≡ refused 15 0
     unfolding read_type ◌>>◌ refuse
     elements_short e = rw (found_short b e) refl
 
-    pub elements_there : {k : ℕ} → elements_found (length b) offset stride ≡ Is k → (offset + k * stride ≤ length b) × (read_type t b ws ≡ read_elements k t b ws)
+    pub elements_there : {k : ℕ} → elements_found (length b) offset stride ≡ Some k → (offset + k * stride ≤ length b) × (read_type t b ws ≡ read_elements k t b ws)
     unfolding read_type read_elements ◌>>◌ refuse
     elements_there e =
         let x = found_there b e in

@@ -1,44 +1,32 @@
 -- What reading and writing decide before they store anything, in the words of crates/wgsl (specs/Call).
 --
--- In order: what `Allowed` says; how many elements there are; what lies after the fixed part.
+-- In order: how many elements there are; what lies after the fixed part.
 -- Definitions only. Assumes nothing.
-use Rattle.std.specs.Prelude.{ℕ, ◌+◌, ◌-◌, ◌*◌, ◌/◌, ◌<◌, ◌≤◌, ◌≡◌, cond, not, ◌&&◌, List, eqb, leb, length}
+use Rattle.std.specs.Prelude.{ℕ, ◌+◌, ◌-◌, ◌*◌, ◌/◌, ◌<◌, ◌≤◌, ◌≡◌, cond, not, ◌&&◌, List, eqb, leb, length, None, Option, Some}
 use Rattle.wgsl.specs.Types.{runtime_kind}
-use Rattle.wgsl.specs.Said.{Said, good, refused}
-use Rattle.said.specs.Refusal.{number_of, place_of}
 use Rattle.layout_values.specs.declared.value.Value.{Value}
 use Rattle.layout_values.specs.Value.{value_at, words_in}
 use Rattle.walk_trees.specs.declared.Slot.{Slot}
 use Rattle.walk_trees.specs.Slot.{with_count, slot_in, SlotsAsk}
-use Rattle.walk_decide.specs.declared.Allowed.{Allowed}
-use Rattle.walk_decide.specs.declared.Allowed.TheVariants.{Yes, Refused}
 use Rattle.walk_decide.specs.declared.Rest.{Rest}
-use Rattle.walk_decide.specs.declared.Fits.{Fits}
-use Rattle.walk_decide.specs.declared.Fits.TheVariants.{Is, No}
-
--- ---- allowed or refused
-
-abbrev pub said_allowed : Allowed → Said (Unit {0})
-said_allowed Yes = good tt
-said_allowed (Refused r) = refused (number_of r) (place_of r)
 
 -- ---- how many elements there are
 
 -- "the words beyond the fixed part are a positive multiple of one element's": how many elements
-unfoldable pub elements_of : ℕ → ℕ → ℕ → Fits
+unfoldable pub elements_of : ℕ → ℕ → ℕ → Option ℕ
 elements_of words fixed unit =
     let n : ℕ = (words - fixed) / unit in
-    cond (eqb words (fixed + n * unit) && not (eqb n 0)) (Is n) No
+    cond (eqb words (fixed + n * unit) && not (eqb n 0)) (Some n) None
 
 -- "array offset + elements x stride", if so many bytes are there
-unfoldable pub extent_for : ℕ → ℕ → ℕ → ℕ → Fits
-extent_for bytes offset stride n = cond (leb (offset + n * stride) bytes) (Is (offset + n * stride)) No
+unfoldable pub extent_for : ℕ → ℕ → ℕ → ℕ → Option ℕ
+extent_for bytes offset stride n = cond (leb (offset + n * stride) bytes) (Some (offset + n * stride)) None
 
 -- "elements = floor((length - array offset) / stride), at least 1"
-unfoldable pub elements_found : ℕ → ℕ → ℕ → Fits
+unfoldable pub elements_found : ℕ → ℕ → ℕ → Option ℕ
 elements_found bytes offset stride =
     let n : ℕ = (bytes - offset) / stride in
-    cond (eqb n 0) No (Is n)
+    cond (eqb n 0) None (Some n)
 
 -- ---- what lies after the fixed part
 

@@ -8,105 +8,93 @@ ghost use Rattle.wgsl.specs.Rule.{is_well_formed};
 ghost use Rattle.wgsl.specs.Call.{allowed};
 ghost use Rattle.wgsl.specs.Round.{limit};
 ghost use Rattle.layout_values.specs.Value.{value_of};
-ghost use Rattle.runs.specs.Ask.{said_scan};
 ghost use Rattle.walk_trees.specs.Slot.{Counted};
-ghost use Rattle.walk_decide.specs.Decide.{said_allowed, elements_of, extent_for, elements_found, rest_from, Findable, open_rest, closed_rest};
+ghost use Rattle.walk_decide.specs.Decide.{elements_of, extent_for, elements_found, rest_from, Findable, open_rest, closed_rest};
+ghost use Rattle.said.specs.Answer.{said};
 
 use file::kinds::RUNTIME;
 use layout_values::value::{Row, Value, value_at, words_of};
 use numbers::limit::LIMIT;
 use numbers::wide::wide;
-use runs::Scan;
 use said::refusal::Refusal;
 use walk_trees::member_in;
 
-#[derive(Clone, Copy)]
-pub enum Allowed {
-    Yes,
-    Refused(Refusal),
-}
 
 // 17 and 9, and 10 too for an entry that is to be stored: for an entry of the value `l` and a buffer of so many bytes.
-pub fn allow(l: Value, bytes: usize, stored: bool) -> Allowed
-    ensures { (t : Ty) → l ≡ value_of l.stride l.reference t → everywhere is_well_formed t ≡ true → said_allowed result ≡ allowed stored t bytes }
+pub fn allow(l: Value, bytes: usize, stored: bool) -> Result<(), Refusal>
+    ensures { (t : Ty) → l ≡ value_of l.stride l.reference t → everywhere is_well_formed t ≡ true → said result ≡ allowed stored t bytes }
 {
     if LIMIT < bytes {
-        return Allowed::Refused(Refusal::Long);
+        return Err(Refusal::Long);
     }
     // what has an alignment is open or has a size
     if l.align == 0 {
-        return Allowed::Refused(Refusal::Absent);
+        return Err(Refusal::Absent);
     }
     if l.narrow != 0 {
-        return Allowed::Yes;
+        return Ok(());
     }
     if stored {
-        return Allowed::Refused(Refusal::Unstorable);
+        return Err(Refusal::Unstorable);
     }
-    Allowed::Yes
+    Ok(())
 }
 
 // 16: what a scan of the words says.
-pub fn fit(s: Scan) -> Allowed
-    ensures { said_allowed result ≡ said_scan s }
+pub fn fit(s: Result<(), Refusal>) -> Result<(), Refusal>
+    ensures { said result ≡ said s }
 {
     match s {
-        Scan::Fine => Allowed::Yes,
-        Scan::Bad(k) => Allowed::Refused(Refusal::Word(k)),
+        Ok(()) => Ok(()),
+        Err(Refusal::Word(k)) => Err(Refusal::Word(k)),
     }
 }
 
-// A number, or none that would do.
-#[derive(Clone, Copy)]
-pub enum Fits {
-    Is(usize),
-    No,
-}
 
 // How many elements so many words fill, after the fixed part.
-pub fn elements_for(words: usize, first: usize, unit: u32) -> Fits
+pub fn elements_for(words: usize, first: usize, unit: u32) -> Option<usize>
     requires { (0 < unit) × (first ≤ limit) }
     ensures { result ≡ elements_of words first unit }
 {
     let each = wide(unit);
     if words < first + each {
-        return Fits::No;
+        return None;
     }
     let n = (words - first) / each;
     if first + n * each == words {
-        return Fits::Is(n);
+        return Some(n);
     }
-    Fits::No
+    None
 }
 
 // Where `n` elements end, if that is within so many bytes.
-pub fn extent_for(bytes: usize, first: usize, stride: u32, n: usize) -> Fits
+pub fn extent_for(bytes: usize, first: usize, stride: u32, n: usize) -> Option<usize>
     requires { 0 < stride }
     ensures { result ≡ extent_for bytes first stride n }
 {
     let each = wide(stride);
     if bytes < first {
-        return Fits::No;
+        return None;
     }
     if (bytes - first) / each < n {
-        return Fits::No;
+        return None;
     }
-    Fits::Is(first + n * each)
+    Some(first + n * each)
 }
 
 // How many whole elements so many bytes hold.
-pub fn elements_in(bytes: usize, first: usize, stride: u32) -> Fits
+pub fn elements_in(bytes: usize, first: usize, stride: u32) -> Option<usize>
     requires { 0 < stride }
     ensures { result ≡ elements_found bytes first stride }
 {
     if bytes < first {
-        return Fits::No;
+        return None;
     }
     let n = (bytes - first) / wide(stride);
     if n == 0 {
-        return Fits::No;
+        return None;
     }
-    Fits::Is(n)
+    Some(n)
 }
 
 // What lies after the fixed part of an entry: parts as a value says, from a byte and from a word on.

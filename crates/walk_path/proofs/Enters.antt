@@ -2,6 +2,7 @@
 --
 -- In order: the next place; the path's end; a step that leads on; a step that is refused.
 -- Assumes nothing.
+use Rattle.std.specs.Prelude.{Ok}
 use Prim.Native.Nat.{ℕ, ◌+◌, ◌<◌, ◌≤◌}
 use mathlib.Core.List.{List, map}
 use mathlib.Core.Path.{◌≡◌}
@@ -16,7 +17,6 @@ use Rattle.wgsl.specs.Path.{Step, step_of, enter, walk}
 use Rattle.wgsl.proofs.Path.{target}
 use Rattle.walk_path.specs.declared.enter.Stand.{Stand}
 use Rattle.walk_path.specs.declared.enter.Inner.{Inner}
-use Rattle.walk_path.specs.declared.enter.Entered.TheVariants.{Into}
 use Rattle.walk_path.specs.Way.{Standing, Enters}
 use Rattle.walk_path.proofs.SizeAt.{step_inside}
 use Rattle.walk_path.proofs.IndexStep.{stands_sound}
@@ -31,7 +31,7 @@ pub record Next (f : List ℕ) (ts : List Ty) (ms : List ℕ) (table : List (Lis
   pub inside : i.offset + span_of y ≤ span_of x
   pub enters : (j : ℕ) → enter j x s ≡ good (target i.offset y)
 
-pub next : {f : List ℕ} {ts : List Ty} {ms : List ℕ} {table : List (List ℕ)} {n : ℕ} {p : Stand} {x : Shape} {i : Inner} {s : Step} → Standing f ts ms table n p x → Enters ts n (Into i) x s → Next f ts ms table n i x s
+pub next : {f : List ℕ} {ts : List Ty} {ms : List ℕ} {table : List (List ℕ)} {n : ℕ} {p : Stand} {x : Shape} {i : Inner} {s : Step} → Standing f ts ms table n p x → Enters ts n (Ok i) x s → Next f ts ms table n i x s
 unfolding Enters
 next {x = x} {i = i} {s = s} at (y, stands, size, enters) =
     let inside = (step_inside 0 x s (target i.offset y) (stands_sound at.basis at.stands) (enters 0)).1 in

@@ -2,6 +2,7 @@
 --
 -- In order: where a walk stands; entries without parts; the part of an entry; the scalar of a column; the one scalar.
 -- Assumes nothing.
+use Rattle.std.specs.Prelude.{Ok}
 use Prim.Native.Nat.{ℕ, ◌+◌, ◌*◌, ◌<◌, ◌≤◌}
 use mathlib.Core.Bool.{true, false}
 use mathlib.Core.List.{List}
@@ -29,7 +30,6 @@ use Rattle.walk_shapes.specs.Basis.{Basis}
 use Rattle.walk_shapes.proofs.Basis.{basis_inside, basis_layout}
 use Rattle.walk_path.specs.declared.enter.Stand.{Stand}
 use Rattle.walk_path.specs.declared.enter.Stand.TheVariants.{Entry, Column}
-use Rattle.walk_path.specs.declared.enter.Entered.TheVariants.{Into}
 use Rattle.walk_path.specs.Way.{size_at, parts_at, Parted, Stands, at_entry, at_column, Standing, Enters}
 use Rattle.said.specs.Target.{kind_in}
 use Rattle.walk_path.proofs.SizeAt.{step_inside, size_within, sound_at}
@@ -143,12 +143,12 @@ module _ {f : List ℕ} {ts : List Ty} {ms : List ℕ} {table : List (List ℕ)}
   part_size other = size_within table n (value_at table e).reference (omega (arith, inside, (here.part.as_entry other).1))
 
   -- The step leads to a matrix's column,
-  pub column_enters : (value_at table e).kind ≡ 8 → Enters ts n (Into (record { offset = i * (value_at table e).stride; size = (value_at table e).unit * (value_at table (value_at table e).reference).size; stand = Column (value_at table e).unit (value_at table e).reference })) x (index i)
+  pub column_enters : (value_at table e).kind ≡ 8 → Enters ts n (Ok (record { offset = i * (value_at table e).stride; size = (value_at table e).unit * (value_at table (value_at table e).reference).size; stand = Column (value_at table e).unit (value_at table e).reference })) x (index i)
   unfolding Enters
   column_enters is = (here.y, (here.part.as_column is).0, (here.part.as_column is).1, here.enters)
 
   -- and else to the entry below.
-  pub part_enters : ((value_at table e).kind ≡ 8 → ⊥) → Enters ts n (Into (record { offset = i * (value_at table e).stride; size = size_at table n (value_at table e).reference; stand = Entry (value_at table e).reference })) x (index i)
+  pub part_enters : ((value_at table e).kind ≡ 8 → ⊥) → Enters ts n (Ok (record { offset = i * (value_at table e).stride; size = size_at table n (value_at table e).reference; stand = Entry (value_at table e).reference })) x (index i)
   unfolding Enters
   part_enters other = (here.y, (here.part.as_entry other).0, (here.part.as_entry other).1, here.enters)
 
@@ -180,7 +180,7 @@ module _ {f : List ℕ} {ts : List Ty} {ms : List ℕ} {table : List (List ℕ)}
       let span : r * w ≤ limit = rw own.shape_is at at.within in
       rw own.size_is (omega (arith, mul-le-mul_right w h, suc-mul i w))
 
-  pub scalar_enters : (i : ℕ) → i < r → Enters ts n (Into (record { offset = i * (value_at table e).size; size = (value_at table e).size; stand = Entry e })) x (index i)
+  pub scalar_enters : (i : ℕ) → i < r → Enters ts n (Ok (record { offset = i * (value_at table e).size; size = (value_at table e).size; stand = Entry e })) x (index i)
   unfolding Enters span_of
   scalar_enters i h =
       let s : Scalar = own.s in (

@@ -3,6 +3,7 @@
 -- In order: what is found of a member; a member that is there; none past the last; none outside a struct;
 -- a step at an entry.
 -- Assumes nothing.
+use Rattle.std.specs.Prelude.{Ok}
 use Prim.Native.Nat.{ℕ, zero, suc, ◌+◌, ◌*◌, ◌<◌, ◌≤◌}
 use mathlib.Core.Bool.{true, ◌||◌}
 use mathlib.Core.List.{List}
@@ -35,7 +36,6 @@ use Rattle.walk_shapes.proofs.Basis.{basis_inside, basis_well_formed, basis_refe
 use Rattle.walk_shapes.proofs.Says.{struct_says}
 use Rattle.walk_shapes.proofs.MemberRead.{Ruled, struct_ruled, first_ruled, rest_ruled, last_none, count_from, Read, read, first_placeable, first_start, first_end}
 use Rattle.walk_path.specs.declared.enter.Stand.TheVariants.{Entry}
-use Rattle.walk_path.specs.declared.enter.Entered.TheVariants.{Into}
 use Rattle.walk_path.specs.Way.{size_at, Stands, at_entry, Standing, Enters}
 use Rattle.walk_path.proofs.SizeAt.{step_inside, kind_there, inner_size}
 use Rattle.walk_path.proofs.IndexStep.{stands_sound}
@@ -184,6 +184,6 @@ module _ {f : List ℕ} {ts : List Ty} {ms : List ℕ} {table : List (List ℕ)}
       let inside = (step_inside 0 x (member i) _ (stands_sound s.basis s.stands) (found.enters 0)).1 in
       rw found_size (omega (arith, s.within))
 
-  pub found_enters : Enters ts n (Into (record { offset = (slot_in ms table long m 0 i).start; size = size_at table n (slot_in ms table long m 0 i).ty; stand = Entry (slot_in ms table long m 0 i).ty })) x (member i)
+  pub found_enters : Enters ts n (Ok (record { offset = (slot_in ms table long m 0 i).start; size = size_at table n (slot_in ms table long m 0 i).ty; stand = Entry (slot_in ms table long m 0 i).ty })) x (member i)
   unfolding Enters
   found_enters = (shape_of n found.type, at_entry found.there found.laid, found_size, found.enters)

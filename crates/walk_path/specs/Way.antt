@@ -2,7 +2,7 @@
 --
 -- In order: what a value says; a stand and its shape; what a step leads to; what a walk promises.
 -- Definitions only. Assumes nothing.
-use Rattle.std.specs.Prelude.{ℕ, ◌*◌, ◌<◌, ◌≤◌, ◌≡◌, true, cond, List, map, eqb, drop}
+use Rattle.std.specs.Prelude.{ℕ, ◌*◌, ◌<◌, ◌≤◌, ◌≡◌, true, cond, List, map, eqb, drop, Err, Ok, Result}
 use Rattle.std.proofs.Math.Option.{some}
 use Rattle.std.proofs.Math.ListN.{get_elem?}
 use Rattle.wgsl.specs.Round.{limit}
@@ -11,14 +11,15 @@ use Rattle.wgsl.specs.Size.{has_layout}
 use Rattle.wgsl.specs.Said.{good, refused}
 use Rattle.wgsl.specs.Place.{Shape, column, shape_of, span_of}
 use Rattle.wgsl.specs.Path.{Step, step_of, enter, walk}
-use Rattle.said.specs.declared.target.Walked.{Walked}
-use Rattle.said.specs.Target.{reached, said_walked}
+use Rattle.said.specs.Target.{reached}
 use Rattle.layout_values.specs.Value.{value_at}
 use Rattle.walk_shapes.specs.Basis.{Basis}
 use Rattle.walk_path.specs.declared.enter.Stand.{Stand}
 use Rattle.walk_path.specs.declared.enter.Stand.TheVariants.{Entry, Column}
-use Rattle.walk_path.specs.declared.enter.Entered.{Entered}
-use Rattle.walk_path.specs.declared.enter.Entered.TheVariants.{Into, NoMember, PastEnd, NoIndex}
+use Rattle.said.specs.declared.refusal.Refusal.{Refusal}
+use Rattle.walk_path.specs.declared.enter.NoStep.{NoStep}
+use Rattle.walk_path.specs.declared.enter.NoStep.TheVariants.{NoIndex, NoMember, PastEnd}
+use Rattle.said.specs.Answer.{said}
 
 -- ---- what a value says, where a runtime array has n elements
 
@@ -51,16 +52,16 @@ pub record Standing (f : List ℕ) (ts : List Ty) (ms : List ℕ) (table : List 
 -- ---- what a step leads to
 
 -- entering the shape x by the step s, wherever it stands in the path: a place, or 11, 12 or 13
-unfoldable pub Enters : List Ty → ℕ → Entered → Shape → Step → Type 0
-Enters ts n (Into i) x s =
+unfoldable pub Enters : List Ty → ℕ → Result Inner NoStep → Shape → Step → Type 0
+Enters ts n (Ok i) x s =
     (y : Shape) × Stands ts n i.stand y × (i.size ≡ span_of y) × ((j : ℕ) → enter j x s ≡ good (record { offset = i.offset; shape = y }))
-Enters ts n NoMember x s = (j : ℕ) → enter j x s ≡ refused 11 j
-Enters ts n PastEnd x s = (j : ℕ) → enter j x s ≡ refused 12 j
-Enters ts n NoIndex x s = (j : ℕ) → enter j x s ≡ refused 13 j
+Enters ts n (Err NoMember) x s = (j : ℕ) → enter j x s ≡ refused 11 j
+Enters ts n (Err PastEnd) x s = (j : ℕ) → enter j x s ≡ refused 12 j
+Enters ts n (Err NoIndex) x s = (j : ℕ) → enter j x s ≡ refused 13 j
 
 -- ---- what a walk promises
 
 -- from wherever it stands, in so many bytes, the steps from number k on lead to what r says
-abbrev pub Walks : List ℕ → List (List ℕ) → ℕ → Stand → ℕ → List ℕ → ℕ → ℕ → Walked → Type 0
+abbrev pub Walks : List ℕ → List (List ℕ) → ℕ → Stand → ℕ → List ℕ → ℕ → ℕ → Result Target Refusal → Type 0
 Walks ms table n p size path k offset r =
-    (f : List ℕ) (ts : List Ty) (x : Shape) → Standing f ts ms table n p x → size ≡ span_of x → said_walked r ≡ reached (walk k offset x (map step_of (drop k path)))
+    (f : List ℕ) (ts : List Ty) (x : Shape) → Standing f ts ms table n p x → size ≡ span_of x → said r ≡ reached (walk k offset x (map step_of (drop k path)))

@@ -1,12 +1,11 @@
 // Entering a place by a step.
-ghost use Rattle.std.specs.Prelude.{◌≡◌, List, ℕ, ◌*◌, ◌<◌, ◌≤◌, length};
+ghost use Rattle.std.specs.Prelude.{◌≡◌, List, ℕ, ◌*◌, ◌<◌, ◌≤◌, length, Ok};
 ghost use Rattle.wgsl.specs.Round.{limit};
 ghost use Rattle.wgsl.specs.Types.{Ty, runtime_kind};
 ghost use Rattle.wgsl.specs.Place.{Shape};
 ghost use Rattle.wgsl.specs.Path.{index, member};
 ghost use Rattle.layout_values.specs.Value.{value_at};
 ghost use Rattle.walk_path.specs.declared.enter.Stand.TheVariants.{Entry, Column};
-ghost use Rattle.walk_path.specs.declared.enter.Entered.TheVariants.{Into};
 ghost use Rattle.walk_path.specs.Step.{step_is};
 ghost use Rattle.walk_path.specs.Way.{size_at, parts_at, Standing, Parted, Enters};
 ghost use Rattle.said.specs.Target.{kind_in};
@@ -33,14 +32,6 @@ pub struct Inner {
     pub stand: Stand,
 }
 
-#[derive(Clone, Copy)]
-pub enum Entered {
-    Into(Inner),
-    // document 01's 11, 12, 13
-    NoMember,
-    PastEnd,
-    NoIndex,
-}
 
 // The bytes of entry `e`, which is no open struct. A runtime array has `n` elements.
 fn size_at(table: &[Row], n: usize, e: usize) -> usize
@@ -55,11 +46,11 @@ fn size_at(table: &[Row], n: usize, e: usize) -> usize
 }
 
 // Entry `e` as what a step leads to.
-fn into_entry(table: &[Row], n: usize, e: usize, offset: usize) -> Entered
+fn into_entry(table: &[Row], n: usize, e: usize, offset: usize) -> Result<Inner, NoStep>
     requires { (e < length table.now) × ((value_at table.now e).kind ≡ runtime_kind → n * (value_at table.now e).stride ≤ limit) }
-    ensures { result ≡ Into (record { offset = offset; size = size_at table.now n e; stand = Entry e }) }
+    ensures { result ≡ Ok (record { offset = offset; size = size_at table.now n e; stand = Entry e }) }
 {
-    Entered::Into(Inner {
+    Ok(Inner {
         offset,
         size: size_at(table, n, e),
         stand: Stand::Entry(e),
@@ -67,16 +58,16 @@ fn into_entry(table: &[Row], n: usize, e: usize, offset: usize) -> Entered
 }
 
 // A member step at entry `e`.
-fn enter_member(members: &[u8], table: &[Row], n: usize, e: usize, number: u32) -> Entered
+fn enter_member(members: &[u8], table: &[Row], n: usize, e: usize, number: u32) -> Result<Inner, NoStep>
     requires { (f : List ℕ) × (ts : List Ty) × (x : Shape) × Standing f ts members.now table.now n (Entry e) x }
     ensures { (f : List ℕ) (ts : List Ty) (x : Shape) → Standing f ts members.now table.now n (Entry e) x → Enters ts n result x (member number) }
 {
     let r = value_at(table, e);
     if r.kind != STRUCT {
-        return Entered::NoMember;
+        return Err(NoStep::NoMember);
     }
     if r.count <= number {
-        return Entered::NoMember;
+        return Err(NoStep::NoMember);
     }
     let p = member_in(members, table, r, number);
     into_entry(table, n, p.ty, p.start)
@@ -95,7 +86,7 @@ fn parts_at(table: &[Row], n: usize, e: usize) -> usize
 }
 
 // A part that is there: a vector's scalar, a matrix's column, an array's element.
-fn enter_part(table: &[Row], n: usize, e: usize, number: u32) -> Entered
+fn enter_part(table: &[Row], n: usize, e: usize, number: u32) -> Result<Inner, NoStep>
     requires { (f : List ℕ) × (ts : List Ty) × (ms : List ℕ) × (x : Shape) × Standing f ts ms table.now n (Entry e) x × Parted table.now n e number }
     ensures { (f : List ℕ) (ts : List Ty) (ms : List ℕ) (x : Shape) → Standing f ts ms table.now n (Entry e) x → Parted table.now n e number → Enters ts n result x (index number) }
 {
@@ -103,7 +94,7 @@ fn enter_part(table: &[Row], n: usize, e: usize, number: u32) -> Entered
     let offset = wide(number) * wide(r.stride);
     let below = wide(r.reference);
     if r.kind == MATRIX {
-        return Entered::Into(Inner {
+        return Ok(Inner {
             offset,
             size: wide(r.unit) * wide(value_at(table, below).size),
             stand: Stand::Column(r.unit, below),
@@ -113,33 +104,33 @@ fn enter_part(table: &[Row], n: usize, e: usize, number: u32) -> Entered
 }
 
 // An index step at entry `e`: vectors, matrices and arrays have parts.
-fn enter_index(table: &[Row], n: usize, e: usize, number: u32) -> Entered
+fn enter_index(table: &[Row], n: usize, e: usize, number: u32) -> Result<Inner, NoStep>
     requires { (f : List ℕ) × (ts : List Ty) × (ms : List ℕ) × (x : Shape) × Standing f ts ms table.now n (Entry e) x }
     ensures { (f : List ℕ) (ts : List Ty) (ms : List ℕ) (x : Shape) → Standing f ts ms table.now n (Entry e) x → Enters ts n result x (index number) }
 {
     let kind = value_at(table, e).kind;
     if kind < VECTOR {
-        return Entered::NoIndex;
+        return Err(NoStep::NoIndex);
     }
     if RUNTIME < kind {
-        return Entered::NoIndex;
+        return Err(NoStep::NoIndex);
     }
     if parts_at(table, n, e) <= wide(number) {
-        return Entered::PastEnd;
+        return Err(NoStep::PastEnd);
     }
     enter_part(table, n, e, number)
 }
 
 // An index step at a column of `count` rows over the scalar's entry `e`.
-fn enter_column(table: &[Row], count: u32, e: usize, number: u32) -> Entered
+fn enter_column(table: &[Row], count: u32, e: usize, number: u32) -> Result<Inner, NoStep>
     requires { (f : List ℕ) × (ts : List Ty) × (ms : List ℕ) × (n : ℕ) × (x : Shape) × Standing f ts ms table.now n (Column count e) x }
     ensures { (f : List ℕ) (ts : List Ty) (ms : List ℕ) (n : ℕ) (x : Shape) → Standing f ts ms table.now n (Column count e) x → Enters ts n result x (index number) }
 {
     if count <= number {
-        return Entered::PastEnd;
+        return Err(NoStep::PastEnd);
     }
     let width = wide(value_at(table, e).size);
-    Entered::Into(Inner {
+    Ok(Inner {
         offset: wide(number) * width,
         size: width,
         stand: Stand::Entry(e),
@@ -147,7 +138,7 @@ fn enter_column(table: &[Row], count: u32, e: usize, number: u32) -> Entered
 }
 
 // What a step leads to from a place.
-pub fn enter(members: &[u8], table: &[Row], n: usize, p: Stand, s: Step) -> Entered
+pub fn enter(members: &[u8], table: &[Row], n: usize, p: Stand, s: Step) -> Result<Inner, NoStep>
     requires { (f : List ℕ) × (ts : List Ty) × (x : Shape) × Standing f ts members.now table.now n p x }
     ensures { (f : List ℕ) (ts : List Ty) (x : Shape) → Standing f ts members.now table.now n p x → Enters ts n result x (step_is s) }
 {
@@ -161,7 +152,7 @@ pub fn enter(members: &[u8], table: &[Row], n: usize, p: Stand, s: Step) -> Ente
         }
         Stand::Column(count, e) => {
             if s.member {
-                return Entered::NoMember;
+                return Err(NoStep::NoMember);
             }
             enter_column(table, count, e, number)
         }

@@ -5,11 +5,11 @@ ghost use Rattle.wgsl.specs.Types.{Ty};
 ghost use Rattle.wgsl.specs.Place.{Shape, span_of};
 ghost use Rattle.walk_path.specs.Way.{Standing, Walks};
 
-use crate::enter::{Entered, Stand, enter, kind_in};
+use crate::enter::{Stand, enter, kind_in};
 use crate::step::step_of;
 use layout_values::value::Row;
 use said::refusal::Refusal;
-use said::target::{Target, Walked};
+use said::target::Target;
 
 // The steps from number `k` on, from a place that lies at `offset` and has `size` bytes. An open type has `n` elements.
 pub fn walk(
@@ -21,19 +21,19 @@ pub fn walk(
     path: &[u32],
     k: usize,
     offset: usize,
-) -> Walked
+) -> Result<Target, Refusal>
     requires { (f : List ℕ) × (ts : List Ty) × (x : Shape) × Standing f ts members.now table.now n p x × (size ≡ span_of x) × (offset + span_of x ≤ limit) × (k ≤ length path.now) }
     ensures { Walks members.now table.now n p size path.now k offset result }
 {
     if k == path.len() {
-        return Walked::To(Target {
+        return Ok(Target {
             offset,
             size,
             scalar: kind_in(table, p),
         });
     }
     match enter(members, table, n, p, step_of(path[k])) {
-        Entered::Into(i) => {
+        Ok(i) => {
             let next = i.stand;
             walk(
                 members,
@@ -46,8 +46,8 @@ pub fn walk(
                 offset + i.offset,
             )
         }
-        Entered::NoMember => Walked::Refused(Refusal::NoMember(k)),
-        Entered::PastEnd => Walked::Refused(Refusal::PastEnd(k)),
-        Entered::NoIndex => Walked::Refused(Refusal::NoIndex(k)),
+        Err(NoStep::NoMember) => Err(Refusal::NoMember(k)),
+        Err(NoStep::PastEnd) => Err(Refusal::PastEnd(k)),
+        Err(NoStep::NoIndex) => Err(Refusal::NoIndex(k)),
     }
 }

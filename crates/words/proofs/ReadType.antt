@@ -2,6 +2,7 @@
 --
 -- In order: once the entry is decided; a type of fixed size; an open type.
 -- Assumes nothing.
+use Rattle.std.specs.Prelude.{None, Some}
 use Prim.Native.Nat.{ℕ, ◌<◌, ◌≤◌}
 use mathlib.Core.Bool.{true, false}
 use mathlib.Core.List.{List, ◌++◌}
@@ -17,7 +18,6 @@ use Rattle.wgsl.proofs.Opened.{opened_extent}
 use Rattle.layout_values.specs.declared.value.Value.{Value}
 use Rattle.layout_values.specs.Value.{words_in}
 use Rattle.walk_decide.specs.declared.Rest.{Rest}
-use Rattle.walk_decide.specs.declared.Fits.TheVariants.{Is, No}
 use Rattle.walk_decide.specs.Decide.{elements_found}
 use Rattle.walk_decide.specs.Whole.{Ready, TailedBy}
 use Rattle.walk_decide.proofs.Whole.{ready_words}
@@ -53,12 +53,12 @@ module _ {ms : List ℕ} {table : List (List ℕ)} {e : ℕ} {l : Value} {t : Ty
 -- ---- an open type
 
 module _ {ms : List ℕ} {table : List (List ℕ)} {e : ℕ} {x : Rest} {t : Ty} (y : TailedBy ms table e x t) (b ws : List ℕ) where
-  pub no_elements : elements_found (length b) x.offset x.value.stride ≡ No → read_type t b ws ≡ refused 15 0
+  pub no_elements : elements_found (length b) x.offset x.value.stride ≡ None → read_type t b ws ≡ refused 15 0
   no_elements h =
       let z = y.tailed in
       elements_short t (tailed_open z) x.offset x.value.stride (rw y.tail_is z.opened.tail_is) ws b h
 
-  pub some_elements : {n : ℕ} → elements_found (length b) x.offset x.value.stride ≡ Is n → (extent_of n t ≤ length b) × (read_type t b ws ≡ read_elements n t b ws)
+  pub some_elements : {n : ℕ} → elements_found (length b) x.offset x.value.stride ≡ Some n → (extent_of n t ≤ length b) × (read_type t b ws ≡ read_elements n t b ws)
   some_elements {n} h =
       let z = y.tailed in
       let there = elements_there t (tailed_open z) x.offset x.value.stride (rw y.tail_is z.opened.tail_is) ws b h in

@@ -2,6 +2,7 @@
 --
 -- In order: once the entry is decided; a type of fixed size; an open type.
 -- Assumes nothing.
+use Rattle.std.specs.Prelude.{None, Some}
 use Prim.Native.Nat.{ℕ, ◌+◌, ◌*◌, ◌<◌, ◌≤◌}
 use mathlib.Core.Bool.{true, false}
 use mathlib.Core.List.{List}
@@ -17,7 +18,6 @@ use Rattle.wgsl.proofs.Tail.{closed_extent}
 use Rattle.layout_values.specs.declared.value.Value.{Value}
 use Rattle.layout_values.specs.Value.{words_in}
 use Rattle.walk_decide.specs.declared.Rest.{Rest}
-use Rattle.walk_decide.specs.declared.Fits.TheVariants.{Is, No}
 use Rattle.walk_decide.specs.Decide.{elements_of, extent_for}
 use Rattle.walk_decide.specs.Whole.{Ready, TailedBy}
 use Rattle.walk_decide.proofs.Whole.{ready_words}
@@ -62,14 +62,14 @@ module _ {ms : List ℕ} {table : List (List ℕ)} {e : ℕ} {x : Rest} {t : Ty}
   extent_is : (n : ℕ) → extent_of n t ≡ x.offset + n * x.value.stride
   extent_is n = rw y.tail_is (opened_extent y.tailed.opened n)
 
-  pub no_elements : elements_of (length ws) x.fixed x.value.unit ≡ No → write_type t ws b ≡ refused 14 0
+  pub no_elements : elements_of (length ws) x.fixed x.value.unit ≡ None → write_type t ws b ≡ refused 14 0
   no_elements h = open_wrong t (tailed_open y.tailed) x.fixed x.value.unit words_are ws b h
 
-  pub some_elements : {n : ℕ} → elements_of (length ws) x.fixed x.value.unit ≡ Is n → (length ws ≡ word_count n t) × (1 ≤ n) × (write_type t ws b ≡ write_elements n t ws b)
+  pub some_elements : {n : ℕ} → elements_of (length ws) x.fixed x.value.unit ≡ Some n → (length ws ≡ word_count n t) × (1 ≤ n) × (write_type t ws b ≡ write_elements n t ws b)
   some_elements h = open_right t (tailed_open y.tailed) x.fixed x.value.unit words_are ws b h
 
-  pub no_room : (n : ℕ) → extent_for (length b) x.offset x.value.stride n ≡ No → write_elements n t ws b ≡ refused 15 0
+  pub no_room : (n : ℕ) → extent_for (length b) x.offset x.value.stride n ≡ None → write_elements n t ws b ≡ refused 15 0
   no_room n h = extent_short t x.offset x.value.stride extent_is n ws b h
 
-  pub room : (n : ℕ) {k : ℕ} → extent_for (length b) x.offset x.value.stride n ≡ Is k → (k ≡ extent_of n t) × (k ≤ length b) × (write_elements n t ws b ≡ write_words n t ws b)
+  pub room : (n : ℕ) {k : ℕ} → extent_for (length b) x.offset x.value.stride n ≡ Some k → (k ≡ extent_of n t) × (k ≤ length b) × (write_elements n t ws b ≡ write_words n t ws b)
   room n h = extent_there t x.offset x.value.stride extent_is n ws b h

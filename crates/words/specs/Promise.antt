@@ -3,18 +3,18 @@
 -- In order: an entry with n elements, tested, stored and loaded; then step by step up to the calls (crates/wgsl, specs/Call): writing,
 -- reading. Each is said of `before` and `after`, what was lent to change.
 -- Definitions only. Assumes nothing.
-use Rattle.std.specs.Prelude.{ℕ, ◌≤◌, ◌≡◌, false, List, ◌++◌, length, drop}
+use Rattle.std.specs.Prelude.{ℕ, ◌≤◌, ◌≡◌, false, List, ◌++◌, length, drop, Result}
 use Rattle.wgsl.specs.Types.{Ty, is_open}
 use Rattle.wgsl.specs.Said.{Said}
 use Rattle.wgsl.specs.Place.{extent_of, places, word_count, written, words_read, check_words}
 use Rattle.wgsl.specs.Call.{read_elements, read_type, read_call, write_words, write_elements, write_type, write_call}
-use Rattle.said.specs.declared.answer.Number.{Number}
 use Rattle.said.specs.Answer.{Answered}
 use Rattle.layout_values.specs.declared.value.Value.{Value}
 use Rattle.layout_table.specs.declared.Ground.{Ground}
 use Rattle.walk_decide.specs.declared.Rest.{Rest}
 use Rattle.walk_decide.specs.Whole.{Ready, Tailed, TailedBy, Whole}
 use Rattle.walk_decide.specs.Meant.{Meant}
+use Rattle.said.specs.declared.refusal.Refusal.{Refusal}
 
 -- ---- an entry with n elements
 
@@ -32,40 +32,40 @@ WholeLoaded ms table e x b before after =
 
 -- ---- writing
 
-abbrev pub WholeWritten : List ℕ → List (List ℕ) → ℕ → Rest → ℕ → List ℕ → Number → List ℕ → List ℕ → Type 0
+abbrev pub WholeWritten : List ℕ → List (List ℕ) → ℕ → Rest → ℕ → List ℕ → Result ℕ Refusal → List ℕ → List ℕ → Type 0
 WholeWritten ms table e x extent ws r before after =
     (t : Ty) (n : ℕ) → Whole ms table e x t n → length ws ≡ word_count n t → extent ≡ extent_of n t → extent ≤ length before → Answered (write_words n t ws before) r before after
 
-abbrev pub ClosedWritten : List ℕ → List (List ℕ) → ℕ → Value → List ℕ → Number → List ℕ → List ℕ → Type 0
+abbrev pub ClosedWritten : List ℕ → List (List ℕ) → ℕ → Value → List ℕ → Result ℕ Refusal → List ℕ → List ℕ → Type 0
 ClosedWritten ms table e l ws r before after =
     (t : Ty) → Ready ms table e l t → is_open t ≡ false → Answered (write_type t ws before) r before after
 
-abbrev pub ElementsWritten : List ℕ → List (List ℕ) → ℕ → Rest → ℕ → List ℕ → Number → List ℕ → List ℕ → Type 0
+abbrev pub ElementsWritten : List ℕ → List (List ℕ) → ℕ → Rest → ℕ → List ℕ → Result ℕ Refusal → List ℕ → List ℕ → Type 0
 ElementsWritten ms table e x n ws r before after =
     (t : Ty) → TailedBy ms table e x t → length ws ≡ word_count n t → Answered (write_elements n t ws before) r before after
 
-abbrev pub OpenWritten : List ℕ → List (List ℕ) → ℕ → Value → List ℕ → Number → List ℕ → List ℕ → Type 0
+abbrev pub OpenWritten : List ℕ → List (List ℕ) → ℕ → Value → List ℕ → Result ℕ Refusal → List ℕ → List ℕ → Type 0
 OpenWritten ms table e l ws r before after =
     (t : Ty) → Tailed ms table e l t → Answered (write_type t ws before) r before after
 
-abbrev pub MeantWritten : List ℕ → ℕ → Ground → List (List ℕ) → List ℕ → Number → List ℕ → List ℕ → Type 0
+abbrev pub MeantWritten : List ℕ → ℕ → Ground → List (List ℕ) → List ℕ → Result ℕ Refusal → List ℕ → List ℕ → Type 0
 MeantWritten f e g table ws r before after =
     (t : Ty) → Meant f e g table t → Answered (write_call f e ws before) r before after
 
 -- ---- reading
 
-abbrev pub ClosedRead : List ℕ → List (List ℕ) → ℕ → Value → List ℕ → Number → List ℕ → List ℕ → Type 0
+abbrev pub ClosedRead : List ℕ → List (List ℕ) → ℕ → Value → List ℕ → Result ℕ Refusal → List ℕ → List ℕ → Type 0
 ClosedRead ms table e l b r before after =
     (t : Ty) → Ready ms table e l t → is_open t ≡ false → Answered (read_type t b before) r before after
 
-abbrev pub ElementsRead : List ℕ → List (List ℕ) → ℕ → Rest → ℕ → List ℕ → Number → List ℕ → List ℕ → Type 0
+abbrev pub ElementsRead : List ℕ → List (List ℕ) → ℕ → Rest → ℕ → List ℕ → Result ℕ Refusal → List ℕ → List ℕ → Type 0
 ElementsRead ms table e x n b r before after =
     (t : Ty) → TailedBy ms table e x t → Answered (read_elements n t b before) r before after
 
-abbrev pub OpenRead : List ℕ → List (List ℕ) → ℕ → Value → List ℕ → Number → List ℕ → List ℕ → Type 0
+abbrev pub OpenRead : List ℕ → List (List ℕ) → ℕ → Value → List ℕ → Result ℕ Refusal → List ℕ → List ℕ → Type 0
 OpenRead ms table e l b r before after =
     (t : Ty) → Tailed ms table e l t → Answered (read_type t b before) r before after
 
-abbrev pub MeantRead : List ℕ → ℕ → Ground → List (List ℕ) → List ℕ → Number → List ℕ → List ℕ → Type 0
+abbrev pub MeantRead : List ℕ → ℕ → Ground → List (List ℕ) → List ℕ → Result ℕ Refusal → List ℕ → List ℕ → Type 0
 MeantRead f e g table b r before after =
     (t : Ty) → Meant f e g table t → Answered (read_call f e b before) r before after

@@ -4,18 +4,17 @@ ghost use Rattle.wgsl.specs.Types.{Ty, is_open};
 ghost use Rattle.wgsl.specs.Place.{extent_of, word_count};
 ghost use Rattle.wgsl.specs.Call.{answer_of, contents_of, read_call};
 ghost use Rattle.wgsl.specs.Round.{limit};
-ghost use Rattle.said.specs.Answer.{said_number};
 ghost use Rattle.walk_decide.specs.Whole.{Ready, Tailed, TailedBy, Whole};
 ghost use Rattle.walk_decide.specs.Meant.{Meant};
 ghost use Rattle.words.specs.Promise.{WholeLoaded, ClosedRead, ElementsRead, OpenRead, MeantRead};
+ghost use Rattle.said.specs.Answer.{said};
 
-use file::trailer::{Trailered, check_trailer};
-use layout_table::{Ground, Grounded, find};
+use file::trailer::check_trailer;
+use layout_table::{Ground, find};
 use layout_values::value::{Row, Value, blank, opens, words_of};
 use numbers::wide::wide;
-use said::answer::Number;
 use said::refusal::Refusal;
-use walk_decide::{Allowed, Fits, Rest, allow, closed_rest, elements_in, open_rest, rest_of};
+use walk_decide::{Rest, allow, closed_rest, elements_in, open_rest, rest_of};
 use walk_pieces::no_pieces;
 use words_read::{read_entry, read_many};
 
@@ -46,18 +45,18 @@ fn read_closed(
     l: Value,
     buf: &[u8],
     words: &mut [u32],
-) -> Number
+) -> Result<u32, Refusal>
     requires { (t : Ty) × Ready members.now table.now e l t × (is_open t ≡ false) }
     ensures { ClosedRead members.now table.now e l buf.now result words.old words.new }
 {
     if buf.len() < wide(l.size) {
-        return Number::Refused(Refusal::Buffer);
+        return Err(Refusal::Buffer);
     }
     if words.len() < wide(words_of(l)) {
-        return Number::Refused(Refusal::Count);
+        return Err(Refusal::Count);
     }
     load(members, table, e, closed_rest(l), buf, words);
-    Number::Is(words_of(l))
+    Ok(words_of(l))
 }
 
 // 14 for an open type with `n` elements.
@@ -69,16 +68,16 @@ fn read_elements(
     n: usize,
     buf: &[u8],
     words: &mut [u32],
-) -> Number
+) -> Result<u32, Refusal>
     requires { (t : Ty) × TailedBy members.now table.now e x t × (extent_of n t ≤ length buf.now) × (length buf.now ≤ limit) }
     ensures { ElementsRead members.now table.now e x n buf.now result words.old words.new }
 {
     let count = x.fixed + n * wide(x.value.unit);
     if words.len() < count {
-        return Number::Refused(Refusal::Count);
+        return Err(Refusal::Count);
     }
     load(members, table, e, open_rest(x, n as u32), buf, words);
-    Number::Is(count as u32)
+    Ok(count as u32)
 }
 
 // 15 and 14 for an open type.
@@ -89,14 +88,14 @@ fn read_open(
     l: Value,
     buf: &[u8],
     words: &mut [u32],
-) -> Number
+) -> Result<u32, Refusal>
     requires { (t : Ty) × Tailed members.now table.now e l t × (length buf.now ≤ limit) }
     ensures { OpenRead members.now table.now e l buf.now result words.old words.new }
 {
     let x = rest_of(members, table, l);
     match elements_in(buf.len(), x.offset, x.value.stride) {
-        Fits::No => Number::Refused(Refusal::Buffer),
-        Fits::Is(n) => read_elements(members, table, e, x, n, buf, words),
+        None => Err(Refusal::Buffer),
+        Some(n) => read_elements(members, table, e, x, n, buf, words),
     }
 }
 
@@ -108,14 +107,14 @@ fn read_entry_at(
     table: &[Row],
     buf: &[u8],
     words: &mut [u32],
-) -> Number
+) -> Result<u32, Refusal>
     requires { (t : Ty) × Meant file.now e g table.now t }
     ensures { MeantRead file.now e g table.now buf.now result words.old words.new }
 {
     let l = g.value;
     match allow(l, buf.len(), true) {
-        Allowed::Refused(r) => Number::Refused(r),
-        Allowed::Yes => {
+        Err(r) => Err(r),
+        Ok(()) => {
             let start = g.start;
             let end = g.end;
             let members = &file[start..end];
@@ -129,17 +128,17 @@ fn read_entry_at(
 
 // Reads the words of entry `entry` from the buffer's first bytes; answers their number. Later words stay.
 // Refuses 1 to 7, 24 (file), 8, 17, 9 (no layout), 10, 15, 14.
-pub fn read(file: &[u8], entry: u32, buf: &[u8], words: &mut [u32]) -> Number
-    ensures answer { said_number result ≡ answer_of (read_call file.now entry buf.now words.old) }
+pub fn read(file: &[u8], entry: u32, buf: &[u8], words: &mut [u32]) -> Result<u32, Refusal>
+    ensures answer { said result ≡ answer_of (read_call file.now entry buf.now words.old) }
     ensures words { words.new ≡ contents_of words.old (read_call file.now entry buf.now words.old) }
 {
     match check_trailer(file) {
-        Trailered::Refused(r) => Number::Refused(r),
-        Trailered::Good(t) => {
+        Err(r) => Err(r),
+        Ok(t) => {
             let mut table = blank();
             match find(file, t, entry, &mut table) {
-                Grounded::Refused(r) => Number::Refused(r),
-                Grounded::Is(g) => read_entry_at(file, wide(entry), g, &table, buf, words),
+                Err(r) => Err(r),
+                Ok(g) => read_entry_at(file, wide(entry), g, &table, buf, words),
             }
         }
     }

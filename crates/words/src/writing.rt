@@ -4,24 +4,20 @@ ghost use Rattle.wgsl.specs.Types.{Ty, is_open};
 ghost use Rattle.wgsl.specs.Place.{extent_of, word_count};
 ghost use Rattle.wgsl.specs.Call.{answer_of, contents_of, write_call};
 ghost use Rattle.wgsl.specs.Round.{limit};
-ghost use Rattle.said.specs.Answer.{said_number};
-ghost use Rattle.runs.specs.Ask.{said_scan};
 ghost use Rattle.walk_trees.specs.Slot.{run_at, RunAsks};
 ghost use Rattle.walk_decide.specs.Whole.{Ready, Tailed, TailedBy, Whole};
 ghost use Rattle.walk_decide.specs.Meant.{Meant};
 ghost use Rattle.words.specs.Promise.{Tested, WholeStored, WholeWritten, ClosedWritten, ElementsWritten, OpenWritten, MeantWritten};
 ghost use Rattle.walk_pieces.specs.Piece.{Listed};
+ghost use Rattle.said.specs.Answer.{said};
 
-use file::trailer::{Trailered, check_trailer};
-use layout_table::{Ground, Grounded, find};
+use file::trailer::check_trailer;
+use layout_table::{Ground, find};
 use layout_values::value::{Row, Value, blank, opens, words_of};
 use numbers::wide::wide;
-use runs::{Scan, write_run};
-use said::answer::Number;
+use runs::write_run;
 use said::refusal::Refusal;
-use walk_decide::{
-    Allowed, Fits, Rest, allow, closed_rest, elements_for, extent_for, fit, open_rest, rest_of,
-};
+use walk_decide::{Rest, allow, closed_rest, elements_for, extent_for, fit, open_rest, rest_of};
 use walk_pieces::{Pieces, no_pieces};
 use walk_trees::run_at;
 use words_test::{scan_entry, scan_many};
@@ -47,14 +43,14 @@ fn scan(
     x: Rest,
     words: &[u32],
     pieces: &mut Pieces,
-) -> Scan
+) -> Result<(), Refusal>
     requires { ((t : Ty) × (n : ℕ) × Whole members.now table.now e x t n × (length words.now ≡ word_count n t)) × Listed pieces.old }
-    ensures said { Tested members.now table.now e x words.now (said_scan result) }
+    ensures said { Tested members.now table.now e x words.now (said result) }
     ensures long { Listed pieces.new }
 {
     match scan_entry(members, table, e, words, 0, pieces) {
-        Scan::Bad(k) => Scan::Bad(k),
-        Scan::Fine => scan_many(members, table, x.value, words, x.fixed, pieces),
+        Err(Refusal::Word(k)) => Err(Refusal::Word(k)),
+        Ok(()) => scan_many(members, table, x.value, words, x.fixed, pieces),
     }
 }
 
@@ -93,16 +89,16 @@ fn write_whole(
     extent: u32,
     words: &[u32],
     buf: &mut [u8],
-) -> Number
+) -> Result<u32, Refusal>
     requires { (t : Ty) × (n : ℕ) × Whole members.now table.now e x t n × (length words.now ≡ word_count n t) × (extent ≡ extent_of n t) × (extent ≤ length buf.old) }
     ensures { WholeWritten members.now table.now e x extent words.now result buf.old buf.new }
 {
     let mut pieces = no_pieces();
     match fit(scan(members, table, e, x, words, &mut pieces)) {
-        Allowed::Refused(r) => Number::Refused(r),
-        Allowed::Yes => {
+        Err(r) => Err(r),
+        Ok(()) => {
             store(members, table, e, x, wide(extent), words, buf, &mut pieces);
-            Number::Is(extent)
+            Ok(extent)
         }
     }
 }
@@ -115,15 +111,15 @@ fn write_closed(
     l: Value,
     words: &[u32],
     buf: &mut [u8],
-) -> Number
+) -> Result<u32, Refusal>
     requires { (t : Ty) × Ready members.now table.now e l t × (is_open t ≡ false) }
     ensures { ClosedWritten members.now table.now e l words.now result buf.old buf.new }
 {
     if words.len() != wide(words_of(l)) {
-        return Number::Refused(Refusal::Count);
+        return Err(Refusal::Count);
     }
     if buf.len() < wide(l.size) {
-        return Number::Refused(Refusal::Buffer);
+        return Err(Refusal::Buffer);
     }
     write_whole(members, table, e, closed_rest(l), l.size, words, buf)
 }
@@ -137,13 +133,13 @@ fn write_elements(
     n: usize,
     words: &[u32],
     buf: &mut [u8],
-) -> Number
+) -> Result<u32, Refusal>
     requires { (t : Ty) × TailedBy members.now table.now e x t × (length buf.old ≤ limit) × (length words.now ≡ word_count n t) }
     ensures { ElementsWritten members.now table.now e x n words.now result buf.old buf.new }
 {
     match extent_for(buf.len(), x.offset, x.value.stride, n) {
-        Fits::No => Number::Refused(Refusal::Buffer),
-        Fits::Is(extent) => {
+        None => Err(Refusal::Buffer),
+        Some(extent) => {
             write_whole(
                 members,
                 table,
@@ -165,14 +161,14 @@ fn write_open(
     l: Value,
     words: &[u32],
     buf: &mut [u8],
-) -> Number
+) -> Result<u32, Refusal>
     requires { (t : Ty) × Tailed members.now table.now e l t × (length buf.old ≤ limit) }
     ensures { OpenWritten members.now table.now e l words.now result buf.old buf.new }
 {
     let x = rest_of(members, table, l);
     match elements_for(words.len(), x.fixed, x.value.unit) {
-        Fits::No => Number::Refused(Refusal::Count),
-        Fits::Is(n) => write_elements(members, table, e, x, n, words, buf),
+        None => Err(Refusal::Count),
+        Some(n) => write_elements(members, table, e, x, n, words, buf),
     }
 }
 
@@ -184,14 +180,14 @@ fn write_entry_at(
     table: &[Row],
     words: &[u32],
     buf: &mut [u8],
-) -> Number
+) -> Result<u32, Refusal>
     requires { (t : Ty) × Meant file.now e g table.now t }
     ensures { MeantWritten file.now e g table.now words.now result buf.old buf.new }
 {
     let l = g.value;
     match allow(l, buf.len(), true) {
-        Allowed::Refused(r) => Number::Refused(r),
-        Allowed::Yes => {
+        Err(r) => Err(r),
+        Ok(()) => {
             let start = g.start;
             let end = g.end;
             let members = &file[start..end];
@@ -205,17 +201,17 @@ fn write_entry_at(
 
 // Writes the words of entry `entry`, each at its place, and zero where none lies; answers the byte count.
 // Refuses 1 to 7, 24 (file), 8, 17, 9 (no layout), 10, 14, 15, 16.
-pub fn write(file: &[u8], entry: u32, words: &[u32], buf: &mut [u8]) -> Number
-    ensures answer { said_number result ≡ answer_of (write_call file.now entry words.now buf.old) }
+pub fn write(file: &[u8], entry: u32, words: &[u32], buf: &mut [u8]) -> Result<u32, Refusal>
+    ensures answer { said result ≡ answer_of (write_call file.now entry words.now buf.old) }
     ensures buffer { buf.new ≡ contents_of buf.old (write_call file.now entry words.now buf.old) }
 {
     match check_trailer(file) {
-        Trailered::Refused(r) => Number::Refused(r),
-        Trailered::Good(t) => {
+        Err(r) => Err(r),
+        Ok(t) => {
             let mut table = blank();
             match find(file, t, entry, &mut table) {
-                Grounded::Refused(r) => Number::Refused(r),
-                Grounded::Is(g) => write_entry_at(file, wide(entry), g, &table, words, buf),
+                Err(r) => Err(r),
+                Ok(g) => write_entry_at(file, wide(entry), g, &table, words, buf),
             }
         }
     }

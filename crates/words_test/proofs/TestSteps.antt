@@ -2,6 +2,7 @@
 --
 -- In order: a shape tests alike wherever it lies; words of four bytes always pass; what an answer says; parts; members.
 -- Assumes nothing.
+use Rattle.std.specs.Prelude.{Err, Ok, Result}
 use Prim.Native.Nat.{ℕ, zero, suc, ◌+◌, ◌-◌, ◌*◌, ◌^◌, ◌<◌, ◌≤◌, min}
 use mathlib.Core.List.{List, [], ◌∷◌, ◌++◌, map-append}
 use mathlib.Core.Logic.{⊎_elim}
@@ -19,9 +20,6 @@ use Rattle.runs.specs.Run.{run_places, part_places}
 use Rattle.wgsl.proofs.Count.{places_words, repeated_length}
 use Rattle.runs.specs.declared.Parts.{Parts}
 use Rattle.runs.proofs.OverPlaces.{over_append, repeated_append, widths, tested_widths, tested_refused, tested_moved}
-use Rattle.runs.specs.declared.Scan.{Scan}
-use Rattle.runs.specs.declared.Scan.TheVariants.{Fine, Bad}
-use Rattle.runs.specs.Ask.{said_scan}
 use Rattle.layout_values.specs.declared.value.Value.{Value}
 use Rattle.layout_values.specs.Value.{value_at, words_in}
 use Rattle.walk_trees.specs.Slot.{part_width, member_at, slot_at}
@@ -29,6 +27,9 @@ use Rattle.walk_trees.specs.Tree.{Runs, RunsOf, Many, runs, each, Tree, WordRoom
 use Rattle.walk_trees.proofs.Many.{tree_valued}
 use Rattle.walk_trees.proofs.Room.{Each, each_entry}
 use Rattle.walk_trees.proofs.TreeSteps.{Turn, turn_start, turn_next, turn_none, Walk, walk_start, walk_first, walk_room, walk_words, walk_next, walk_none}
+use Rattle.said.specs.declared.refusal.Refusal.TheVariants.{Word}
+use Rattle.said.specs.declared.refusal.Refusal.{Refusal}
+use Rattle.said.specs.Answer.{said}
 
 -- ---- a shape tests alike wherever it lies
 
@@ -104,8 +105,8 @@ wide_passes ws low (p ∷ ps) k h =
 -- ---- what an answer says
 
 -- of the shapes that P holds of, tested from word k on
-abbrev pub Says : List ℕ → ℕ → (Shape → Type 0) → Scan → Type 0
-Says ws k P s = (x : Shape) → P x → said_scan s ≡ over_places (testing ws) (places_of x 0) k (good tt)
+abbrev pub Says : List ℕ → ℕ → (Shape → Type 0) → Result (Unit {0}) Refusal → Type 0
+Says ws k P s = (x : Shape) → P x → said s ≡ over_places (testing ws) (places_of x 0) k (good tt)
 
 wide_fine : {ws : List ℕ} (k : ℕ) (x : Shape) → Words32 ws → Wide x → good tt ≡ over_places (testing ws) (places_of x 0) k (good tt)
 unfolding Wide
@@ -113,16 +114,16 @@ wide_fine {ws} k x low h = sym (wide_passes ws low (places_of x 0) k (h 0))
 
 -- What holds no f16 is fine.
 module _ {ms : List ℕ} {table : List (List ℕ)} {ws : List ℕ} (k : ℕ) (low : Words32 ws) where
-  pub entry_fine : {e : ℕ} → ((value_at table e).narrow ≡ 2 → ⊥) → Says ws k (λ x. Tree ms table e x) Fine
+  pub entry_fine : {e : ℕ} → ((value_at table e).narrow ≡ 2 → ⊥) → Says ws k (λ x. Tree ms table e x) (Ok tt)
   entry_fine h x t = wide_fine k x low ((tree_valued t).wide h)
 
-  pub many_fine : {r : Value} → (r.narrow ≡ 2 → ⊥) → Says ws k (λ x. Many ms table r x) Fine
+  pub many_fine : {r : Value} → (r.narrow ≡ 2 → ⊥) → Says ws k (λ x. Many ms table r x) (Ok tt)
   many_fine h x m = wide_fine k x low (wide_many m h)
 
 -- ---- parts
 
 -- Parts that are runs, as one run.
-pub says_run : {ms : List ℕ} {table : List (List ℕ)} {r : Value} (ws : List ℕ) (k : ℕ) (s : Scan) {p : Parts} → ((x : Shape) → Many ms table r x → RunsOf p x) → said_scan s ≡ over_places (testing ws) (run_places (p.count * p.unit) p.width 0) k (good tt) → Says ws k (λ x. Many ms table r x) s
+pub says_run : {ms : List ℕ} {table : List (List ℕ)} {r : Value} (ws : List ℕ) (k : ℕ) (s : Result (Unit {0}) Refusal) {p : Parts} → ((x : Shape) → Many ms table r x → RunsOf p x) → said s ≡ over_places (testing ws) (run_places (p.count * p.unit) p.width 0) k (good tt) → Says ws k (λ x. Many ms table r x) s
 says_run ws k s {p} are said x m =
     said ∙ rw ((are x m).places_are 0) (sym (tested_moved ws p.count p.unit p.width p.stride 0 k (good tt)))
 
@@ -164,23 +165,23 @@ turns_fitting {element = element} {count = count} {unit = unit} {k = k} all {ws}
     }
 
 module _ {ms : List ℕ} {table : List (List ℕ)} {r : Value} {element count unit bytes k n : ℕ} (all : Each ms table r element count unit r.stride 0 bytes k n) {ws : List ℕ} {i : ℕ} (now : Turns ms table ws element count unit k i) where
-  turns_said : (s : Scan) → i < count → Says ws (k + i * unit) (λ x. Tree ms table element x) s → (stride : ℕ) → Turn (testing ws) ms table element count unit stride 0 k (good tt) (i + 1) (said_scan s)
+  turns_said : (s : Result (Unit {0}) Refusal) → i < count → Says ws (k + i * unit) (λ x. Tree ms table element x) s → (stride : ℕ) → Turn (testing ws) ms table element count unit stride 0 k (good tt) (i + 1) (said s)
   turns_said s h said stride =
       turn_next (now.turn stride) all.tree all.room.unit_is h
       (λ x t. said x t ∙ tested_anywhere ws x (0 + i * stride) (k + i * unit) (good tt))
 
-  pub turns_fine : i < count → Says ws (k + i * unit) (λ x. Tree ms table element x) Fine → Turns ms table ws element count unit k (i + 1)
-  turns_fine h said = record { turn = turns_said Fine h said }
+  pub turns_fine : i < count → Says ws (k + i * unit) (λ x. Tree ms table element x) (Ok tt) → Turns ms table ws element count unit k (i + 1)
+  turns_fine h said = record { turn = turns_said (Ok tt) h said }
 
-  pub turns_bad : {q : ℕ} → i < count → Says ws (k + i * unit) (λ x. Tree ms table element x) (Bad q) → Says ws k (λ x. Many ms table r x) (Bad q)
+  pub turns_bad : {q : ℕ} → i < count → Says ws (k + i * unit) (λ x. Tree ms table element x) ((Err (Word q))) → Says ws k (λ x. Many ms table r x) ((Err (Word q)))
   unfolding places_of
   turns_bad {q} h said x m =
       let z = all.any x m in
       rw z.2
       (sym (tested_refused ws (repeated (count - (i + 1)) r.stride (λ p. places_of z.0 p) (0 + (i + 1) * r.stride)) (k + (i + 1) * unit) 16 q)
-      ∙ ((turns_said (Bad q) h said r.stride).turns z.0 z.1).same)
+      ∙ ((turns_said ((Err (Word q))) h said r.stride).turns z.0 z.1).same)
 
-  pub turns_none : count ≤ i → Says ws k (λ x. Many ms table r x) Fine
+  pub turns_none : count ≤ i → Says ws k (λ x. Many ms table r x) (Ok tt)
   turns_none h x m = let z = all.any x m in rw z.2 (turn_none (now.turn r.stride) h z.0 z.1)
 
 -- ---- members
@@ -233,7 +234,7 @@ module _ {ms : List ℕ} {table : List (List ℕ)} {ws : List ℕ} {e k left m n
       type_placed = type_read
 
       module _ {step words : ℕ} (step_is_lem : step ≡ (value_at table e).stride) (words_are : words ≡ words_in (value_at table ty)) where
-        walked : (s : Scan) → Says ws next (λ x. Tree ms table ty x) s → Walk (testing ws) ms table e 0 now.bytes k (length ws) (good tt) (left - 1) (m + step) (slot_at ms table m now.end).end (next + words) (said_scan s)
+        walked : (s : Result (Unit {0}) Refusal) → Says ws next (λ x. Tree ms table ty x) s → Walk (testing ws) ms table e 0 now.bytes k (length ws) (good tt) (left - 1) (m + step) (slot_at ms table m now.end).end (next + words) (said s)
         walked s said =
             rw (words_are, ← words_read_here)
             (walk_next now.walk h refl step_is_lem
@@ -242,12 +243,12 @@ module _ {ms : List ℕ} {table : List (List ℕ)} {ws : List ℕ} {e k left m n
         pub scanned_words : next + words ≤ length ws
         scanned_words = rw (words_are, ← words_read_here) (walk_words now.walk h refl)
 
-        pub scanned_next : Says ws next (λ x. Tree ms table ty x) Fine → Scanned ms table ws e k (left - 1) (m + step) (next + words)
-        scanned_next said = record { bytes = now.bytes; end = (slot_at ms table m now.end).end; walk = walked Fine said }
+        pub scanned_next : Says ws next (λ x. Tree ms table ty x) (Ok tt) → Scanned ms table ws e k (left - 1) (m + step) (next + words)
+        scanned_next said = record { bytes = now.bytes; end = (slot_at ms table m now.end).end; walk = walked (Ok tt) said }
 
-        pub scanned_bad : {q : ℕ} → Says ws next (λ x. Tree ms table ty x) (Bad q) → Says ws k (λ x. Tree ms table e x) (Bad q)
+        pub scanned_bad : {q : ℕ} → Says ws next (λ x. Tree ms table ty x) ((Err (Word q))) → Says ws k (λ x. Tree ms table e x) ((Err (Word q)))
         scanned_bad {q} said x t =
-            sym (tested_refused ws (places_of (walked (Bad q) said).rest 0) (next + words) 16 q) ∙ (walked (Bad q) said).same x t
+            sym (tested_refused ws (places_of (walked ((Err (Word q))) said).rest 0) (next + words) 16 q) ∙ (walked ((Err (Word q))) said).same x t
 
-  pub scanned_none : left ≤ 0 → Says ws k (λ x. Tree ms table e x) Fine
+  pub scanned_none : left ≤ 0 → Says ws k (λ x. Tree ms table e x) (Ok tt)
   scanned_none h = walk_none now.walk h

@@ -8,16 +8,16 @@ ghost use Rattle.wgsl.specs.Round.{limit};
 ghost use Rattle.wgsl.specs.Place.{Shape, parts, span_of, places_of};
 ghost use Rattle.wgsl.specs.Types.{struct_kind};
 ghost use Rattle.runs.specs.Fold.{Tests};
-ghost use Rattle.runs.specs.Ask.{said_scan};
 ghost use Rattle.layout_values.specs.Value.{value_at};
 ghost use Rattle.walk_trees.specs.Tree.{Many, Tree, EachRoom, WordRoom};
 ghost use Rattle.walk_pieces.specs.Piece.{Listed};
+ghost use Rattle.said.specs.Answer.{said};
 
 use file::fields::half;
 use file::kinds::STRUCT;
 use layout_values::value::{Row, Value, value_at, words_of};
 use numbers::wide::wide;
-use runs::{Scan, scan_run};
+use runs::scan_run;
 use walk_pieces::{MOST, Pieces, pieces_of};
 use walk_trees::parts_of;
 use words_pieces::testing::fitting;
@@ -31,14 +31,14 @@ pub fn scan_entry(
     words: &[u32],
     k: usize,
     pieces: &mut Pieces,
-) -> Scan
+) -> Result<(), Refusal>
     requires { ((x : Shape) × Tree members.now table.now e x × WordRoom x k (length words.now)) × Listed pieces.old }
-    ensures said { (x : Shape) → Tree members.now table.now e x → Tests words.now (places_of x 0) k (said_scan result) }
+    ensures said { (x : Shape) → Tree members.now table.now e x → Tests words.now (places_of x 0) k (said result) }
     ensures long { Listed pieces.new }
 {
     let r = value_at(table, e);
     if r.narrow != 2 {
-        return Scan::Fine;
+        return Ok(());
     }
     if r.kind == STRUCT {
         return scan_struct(members, table, e, r, words, k, pieces);
@@ -77,13 +77,13 @@ pub fn scan_many(
     words: &[u32],
     k: usize,
     pieces: &mut Pieces,
-) -> Scan
+) -> Result<(), Refusal>
     requires { ((x : Shape) × Many members.now table.now r x × WordRoom x k (length words.now)) × Listed pieces.old }
-    ensures said { (x : Shape) → Many members.now table.now r x → Tests words.now (places_of x 0) k (said_scan result) }
+    ensures said { (x : Shape) → Many members.now table.now r x → Tests words.now (places_of x 0) k (said result) }
     ensures long { Listed pieces.new }
 {
     if r.narrow != 2 {
-        return Scan::Fine;
+        return Ok(());
     }
     let p = parts_of(table, r);
     if p.width != 0 {
@@ -95,14 +95,14 @@ pub fn scan_many(
     let mut i = fit_at_once(members, table, element, count, unit, words, k, pieces);
     while i < count {
         match scan_entry(members, table, element, words, k + i * unit, pieces) {
-            Scan::Fine => {}
-            Scan::Bad(p) => {
-                return Scan::Bad(p);
+            Ok(()) => {}
+            Err(Refusal::Word(p)) => {
+                return Err(Refusal::Word(p));
             }
         }
         i += 1;
     }
-    Scan::Fine
+    Ok(())
 }
 
 // Tests a struct member by member.
@@ -115,9 +115,9 @@ fn scan_struct(
     words: &[u32],
     k: usize,
     pieces: &mut Pieces,
-) -> Scan
+) -> Result<(), Refusal>
     requires { ((x : Shape) × Tree members.now table.now e x × (r ≡ value_at table.now e) × (r.kind ≡ struct_kind) × WordRoom x k (length words.now)) × Listed pieces.old }
-    ensures said { (x : Shape) → Tree members.now table.now e x → Tests words.now (places_of x 0) k (said_scan result) }
+    ensures said { (x : Shape) → Tree members.now table.now e x → Tests words.now (places_of x 0) k (said result) }
     ensures long { Listed pieces.new }
 {
     let length = wide(r.stride);
@@ -129,9 +129,9 @@ fn scan_struct(
         let l = value_at(table, ty);
         if l.narrow == 2 {
             match scan_entry(members, table, ty, words, next, pieces) {
-                Scan::Fine => {}
-                Scan::Bad(q) => {
-                    return Scan::Bad(q);
+                Ok(()) => {}
+                Err(Refusal::Word(q)) => {
+                    return Err(Refusal::Word(q));
                 }
             }
         }
@@ -139,5 +139,5 @@ fn scan_struct(
         m += length;
         left -= 1;
     }
-    Scan::Fine
+    Ok(())
 }

@@ -4,10 +4,10 @@ use mathlib.Core.Path.{ap, sym, ◌∙◌}
 use native.Mathlib.Omega.{arith}
 use borrow.Author.Tests.{not-true, not-false}
 use Rattle.wgsl.specs.Said.{or_refuse}
-use Rattle.convert_common.specs.Chosen.{chosen_is}
 use Rattle.layout_table.proofs.SaidTable.{Taken, told}
 use Rattle.convert_ask.proofs.Calls.{common_refused, common_past, common_empty, list_there, common_is}
 use Rattle.convert_ask.proofs.common.Goals as goal
+use Rattle.said.specs.Answer.{maybe_of}
 
 file : (c : goal.Then-not-all_below) → Taken c.args.file.now c.in-Types.trailer
 file c =
@@ -59,7 +59,7 @@ returns-in-Is c =
     let e = r in
     let b = e in
     common_is (file_4 b) _ (sym b.all_below.ensures ∙ not-false _ (ap not e.if-not-all_below.false)) r.wide-start.ensures.0
-    (ap chosen_is c.in-Is.is) r.common_of_all.ensures
+    (ap maybe_of c.in-Is.is) r.common_of_all.ensures
 
 pub returns-in-No : goal.returns-in-No
 unfolding or_refuse
@@ -68,7 +68,7 @@ returns-in-No c =
     let e = r in
     let b = e in
     common_is (file_5 b) _ (sym b.all_below.ensures ∙ not-false _ (ap not e.if-not-all_below.false)) r.wide-start.ensures.0
-    (ap chosen_is c.in-No.is) r.common_of_all.ensures
+    (ap maybe_of c.in-No.is) r.common_of_all.ensures
 
 pub returns-in-Refused : goal.returns-in-Refused
 returns-in-Refused c =

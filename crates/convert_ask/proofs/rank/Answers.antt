@@ -2,10 +2,10 @@
 use mathlib.Core.Path.{ap}
 use native.Mathlib.Omega.{arith}
 use Rattle.wgsl.specs.Said.{or_refuse}
-use Rattle.convert_rank.specs.Ranked.{rank_is}
 use Rattle.layout_table.proofs.SaidTable.{Taken, told}
 use Rattle.convert_ask.proofs.Calls.{rank_refused, rank_past, rank_past_second, pair_there, rank_is_lem}
 use Rattle.convert_ask.proofs.rank.Goals as goal
+use Rattle.said.specs.Answer.{maybe_of}
 
 file : (c : goal.Then-types-a) → Taken c.args.file.now c.in-Types.trailer
 file c =
@@ -49,7 +49,7 @@ returns-in-Is c =
     let r = c in
     let w = r in
     rank_is_lem (file_4 w) (omega arith) (omega arith) w.wide.ensures.0
-    w.wide-in-Types.ensures.0 (ap rank_is c.in-Is.is) r.entry_rank.ensures
+    w.wide-in-Types.ensures.0 (ap maybe_of c.in-Is.is) r.entry_rank.ensures
 
 pub returns-in-No : goal.returns-in-No
 unfolding or_refuse
@@ -57,7 +57,7 @@ returns-in-No c =
     let r = c in
     let w = r in
     rank_is_lem (file_5 w) (omega arith) (omega arith) w.wide.ensures.0
-    w.wide-in-Types.ensures.0 (ap rank_is c.in-No.is) r.entry_rank.ensures
+    w.wide-in-Types.ensures.0 (ap maybe_of c.in-No.is) r.entry_rank.ensures
 
 pub returns-in-Refused : goal.returns-in-Refused
 returns-in-Refused c =

@@ -1,9 +1,9 @@
 -- The loop's invariant: the common type of the list is that of what was found and of what is left.
 use mathlib.Core.Path.{ap, sym, ◌∙◌}
 use native.Mathlib.Omega.{arith}
-use Rattle.convert_common.specs.Chosen.{chosen_is}
 use Rattle.convert_common.proofs.CommonOfAll.{folded_start, folded_end, folded_pair, folded_step, folded_none}
 use Rattle.convert_common.proofs.common_of_all.Goals as goal
+use Rattle.said.specs.Answer.{maybe_of}
 
 pub loop-i-init : goal.loop-i-init
 loop-i-init c = (omega arith, λ ts l. folded_start l c.requires.1)
@@ -21,7 +21,7 @@ returns-in-No c =
     λ ts l.
     let folded = two.loop-i.invariant.1 ts l in
     folded_none l folded here
-    (sym (ap chosen_is c.in-No.is) ∙ two.common_of_two.ensures ts (folded_pair l folded here))
+    (sym (ap maybe_of c.in-No.is) ∙ two.common_of_two.ensures ts (folded_pair l folded here))
 
 pub loop-i-preserved : goal.loop-i-preserved
 loop-i-preserved c =
@@ -31,7 +31,7 @@ loop-i-preserved c =
       λ ts l.
           let folded = two.loop-i.invariant.1 ts l in
           folded_step l folded here
-          (sym (ap chosen_is c.in-Is.is) ∙ two.common_of_two.ensures ts (folded_pair l folded here)),
+          (sym (ap maybe_of c.in-Is.is) ∙ two.common_of_two.ensures ts (folded_pair l folded here)),
     )
 
 pub returns : goal.returns

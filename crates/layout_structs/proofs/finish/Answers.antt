@@ -1,16 +1,17 @@
 -- Each verdict on the members is one law of `Ended`.
+use Rattle.std.specs.Prelude.{Result}
 use mathlib.Core.Path.{◌≡◌, sym, subst}
 use native.Mathlib.Omega.{arith}
 use borrow.Author.Rules.{rules}
 use Rattle.wgsl.specs.Types.{Members}
-use Rattle.layout_structs.specs.declared.SoFar.{SoFar}
 use Rattle.layout_structs.specs.SoFar.{Closes}
 use Rattle.layout_structs.proofs.Ended.{closes_placed, closes_unfit, closes_past}
 use Rattle.layout_structs.proofs.finish.Goals as goal
+use Rattle.layout_values.specs.declared.value.Broken.{Broken}
 
 -- the run is the one that the arm names
-is : {r s : SoFar} (ms : Members) → r ≡ s → Closes r ms → Closes s ms
-is ms e c = subst (λ (x : SoFar). Closes x ms) e c
+is : {r s : (Result Ends Broken)} (ms : Members) → r ≡ s → Closes r ms → Closes s ms
+is ms e c = subst (λ (x : Result Ends Broken). Closes x ms) e c
 
 pub whole-requires : goal.whole-requires
 whole-requires c =

@@ -1,12 +1,12 @@
 -- Each way out is a law of `LastMember`, at the members that the caller knows.
 -- Assumes nothing.
+use Rattle.std.specs.Prelude.{Ok}
 use Prim.Native.Nat.{ℕ}
 use mathlib.Core.Bool.{false}
 use mathlib.Core.Path.{◌≡◌, sym, ◌∙◌}
 use native.Mathlib.Omega.{arith}
 use Rattle.wgsl.specs.Types.{Ty, Members, is_open}
 use Rattle.file.specs.Fields.{member_is}
-use Rattle.layout_structs.specs.declared.Stepped.TheVariants.{Next}
 use Rattle.layout_structs.specs.SoFar.{followed, so_far}
 use Rattle.orders_check.specs.Checked.{Last}
 use Rattle.orders_check.proofs.LastMember.{last_stepped, before_large, all_large, open_power, open_found, closed_power, closed_found}
@@ -15,25 +15,25 @@ use Rattle.orders_check.proofs.end_after.Goals as goal
 -- what `step` answered
 told : (c : goal.In_default-step) (ms : Members) (t : Ty) →
     let a = c.args in
-    Last a.past a.l (member_is a.m) ms t → c.step.result ≡ Next (so_far (followed ms t (member_is a.m)))
+    Last a.past a.l (member_is a.m) ms t → c.step.result ≡ Ok (so_far (followed ms t (member_is a.m)))
 told c ms t j = c.step.ensures ms t j.meets ∙ last_stepped j
 
 -- what `step` answered
 told_2 : (c : goal.In-Good-all) (ms : Members) (t : Ty) →
     let a = c.args in
-    Last a.past a.l (member_is a.m) ms t → c.step.result ≡ Next (so_far (followed ms t (member_is a.m)))
+    Last a.past a.l (member_is a.m) ms t → c.step.result ≡ Ok (so_far (followed ms t (member_is a.m)))
 told_2 c ms t j = c.step.ensures ms t j.meets ∙ last_stepped j
 
 -- what `step` answered
 told_3 : (c : goal.After-round_up-in-Good-all) (ms : Members) (t : Ty) →
     let a = c.args in
-    Last a.past a.l (member_is a.m) ms t → c.step.result ≡ Next (so_far (followed ms t (member_is a.m)))
+    Last a.past a.l (member_is a.m) ms t → c.step.result ≡ Ok (so_far (followed ms t (member_is a.m)))
 told_3 c ms t j = c.step.ensures ms t j.meets ∙ last_stepped j
 
 -- what `step` answered
 told_4 : (c : goal.In_default-all) (ms : Members) (t : Ty) →
     let a = c.args in
-    Last a.past a.l (member_is a.m) ms t → c.step.result ≡ Next (so_far (followed ms t (member_is a.m)))
+    Last a.past a.l (member_is a.m) ms t → c.step.result ≡ Ok (so_far (followed ms t (member_is a.m)))
 told_4 c ms t j = c.step.ensures ms t j.meets ∙ last_stepped j
 
 -- the members with the last

@@ -3,6 +3,7 @@
 --
 -- A walk goes down from an entry to the entries below it, which have lower numbers: that is the measure.
 -- Assumes nothing.
+use Rattle.std.specs.Prelude.{Ok}
 use Prim.Native.Nat.{ℕ, ◌+◌, ◌*◌}
 use Prim.Native.Nat.{ℕ}
 use mathlib.Core.Path.{◌≡◌, ap, ◌∙◌}
@@ -24,7 +25,6 @@ use mathlib.Core.Path.{◌≡◌, refl, ap, ◌∙◌}
 use native.Mathlib.Omega.{arith}
 use lib.ListN.{length}
 use Rattle.wgsl.specs.Number.{load}
-use Rattle.runs.specs.declared.Scan.TheVariants.{Fine}
 use Rattle.layout_values.specs.declared.value.Value.{Value}
 use Rattle.layout_values.specs.Value.{value_at, words_in}
 use Rattle.walk_trees.specs.Tree.{Tree}
@@ -177,7 +177,7 @@ passed : (t : ℕ) (c : goal.scan_struct-After-wide-next t) →
     let after_wide4 = c in
     let in_loop = after_wide4 in
     let start = in_loop in
-    Says start.args.words.now in_loop.loop-left.next (λ x. Tree start.args.members.now start.args.table.now after_wide4.wide-ty.result x) Fine × Listed c.if-l-eq2.pieces
+    Says start.args.words.now in_loop.loop-left.next (λ x. Tree start.args.members.now start.args.table.now after_wide4.wide-ty.result x) (Ok tt) × Listed c.if-l-eq2.pieces
 passed t c =
     let after_value_at = c in
     let in_loop = after_value_at in

@@ -5,10 +5,10 @@ use Rattle.wgsl.specs.Said.{good, refused}
 use Rattle.wgsl.specs.Call.{answer_of, contents_of}
 use Rattle.wgsl.specs.BitFieldCall.{FoundInteger, integer_at, insert_call}
 use Rattle.said.specs.Refusal.{number_of, place_of}
-use Rattle.said.specs.Answer.{said_number}
 use Rattle.paths.specs.Field.{Integer}
 use Rattle.paths.proofs.IntegerOf.{at_offset, integer_there, insert_refused, insert_found}
 use Rattle.paths.proofs.field.insert_bits.Goals as goal
+use Rattle.said.specs.Answer.{said}
 
 -- the scalar, found
 found : (c : goal.After-put_field-arg-1) →
@@ -54,6 +54,6 @@ returns-in-To c =
     let x = found_2 put in
     let done = insert_found _ _ _ _ _ _ _ x.1 in
     record {
-      answer = ap said_number put.put_field.ensures.answer ∙ ap good (at_offset x.2) ∙ ap answer_of (sym done);
+      answer = ap said put.put_field.ensures.answer ∙ ap good (at_offset x.2) ∙ ap answer_of (sym done);
       buffer = put.put_field.ensures.buffer x.0 x.2 ∙ ap (contents_of _) (sym done);
     }

@@ -1,9 +1,9 @@
 -- By the elements that are found (proofs/HeldOf). Assumes nothing.
+use Rattle.std.specs.Prelude.{Some}
 use Prim.Native.Nat.{◌+◌, ◌*◌, ◌≤◌}
 use mathlib.Core.Path.{◌≡◌, sym, ◌∙◌}
 use native.Mathlib.Omega.{arith}
 use Rattle.wgsl.specs.Round.{limit}
-use Rattle.walk_decide.specs.declared.Fits.TheVariants.{Is}
 use Rattle.walk_decide.specs.Decide.{elements_found}
 use Rattle.walk_decide.proofs.CallSteps.{found_inside}
 use Rattle.paths.proofs.HeldOf.{stride_above, open_short, open_there}
@@ -12,13 +12,13 @@ use Rattle.paths.proofs.locate.held_open.Goals as goal
 -- the elements, found
 found : (c : goal.After-wide) →
     let a = c.args in
-    elements_found a.bytes a.x.offset a.x.value.stride ≡ Is c.in-Is.n
+    elements_found a.bytes a.x.offset a.x.value.stride ≡ Some c.in-Is.n
 found c = sym c.elements_in.ensures ∙ c.in-Is.is
 
 -- the elements, found
 found_2 : (c : goal.After-struct_known-1) →
     let a = c.args in
-    elements_found a.bytes a.x.offset a.x.value.stride ≡ Is c.in-Is.n
+    elements_found a.bytes a.x.offset a.x.value.stride ≡ Some c.in-Is.n
 found_2 c = sym c.elements_in.ensures ∙ c.in-Is.is
 
 -- they end within the limit
