@@ -16,23 +16,17 @@ use said::refusal::Refusal;
 pub fn rank(file: &[u8], a: u32, b: u32) -> Result<u32, Refusal>
     ensures { said result ≡ rank_call file.now a b }
 {
-    match accept(file) {
-        Ok(trailer) => {
-            let types = trailer.types;
-            if types <= a {
-                return Err(Refusal::Missing);
-            }
-            if types <= b {
-                return Err(Refusal::Missing);
-            }
-            let start = wide(trailer.start);
-            match entry_rank(file, start, wide(a), wide(b)) {
-                Some(n) => Ok(n),
-                None => Err(Refusal::NoRank),
-            }
-        }
-        Err(r) => Err(r),
+    let trailer = accept(file)?;
+    let types = trailer.types;
+    if types <= a {
+        return Err(Refusal::Missing);
     }
+    if types <= b {
+        return Err(Refusal::Missing);
+    }
+    let start = wide(trailer.start);
+    let n = entry_rank(file, start, wide(a), wide(b)).ok_or(Refusal::NoRank)?;
+    Ok(n)
 }
 
 // The common type of the listed entries, as one of their numbers.
@@ -40,20 +34,14 @@ pub fn rank(file: &[u8], a: u32, b: u32) -> Result<u32, Refusal>
 pub fn common(file: &[u8], list: &[u32]) -> Result<u32, Refusal>
     ensures { said result ≡ common_call file.now list.now }
 {
-    match accept(file) {
-        Ok(trailer) => {
-            if !all_below(list, trailer.types) {
-                return Err(Refusal::Missing);
-            }
-            if list.len() < 1 {
-                return Err(Refusal::NoRank);
-            }
-            let start = wide(trailer.start);
-            match common_of_all(file, start, list) {
-                Some(e) => Ok(e),
-                None => Err(Refusal::NoRank),
-            }
-        }
-        Err(r) => Err(r),
+    let trailer = accept(file)?;
+    if !all_below(list, trailer.types) {
+        return Err(Refusal::Missing);
     }
+    if list.len() < 1 {
+        return Err(Refusal::NoRank);
+    }
+    let start = wide(trailer.start);
+    let e = common_of_all(file, start, list).ok_or(Refusal::NoRank)?;
+    Ok(e)
 }

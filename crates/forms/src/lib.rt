@@ -58,10 +58,8 @@ pub fn to_form_2(file: &[u8], out: &mut [u8]) -> Result<usize, Refusal>
     ensures answer { said result ≡ answer_of (move_on_call file.now out.old) }
     ensures out { out.new ≡ contents_of out.old (move_on_call file.now out.old) }
 {
-    match form_is(file, 1) {
-        Err(r) => Err(r),
-        Ok(t) => put_out(file, t, 2, b"\0\0\0\0", b"\x02\0", out),
-    }
+    let t = form_is(file, 1)?;
+    put_out(file, t, 2, b"\0\0\0\0", b"\x02\0", out)
 }
 
 // A form 2 file without names as a form 1 file, into `out`: its length. Later bytes of `out` stay.
@@ -70,14 +68,10 @@ pub fn to_form_1(file: &[u8], out: &mut [u8]) -> Result<usize, Refusal>
     ensures answer { said result ≡ answer_of (move_back_call file.now out.old) }
     ensures out { out.new ≡ contents_of out.old (move_back_call file.now out.old) }
 {
-    match form_is(file, 2) {
-        Err(r) => Err(r),
-        Ok(t) => {
-            let from = wide(t.start) + TYPE_ENTRY_LENGTH * wide(t.types);
-            if is_named(file, from, wide(t.members)) {
-                return Err(Refusal::Named);
-            }
-            put_out(file, t, 1, b"", b"\x01\0", out)
-        }
+    let t = form_is(file, 2)?;
+    let from = wide(t.start) + TYPE_ENTRY_LENGTH * wide(t.types);
+    if is_named(file, from, wide(t.members)) {
+        return Err(Refusal::Named);
     }
+    put_out(file, t, 1, b"", b"\x01\0", out)
 }

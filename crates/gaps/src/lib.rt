@@ -67,13 +67,9 @@ fn clean_open(members: &[u8], table: &[Row], e: usize, l: Value, buf: &mut [u8])
     ensures { OpenCleaned members.now table.now e l result buf.old buf.new }
 {
     let x = rest_of(members, table, l);
-    match elements_in(buf.len(), x.offset, x.value.stride) {
-        None => Err(Refusal::Buffer),
-        Some(n) => {
-            let extent = x.offset + n * wide(x.value.stride);
-            Ok(clean_whole(members, table, e, open_rest(x, n as u32), extent, buf))
-        }
-    }
+    let n = elements_in(buf.len(), x.offset, x.value.stride).ok_or(Refusal::Buffer)?;
+    let extent = x.offset + n * wide(x.value.stride);
+    Ok(clean_whole(members, table, e, open_rest(x, n as u32), extent, buf))
 }
 
 // 17, 9, 10, and then the rest.
@@ -82,18 +78,14 @@ fn clean_entry_at(file: &[u8], e: usize, g: Ground, table: &[Row], buf: &mut [u8
     ensures { MeantCleaned file.now e g table.now result buf.old buf.new }
 {
     let l = g.value;
-    match allow(l, buf.len(), true) {
-        Err(r) => Err(r),
-        Ok(()) => {
-            let start = g.start;
-            let end = g.end;
-            let members = &file[start..end];
-            if opens(l) {
-                return clean_open(members, table, e, l, buf);
-            }
-            clean_closed(members, table, e, l, buf)
-        }
+    allow(l, buf.len(), true)?;
+    let start = g.start;
+    let end = g.end;
+    let members = &file[start..end];
+    if opens(l) {
+        return clean_open(members, table, e, l, buf);
     }
+    clean_closed(members, table, e, l, buf)
 }
 
 // Every byte of entry `entry` in the buffer that no scalar covers becomes zero; answers how many bytes changed, and the offset of the first
@@ -103,14 +95,8 @@ pub fn clean(file: &[u8], entry: u32, buf: &mut [u8]) -> Result<Gaps, Refusal>
     ensures answer { said result ≡ gaps_of (clean_call file.now entry buf.old) }
     ensures buffer { buf.new ≡ clean_after buf.old (clean_call file.now entry buf.old) }
 {
-    match check_trailer(file) {
-        Err(r) => Err(r),
-        Ok(t) => {
-            let mut table = blank();
-            match find(file, t, entry, &mut table) {
-                Err(r) => Err(r),
-                Ok(g) => clean_entry_at(file, wide(entry), g, &table, buf),
-            }
-        }
-    }
+    let trailer = check_trailer(file)?;
+    let mut table = blank();
+    let found = find(file, trailer, entry, &mut table)?;
+    clean_entry_at(file, wide(entry), found, &table, buf)
 }

@@ -24,29 +24,19 @@ use said::refusal::Refusal;
 pub fn check(file: &[u8]) -> Result<u32, Refusal>
     ensures { said result ≡ check_of file.now }
 {
-    match accept(file) {
-        Ok(trailer) => Ok(trailer.types),
-        Err(r) => Err(r),
-    }
+    let trailer = accept(file)?;
+    Ok(trailer.types)
 }
 
 // The value of entry `entry`.
 fn value_of(file: &[u8], entry: u32) -> Result<Value, Refusal>
     ensures { said result ≡ value_found file.now entry }
 {
-    match check_trailer(file) {
-        Err(r) => Err(r),
-        Ok(t) => {
-            let mut table = blank();
-            match find(file, t, entry, &mut table) {
-                Ok(g) => {
-                    let l = g.value;
-                    Ok(l)
-                }
-                Err(r) => Err(r),
-            }
-        }
-    }
+    let trailer = check_trailer(file)?;
+    let mut table = blank();
+    let found = find(file, trailer, entry, &mut table)?;
+    let l = found.value;
+    Ok(l)
 }
 
 // A number of a value asked alone: 0 stands for an absent one.
@@ -82,10 +72,8 @@ fn least(l: Value) -> u32
 pub fn size(file: &[u8], entry: u32) -> Result<u32, Refusal>
     ensures { said result ≡ size_call file.now entry }
 {
-    match value_of(file, entry) {
-        Ok(l) => alone(l.size),
-        Err(r) => Err(r),
-    }
+    let value = value_of(file, entry)?;
+    alone(value.size)
 }
 
 // The alignment of an entry's type.
@@ -93,10 +81,8 @@ pub fn size(file: &[u8], entry: u32) -> Result<u32, Refusal>
 pub fn align(file: &[u8], entry: u32) -> Result<u32, Refusal>
     ensures { said result ≡ align_call file.now entry }
 {
-    match value_of(file, entry) {
-        Ok(l) => alone(l.align),
-        Err(r) => Err(r),
-    }
+    let value = value_of(file, entry)?;
+    alone(value.align)
 }
 
 // The minimum size of an entry's type: of a runtime array one stride, of any other its size.
@@ -104,10 +90,8 @@ pub fn align(file: &[u8], entry: u32) -> Result<u32, Refusal>
 pub fn min_size(file: &[u8], entry: u32) -> Result<u32, Refusal>
     ensures { said result ≡ min_size_call file.now entry }
 {
-    match value_of(file, entry) {
-        Ok(l) => alone(least(l)),
-        Err(r) => Err(r),
-    }
+    let value = value_of(file, entry)?;
+    alone(least(value))
 }
 
 // All four numbers of an entry's type, absent ones marked: size, alignment, minimum size, stride.
@@ -115,13 +99,11 @@ pub fn min_size(file: &[u8], entry: u32) -> Result<u32, Refusal>
 pub fn layout(file: &[u8], entry: u32) -> Result<Sizes, Refusal>
     ensures { said_answer result ≡ layout_call file.now entry }
 {
-    match value_of(file, entry) {
-        Ok(l) => Ok(Sizes {
-            size: mark(l.size),
-            align: mark(l.align),
-            min: mark(least(l)),
-            stride: mark(stride_of(l)),
-        }),
-        Err(r) => Err(r),
-    }
+    let value = value_of(file, entry)?;
+    Ok(Sizes {
+            size: mark(value.size),
+            align: mark(value.align),
+            min: mark(least(value)),
+            stride: mark(stride_of(value)),
+        })
 }

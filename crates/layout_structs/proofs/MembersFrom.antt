@@ -20,6 +20,7 @@ use Rattle.layout_values.specs.Value.{value_of, value_at, made_of}
 use Rattle.layout_values.proofs.ValuesOf.{own_reference, value_held}
 use Rattle.layout_structs.specs.SoFar.{Lower, appended, followed, member_place}
 use Rattle.layout_values.specs.declared.value.Broken.{Broken}
+use Rattle.layout_values.specs.declared.value.Value.{Value}
 
 -- ---- members from the front and from the back
 

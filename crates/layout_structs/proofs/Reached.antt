@@ -29,6 +29,7 @@ use Rattle.layout_structs.proofs.Meets.{allowed_last}
 use Rattle.layout_structs.proofs.MembersAllowed.{allowed_so, allowed_after, refused_members}
 use Rattle.layout_values.specs.declared.value.Broken.{Broken}
 use Rattle.layout_values.specs.declared.value.Broken.TheVariants.{Rule}
+use Rattle.layout_structs.specs.declared.Ends.{Ends}
 
 pub record Reached (f : List ℕ) (ts : List Ty) (at i n : ℕ) (run : Result Ends Broken) : Type 0 where
   pub members : Members

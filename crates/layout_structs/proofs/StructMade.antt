@@ -19,6 +19,7 @@ use Rattle.layout_values.specs.Value.{verdict_on, made_of}
 use Rattle.layout_structs.specs.SoFar.{member_place}
 use Rattle.layout_values.specs.declared.value.Broken.{Broken}
 use Rattle.layout_values.specs.declared.value.Broken.TheVariants.{Rule}
+use Rattle.layout_values.specs.declared.value.Value.{Value}
 
 -- two fields, and two that are zero
 two_unused : (a b : ℕ) → unused (a ∷ b ∷ []) ≡ unused (a ∷ b ∷ 0 ∷ 0 ∷ [])

@@ -16,6 +16,7 @@ use Rattle.layout_values.specs.Value.{value_of, values_of}
 use Rattle.layout_structs.specs.SoFar.{Lower}
 use Rattle.layout_table.specs.declared.Ground.{Ground}
 use Rattle.said.specs.declared.refusal.Refusal.{Refusal}
+use Rattle.file.specs.declared.trailer.Trailer.{Trailer}
 
 -- ---- the whole table
 

@@ -135,13 +135,9 @@ pub fn fill(f: &[u8], t: Trailer, table: &mut [Row]) -> Result<Trailer, Refusal>
 pub fn accept(f: &[u8]) -> Result<Trailer, Refusal>
     ensures { said_checked result ≡ accepted_trailer f.now }
 {
-    match check_trailer(f) {
-        Err(r) => Err(r),
-        Ok(t) => {
-            let mut table = blank();
-            fill(f, t, &mut table)
-        }
-    }
+    let trailer = check_trailer(f)?;
+    let mut table = blank();
+    fill(f, trailer, &mut table)
 }
 
 // The entry that a call speaks of: its value, and where the file's member entries begin and end.
@@ -158,19 +154,15 @@ pub fn find(f: &[u8], t: Trailer, entry: u32, table: &mut [Row]) -> Result<Groun
     requires { (check_trailer f.now ≡ good (trailer_is t)) × (table.old ≡ blank_table) }
     ensures { said_ground result table.new ≡ ground_in f.now entry }
 {
-    match fill(f, t, table) {
-        Err(r) => Err(r),
-        Ok(_) => {
-            if t.types <= entry {
-                return Err(Refusal::Missing);
-            }
-            let start = wide(t.start) + TYPE_ENTRY_LENGTH * wide(t.types);
-            let end = start + wide(member_length(t.form)) * wide(t.members);
-            Ok(Ground {
-                value: value_at(table, wide(entry)),
-                start,
-                end,
-            })
-        }
+    fill(f, t, table)?;
+    if t.types <= entry {
+        return Err(Refusal::Missing);
     }
+    let start = wide(t.start) + TYPE_ENTRY_LENGTH * wide(t.types);
+    let end = start + wide(member_length(t.form)) * wide(t.members);
+    Ok(Ground {
+        value: value_at(table, wide(entry)),
+        start,
+        end,
+    })
 }

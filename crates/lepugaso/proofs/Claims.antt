@@ -15,6 +15,7 @@ use Rattle.paths.proofs.view.view_at.Reads as viewing
 use Rattle.paths.proofs.set.set.Reads as setting
 use Rattle.lepugaso.specs.Claim.{Writes, Reads, Views, Sets}
 use Rattle.said.specs.declared.refusal.Refusal.{Refusal}
+use Rattle.said.specs.declared.target.Target.{Target}
 
 pub write_learnt : (κs : Lfts 3) (file words : Bor (List ℕ)) (buf : MutBor (List ℕ)) (e : ℕ) (r : Result ℕ Refusal) (b' : List ℕ) → writing.Learnt κs (file, (e, (words, (buf, tt)))) r (file, (e, (words, (at_last buf b', tt)))) → Writes file.now e words.now buf.now r b'
 write_learnt κs file words buf e r b' h = record { answer = h.0; buffer = h.1 }

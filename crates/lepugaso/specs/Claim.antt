@@ -7,6 +7,7 @@ use Rattle.wgsl.specs.Call.{answer_of, contents_of, read_call, write_call, view_
 use Rattle.said.specs.Target.{reached}
 use Rattle.said.specs.declared.refusal.Refusal.{Refusal}
 use Rattle.said.specs.Answer.{said}
+use Rattle.said.specs.declared.target.Target.{Target}
 
 -- `write` of the words ws as entry e of the file f into the buffer b answers r and leaves b' in the buffer
 pub record Writes (f : List ℕ) (e : ℕ) (ws b : List ℕ) (r : Result ℕ Refusal) (b' : List ℕ) : Type 0 where

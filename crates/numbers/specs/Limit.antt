@@ -1,4 +1,4 @@
--- What the answer `Limited` says: the number, if it is within document 01's limit.
+-- A number, if it is within the limit of 4,294,967,295.
 -- Definitions only. Assumes nothing.
 use Rattle.std.specs.Prelude.{ℕ, cond, None, Option, Some}
 use Rattle.wgsl.specs.Round.{within_limit}

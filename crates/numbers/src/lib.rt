@@ -3,6 +3,5 @@
 
 pub mod bytes;
 pub mod limit;
-pub mod order;
 pub mod power;
 pub mod wide;

@@ -68,14 +68,8 @@ fn check_entry_at(file: &[u8], e: usize, g: Ground, table: &[Row], order: &[u32]
 pub fn check_order(file: &[u8], entry: u32, order: &[u32]) -> Result<u32, Refusal>
     ensures { said result ≡ order_call file.now entry order.now }
 {
-    match check_trailer(file) {
-        Err(r) => Err(r),
-        Ok(t) => {
-            let mut table = blank();
-            match find(file, t, entry, &mut table) {
-                Err(r) => Err(r),
-                Ok(g) => check_entry_at(file, wide(entry), g, &table, order),
-            }
-        }
-    }
+    let trailer = check_trailer(file)?;
+    let mut table = blank();
+    let found = find(file, trailer, entry, &mut table)?;
+    check_entry_at(file, wide(entry), found, &table, order)
 }

@@ -49,14 +49,8 @@ pub fn plan_order(file: &[u8], entry: u32, order: &mut [u32]) -> Result<u32, Ref
     ensures answer { said result ≡ answer_of (plan_call file.now entry order.old) }
     ensures list { order.new ≡ contents_of order.old (plan_call file.now entry order.old) }
 {
-    match check_trailer(file) {
-        Err(r) => Err(r),
-        Ok(t) => {
-            let mut table = blank();
-            match find(file, t, entry, &mut table) {
-                Err(r) => Err(r),
-                Ok(g) => plan_entry_at(file, wide(entry), g, &table, order),
-            }
-        }
-    }
+    let trailer = check_trailer(file)?;
+    let mut table = blank();
+    let found = find(file, trailer, entry, &mut table)?;
+    plan_entry_at(file, wide(entry), found, &table, order)
 }

@@ -28,6 +28,7 @@ use Rattle.orders_check.proofs.Reordered.{reordered_count, reordered_after, reor
 use Rattle.orders_check.proofs.Entries.{Coming, Ordered}
 use Rattle.layout_values.specs.declared.value.Broken.{Broken}
 use Rattle.layout_values.specs.declared.value.Broken.TheVariants.{Rule}
+use Rattle.layout_structs.specs.declared.Ends.{Ends}
 
 pub record Walked (ms : Members) (order : List ℕ) (i : ℕ) (run : Result Ends Broken) : Type 0 where
   pub members : Members

@@ -31,10 +31,8 @@ fn integer_of(t: Target) -> Result<Target, Refusal>
 fn integer_at(file: &[u8], entry: u32, path: &[u32], bytes: usize) -> Result<Target, Refusal>
     ensures { (b : List ℕ) → length b ≡ bytes → said result ≡ found_in (integer_at file.now entry path.now b) }
 {
-    match locate(file, entry, path, bytes, true) {
-        Err(r) => Err(r),
-        Ok(t) => integer_of(t),
-    }
+    let target = locate(file, entry, path, bytes, true)?;
+    integer_of(target)
 }
 
 // The field of the scalar `t`, as a word.
@@ -74,10 +72,8 @@ pub fn extract_bits(
 ) -> Result<u32, Refusal>
     ensures { said result ≡ extract_call file.now entry path.now buf.now offset count }
 {
-    match integer_at(file, entry, path, buf.len()) {
-        Err(r) => Err(r),
-        Ok(t) => Ok(field_of(t, offset, count, buf)),
-    }
+    let target = integer_at(file, entry, path, buf.len())?;
+    Ok(field_of(target, offset, count, buf))
 }
 
 // Puts the low bits of `newbits` there, by WGSL's insertBits, and answers the scalar's offset. Every other bit stays.
@@ -94,8 +90,6 @@ pub fn insert_bits(
     ensures answer { said result ≡ answer_of (insert_call file.now entry path.now newbits offset count buf.old) }
     ensures buffer { buf.new ≡ contents_of buf.old (insert_call file.now entry path.now newbits offset count buf.old) }
 {
-    match integer_at(file, entry, path, buf.len()) {
-        Err(r) => Err(r),
-        Ok(t) => put_field(t, newbits, offset, count, buf),
-    }
+    let target = integer_at(file, entry, path, buf.len())?;
+    put_field(target, newbits, offset, count, buf)
 }

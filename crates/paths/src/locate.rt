@@ -23,10 +23,8 @@ fn held_open(x: Rest, bytes: usize) -> Option<Held>
     requires { (t : Ty) × Opening t x × (bytes ≤ limit) }
     ensures { (t : Ty) (b : List ℕ) → Opening t x → length b ≡ bytes → result ≡ held_of t b }
 {
-    match elements_in(bytes, x.offset, x.value.stride) {
-        None => None,
-        Some(n) => Some(Held(n, x.offset + n * wide(x.value.stride))),
-    }
+    let n = elements_in(bytes, x.offset, x.value.stride)?;
+    Some(Held(n, x.offset + n * wide(x.value.stride)))
 }
 
 // 15: for an entry of the value `l` and a buffer of so many bytes.
@@ -56,10 +54,8 @@ fn target_in(
     requires { (f : List ℕ) × (t : Ty) × Viewable f members.now table.now e l t × (bytes ≤ limit) }
     ensures { (f : List ℕ) (t : Ty) (b : List ℕ) → Viewable f members.now table.now e l t → length b ≡ bytes → said result ≡ reached (target_in t path.now b) }
 {
-    match held_of(members, table, l, bytes) {
-        None => Err(Refusal::Buffer),
-        Some(Held(n, size)) => walk(members, table, n, Stand::Entry(e), size, path, 0, 0),
-    }
+    let Held(n, size) = held_of(members, table, l, bytes).ok_or(Refusal::Buffer)?;
+    walk(members, table, n, Stand::Entry(e), size, path, 0, 0)
 }
 
 // 17, 9, 10, and then the rest.
@@ -76,14 +72,10 @@ fn target_at(
     ensures { (t : Ty) (b : List ℕ) → Meant file.now e g table.now t → length b ≡ bytes → said result ≡ reached (target_call stored file.now e path.now b) }
 {
     let l = g.value;
-    match allow(l, bytes, stored) {
-        Err(r) => Err(r),
-        Ok(()) => {
-            let start = g.start;
-            let end = g.end;
-            target_in(&file[start..end], table, e, l, path, bytes)
-        }
-    }
+    allow(l, bytes, stored)?;
+    let start = g.start;
+    let end = g.end;
+    target_in(&file[start..end], table, e, l, path, bytes)
 }
 
 // What `path` leads to from entry `entry` in a buffer of so many bytes; `stored` says that the entry must be storable.
@@ -91,14 +83,8 @@ fn target_at(
 pub fn locate(file: &[u8], entry: u32, path: &[u32], bytes: usize, stored: bool) -> Result<Target, Refusal>
     ensures { (b : List ℕ) → length b ≡ bytes → said result ≡ reached (target_call stored file.now entry path.now b) }
 {
-    match check_trailer(file) {
-        Err(r) => Err(r),
-        Ok(t) => {
-            let mut table = blank();
-            match find(file, t, entry, &mut table) {
-                Err(r) => Err(r),
-                Ok(g) => target_at(file, wide(entry), g, &table, path, bytes, stored),
-            }
-        }
-    }
+    let trailer = check_trailer(file)?;
+    let mut table = blank();
+    let found = find(file, trailer, entry, &mut table)?;
+    target_at(file, wide(entry), found, &table, path, bytes, stored)
 }

@@ -106,8 +106,6 @@ pub fn set(file: &[u8], entry: u32, path: &[u32], words: &[u32], buf: &mut [u8])
     ensures answer { said result ≡ answer_of (set_call file.now entry path.now words.now buf.old) }
     ensures buffer { buf.new ≡ contents_of buf.old (set_call file.now entry path.now words.now buf.old) }
 {
-    match locate(file, entry, path, buf.len(), true) {
-        Err(r) => Err(r),
-        Ok(t) => set_scalar(t, words, buf),
-    }
+    let target = locate(file, entry, path, buf.len(), true)?;
+    set_scalar(target, words, buf)
 }

@@ -2,7 +2,7 @@
 ghost use Rattle.std.specs.Prelude.{◌≡◌, ◌%◌, ◌^◌};
 ghost use Rattle.said.specs.Refusal.{number_of, place_of};
 
-#[derive(Clone, Copy)]
+#[derive(Clone, Copy, Debug, PartialEq, Eq)]
 pub enum Refusal {
     // 1 to 4: the file below 10 bytes, its form, its counts, its length
     Short,
@@ -47,52 +47,55 @@ pub enum Refusal {
     NoConversion,
 }
 
-pub fn number(r: Refusal) -> u32
-    ensures { result ≡ number_of r }
-{
-    match r {
-        Refusal::Short => 1,
-        Refusal::Form => 2,
-        Refusal::Counts => 3,
-        Refusal::Length => 4,
-        Refusal::Rule(_) => 5,
-        Refusal::Given(_) => 6,
-        Refusal::Large(_) => 7,
-        Refusal::Missing => 8,
-        Refusal::Absent => 9,
-        Refusal::Unstorable => 10,
-        Refusal::NoMember(_) => 11,
-        Refusal::PastEnd(_) => 12,
-        Refusal::NoIndex(_) => 13,
-        Refusal::Count => 14,
-        Refusal::Buffer => 15,
-        Refusal::Word(_) => 16,
-        Refusal::Long => 17,
-        Refusal::NoRank => 18,
-        Refusal::NotUniform(_) => 19,
-        Refusal::Named => 20,
-        Refusal::NoSite => 21,
-        Refusal::NoOrder => 23,
-        Refusal::Stray(_) => 24,
-        Refusal::NoConversion => 25,
+impl Refusal {
+    // The papers' number.
+    pub fn number(self) -> u32
+        ensures { result ≡ number_of self }
+    {
+        match self {
+            Refusal::Short => 1,
+            Refusal::Form => 2,
+            Refusal::Counts => 3,
+            Refusal::Length => 4,
+            Refusal::Rule(_) => 5,
+            Refusal::Given(_) => 6,
+            Refusal::Large(_) => 7,
+            Refusal::Missing => 8,
+            Refusal::Absent => 9,
+            Refusal::Unstorable => 10,
+            Refusal::NoMember(_) => 11,
+            Refusal::PastEnd(_) => 12,
+            Refusal::NoIndex(_) => 13,
+            Refusal::Count => 14,
+            Refusal::Buffer => 15,
+            Refusal::Word(_) => 16,
+            Refusal::Long => 17,
+            Refusal::NoRank => 18,
+            Refusal::NotUniform(_) => 19,
+            Refusal::Named => 20,
+            Refusal::NoSite => 21,
+            Refusal::NoOrder => 23,
+            Refusal::Stray(_) => 24,
+            Refusal::NoConversion => 25,
+        }
     }
-}
 
-// The lowest 32 bits of a place. Places are entries, below 256, members, below 1,024, positions of steps, and positions of words, below 2^31. A path leads at
-// most once through each entry, and then to a column and to its scalar, so that no bad step's position is above 256.
-pub fn place(r: Refusal) -> u32
-    ensures { result ≡ place_of r % 2 ^ 32 }
-{
-    match r {
-        Refusal::Rule(k) => (k % 0x1_0000_0000) as u32,
-        Refusal::Given(k) => (k % 0x1_0000_0000) as u32,
-        Refusal::Large(k) => (k % 0x1_0000_0000) as u32,
-        Refusal::NoMember(k) => (k % 0x1_0000_0000) as u32,
-        Refusal::PastEnd(k) => (k % 0x1_0000_0000) as u32,
-        Refusal::NoIndex(k) => (k % 0x1_0000_0000) as u32,
-        Refusal::Word(k) => (k % 0x1_0000_0000) as u32,
-        Refusal::NotUniform(k) => (k % 0x1_0000_0000) as u32,
-        Refusal::Stray(k) => (k % 0x1_0000_0000) as u32,
-        _ => 0,
+    // The lowest 32 bits of its place; 0 where it has none. Places are entries, below 256, members, below 1,024, positions of steps, and positions of
+    // words, below 2^31. A path leads at most once through each entry, and then to a column and to its scalar, so that no bad step's position is above 256.
+    pub fn place(self) -> u32
+        ensures { result ≡ place_of self % 2 ^ 32 }
+    {
+        match self {
+            Refusal::Rule(k)
+            | Refusal::Given(k)
+            | Refusal::Large(k)
+            | Refusal::NoMember(k)
+            | Refusal::PastEnd(k)
+            | Refusal::NoIndex(k)
+            | Refusal::Word(k)
+            | Refusal::NotUniform(k)
+            | Refusal::Stray(k) => (k % 0x1_0000_0000) as u32,
+            _ => 0,
+        }
     }
 }

@@ -5,10 +5,9 @@ use crate::refusal::Refusal;
 pub const NO_SCALAR: u32 = 7;
 
 // What a path leads to: its offset, its bytes, and the kind of the one scalar that it is, or `NO_SCALAR`.
-#[derive(Clone, Copy)]
+#[derive(Clone, Copy, Debug, PartialEq, Eq)]
 pub struct Target {
     pub offset: usize,
     pub size: usize,
     pub scalar: u32,
 }
-

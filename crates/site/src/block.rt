@@ -49,15 +49,11 @@ pub fn is_block(l: Value, mask: u64) -> bool
 fn allow_block(l: Value, mask: u64, bytes: usize) -> Result<(), Refusal>
     ensures { (t : Ty) → l ≡ value_of l.stride l.reference t → everywhere is_well_formed t ≡ true → said result ≡ block_allowed mask t bytes }
 {
-    match allow(l, bytes, true) {
-        Err(r) => Err(r),
-        Ok(()) => {
-            if is_block(l, mask) {
-                return Ok(());
-            }
-            Err(Refusal::NoSite)
-        }
+    allow(l, bytes, true)?;
+    if is_block(l, mask) {
+        return Ok(());
     }
+    Err(Refusal::NoSite)
 }
 
 // Fills the table, and finds in it the block that entry `entry` is with this mask. Refuses 1 to 7, 24, 8, 17, 9, 10, 21.
@@ -65,17 +61,9 @@ pub fn find_block(file: &[u8], entry: u32, mask: u64, bytes: usize, table: &mut 
     requires { table.old ≡ blank_table }
     ensures { said_ground result table.new ≡ block_ground file.now entry mask bytes }
 {
-    match check_trailer(file) {
-        Err(r) => Err(r),
-        Ok(t) => match find(file, t, entry, table) {
-            Err(r) => Err(r),
-            Ok(g) => {
-                let l = g.value;
-                match allow_block(l, mask, bytes) {
-                    Err(r) => Err(r),
-                    Ok(()) => Ok(g),
-                }
-            }
-        },
-    }
+    let trailer = check_trailer(file)?;
+    let found = find(file, trailer, entry, table)?;
+    let l = found.value;
+    allow_block(l, mask, bytes)?;
+    Ok(found)
 }

@@ -29,9 +29,7 @@ fn member_there(members: &[u8], table: &[Row], e: usize, k: u32) -> Result<(), R
     };
     match enter(members, table, 0, Stand::Entry(e), step) {
         Ok(_) => Ok(()),
-        Err(NoStep::NoMember) => Err(Refusal::NoMember(0)),
-        Err(NoStep::PastEnd) => Err(Refusal::PastEnd(0)),
-        Err(NoStep::NoIndex) => Err(Refusal::NoIndex(0)),
+        Err(step) => Err(step.at(0)),
     }
 }
 
@@ -51,10 +49,8 @@ fn can_clear(file: &[u8], entry: u32, k: u32, mask: u64) -> Result<(), Refusal>
     ensures { said result ≡ can_clear file.now entry k mask }
 {
     let mut table = blank();
-    match find_block(file, entry, mask, 0, &mut table) {
-        Err(r) => Err(r),
-        Ok(g) => there_in(file, wide(entry), g, &table, k),
-    }
+    let found = find_block(file, entry, mask, 0, &mut table)?;
+    there_in(file, wide(entry), found, &table, k)
 }
 
 // Drops the bit of member `k`, which shows the factory's bytes again; the answer is 0.
@@ -64,11 +60,7 @@ pub fn clear(file: &[u8], entry: u32, k: u32, mask: &mut u64) -> Result<u32, Ref
     ensures mask { mask.new ≡ mask_after mask.old (clear_call file.now entry k mask.old) }
 {
     let m = *mask;
-    match can_clear(file, entry, k, m) {
-        Err(r) => Err(r),
-        Ok(()) => {
-            *mask = without_bit(m, k);
-            Ok(0)
-        }
-    }
+    can_clear(file, entry, k, m)?;
+    *mask = without_bit(m, k);
+    Ok(0)
 }

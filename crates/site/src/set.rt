@@ -30,13 +30,9 @@ fn store_in(s: Spot, on: bool, words: &[u32], factory: &[u8], site: &mut [u8]) -
     ensures { (u : path.Target) → InBuffer s.target u (length site.old) → Answered (set_target u words.now (brought_in on s.from s.size factory.now site.old)) result site.old site.new }
 {
     let target = s.target;
-    match fit_scalar(target, words) {
-        Err(r) => Err(r),
-        Ok(()) => {
-            bring(on, s.from, s.size, factory, site);
-            set_scalar(target, words, site)
-        }
-    }
+    fit_scalar(target, words)?;
+    bring(on, s.from, s.size, factory, site);
+    set_scalar(target, words, site)
 }
 
 // Stores `words` in the one scalar that `path` leads to from member `k`, in the site buffer, and sets the member's bit; where it was clear,
@@ -57,14 +53,8 @@ pub fn set(
     ensures mask { mask.new ≡ mask_set mask.old (site_set_call file.now entry k path.now words.now mask.old factory.now site.old) }
 {
     let m = *mask;
-    match locate_in(file, entry, k, path, m, factory.len(), site.len()) {
-        Err(r) => Err(r),
-        Ok(s) => match store_in(s, bit(m, k), words, factory, site) {
-            Err(r) => Err(r),
-            Ok(at) => {
-                *mask = with_bit(m, k);
-                Ok(at)
-            }
-        },
-    }
+    let spot = locate_in(file, entry, k, path, m, factory.len(), site.len())?;
+    let at = store_in(spot, bit(m, k), words, factory, site)?;
+    *mask = with_bit(m, k);
+    Ok(at)
 }

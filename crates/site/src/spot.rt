@@ -37,10 +37,8 @@ fn spot_from(members: &[u8], table: &[Row], i: Inner, path: &[u32]) -> Result<Sp
     let from = i.offset;
     let size = i.size;
     let stand = i.stand;
-    match walk(members, table, 0, stand, size, path, 0, from) {
-        Err(r) => Err(r),
-        Ok(target) => Ok(Spot { from, size, target }),
-    }
+    let target = walk(members, table, 0, stand, size, path, 0, from)?;
+    Ok(Spot { from, size, target })
 }
 
 // Member `k` of entry `e`, and what `path` leads to in it.
@@ -54,9 +52,7 @@ fn spot_at(members: &[u8], table: &[Row], e: usize, k: u32, path: &[u32]) -> Res
     };
     match enter(members, table, 0, Stand::Entry(e), step) {
         Ok(i) => spot_from(members, table, i, path),
-        Err(NoStep::NoMember) => Err(Refusal::NoMember(0)),
-        Err(NoStep::PastEnd) => Err(Refusal::PastEnd(0)),
-        Err(NoStep::NoIndex) => Err(Refusal::NoIndex(0)),
+        Err(step) => Err(step.at(0)),
     }
 }
 
@@ -97,8 +93,6 @@ pub fn locate_in(
     ensures { (a b : List ℕ) → length a ≡ factory → length b ≡ site → said result ≡ spot_call file.now entry k path.now mask a b }
 {
     let mut table = blank();
-    match find_block(file, entry, mask, longer(factory, site), &mut table) {
-        Err(r) => Err(r),
-        Ok(g) => spot_in(file, wide(entry), g, &table, k, path, factory, site),
-    }
+    let found = find_block(file, entry, mask, longer(factory, site), &mut table)?;
+    spot_in(file, wide(entry), found, &table, k, path, factory, site)
 }

@@ -18,13 +18,9 @@ pub fn inheriting(file: &[u8], entry: u32, mask: &mut u64) -> Result<u32, Refusa
     ensures mask { mask.new ≡ mask_after mask.old (inheriting_call file.now entry) }
 {
     let mut table = blank();
-    match find_block(file, entry, 0, 0, &mut table) {
-        Err(r) => Err(r),
-        Ok(_) => {
-            *mask = 0;
-            Ok(0)
-        }
-    }
+    let found = find_block(file, entry, 0, 0, &mut table)?;
+    *mask = 0;
+    Ok(0)
 }
 
 // Copies the first `size` bytes; later bytes of the site buffer stay.
@@ -45,16 +41,12 @@ pub fn fresh(file: &[u8], entry: u32, factory: &[u8], site: &mut [u8], mask: &mu
 {
     let mut table = blank();
     let bytes = longer(factory.len(), site.len());
-    match find_block(file, entry, 0, bytes, &mut table) {
-        Err(r) => Err(r),
-        Ok(g) => {
-            let size = wide(g.value.size);
-            if both_have(size, factory.len(), site.len()) {
-                copy_first(size, factory, site);
-                mark_all(mask, g.value.count);
-                return Ok(0);
-            }
-            Err(Refusal::Buffer)
-        }
+    let found = find_block(file, entry, 0, bytes, &mut table)?;
+    let size = wide(found.value.size);
+    if both_have(size, factory.len(), site.len()) {
+        copy_first(size, factory, site);
+        mark_all(mask, found.value.count);
+        return Ok(0);
     }
+    Err(Refusal::Buffer)
 }

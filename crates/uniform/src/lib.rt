@@ -115,14 +115,10 @@ fn uniform_at(file: &[u8], e: usize, g: Ground, table: &[Row]) -> Result<u32, Re
     requires { (t : Ty) × Meant file.now e g table.now t }
     ensures { (t : Ty) → Meant file.now e g table.now t → said result ≡ uniform_call file.now e }
 {
-    match may_live(g.value) {
-        Err(r) => Err(r),
-        Ok(()) => {
-            let start = g.start;
-            let end = g.end;
-            verdict(lowest_broken(&file[start..end], table, e))
-        }
-    }
+    may_live(g.value)?;
+    let start = g.start;
+    let end = g.end;
+    verdict(lowest_broken(&file[start..end], table, e))
 }
 
 // Whether entry `entry` may live in a uniform buffer: 0, or what is in the way.
@@ -130,14 +126,8 @@ fn uniform_at(file: &[u8], e: usize, g: Ground, table: &[Row]) -> Result<u32, Re
 pub fn uniform(file: &[u8], entry: u32) -> Result<u32, Refusal>
     ensures { said result ≡ uniform_call file.now entry }
 {
-    match check_trailer(file) {
-        Err(r) => Err(r),
-        Ok(t) => {
-            let mut table = blank();
-            match find(file, t, entry, &mut table) {
-                Err(r) => Err(r),
-                Ok(g) => uniform_at(file, wide(entry), g, &table),
-            }
-        }
-    }
+    let trailer = check_trailer(file)?;
+    let mut table = blank();
+    let found = find(file, trailer, entry, &mut table)?;
+    uniform_at(file, wide(entry), found, &table)
 }

@@ -20,6 +20,8 @@ use Rattle.said.specs.declared.refusal.Refusal.{Refusal}
 use Rattle.walk_path.specs.declared.enter.NoStep.{NoStep}
 use Rattle.walk_path.specs.declared.enter.NoStep.TheVariants.{NoIndex, NoMember, PastEnd}
 use Rattle.said.specs.Answer.{said}
+use Rattle.said.specs.declared.target.Target.{Target}
+use Rattle.walk_path.specs.declared.enter.Inner.{Inner}
 
 -- ---- what a value says, where a runtime array has n elements
 

@@ -46,8 +46,6 @@ pub fn walk(
                 offset + i.offset,
             )
         }
-        Err(NoStep::NoMember) => Err(Refusal::NoMember(k)),
-        Err(NoStep::PastEnd) => Err(Refusal::PastEnd(k)),
-        Err(NoStep::NoIndex) => Err(Refusal::NoIndex(k)),
+        Err(step) => Err(step.at(k)),
     }
 }

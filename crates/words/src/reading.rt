@@ -93,10 +93,8 @@ fn read_open(
     ensures { OpenRead members.now table.now e l buf.now result words.old words.new }
 {
     let x = rest_of(members, table, l);
-    match elements_in(buf.len(), x.offset, x.value.stride) {
-        None => Err(Refusal::Buffer),
-        Some(n) => read_elements(members, table, e, x, n, buf, words),
-    }
+    let n = elements_in(buf.len(), x.offset, x.value.stride).ok_or(Refusal::Buffer)?;
+    read_elements(members, table, e, x, n, buf, words)
 }
 
 // 17, 9, 10, and then the rest.
@@ -112,18 +110,14 @@ fn read_entry_at(
     ensures { MeantRead file.now e g table.now buf.now result words.old words.new }
 {
     let l = g.value;
-    match allow(l, buf.len(), true) {
-        Err(r) => Err(r),
-        Ok(()) => {
-            let start = g.start;
-            let end = g.end;
-            let members = &file[start..end];
-            if opens(l) {
-                return read_open(members, table, e, l, buf, words);
-            }
-            read_closed(members, table, e, l, buf, words)
-        }
+    allow(l, buf.len(), true)?;
+    let start = g.start;
+    let end = g.end;
+    let members = &file[start..end];
+    if opens(l) {
+        return read_open(members, table, e, l, buf, words);
     }
+    read_closed(members, table, e, l, buf, words)
 }
 
 // Reads the words of entry `entry` from the buffer's first bytes; answers their number. Later words stay.
@@ -132,14 +126,8 @@ pub fn read(file: &[u8], entry: u32, buf: &[u8], words: &mut [u32]) -> Result<u3
     ensures answer { said result ≡ answer_of (read_call file.now entry buf.now words.old) }
     ensures words { words.new ≡ contents_of words.old (read_call file.now entry buf.now words.old) }
 {
-    match check_trailer(file) {
-        Err(r) => Err(r),
-        Ok(t) => {
-            let mut table = blank();
-            match find(file, t, entry, &mut table) {
-                Err(r) => Err(r),
-                Ok(g) => read_entry_at(file, wide(entry), g, &table, buf, words),
-            }
-        }
-    }
+    let trailer = check_trailer(file)?;
+    let mut table = blank();
+    let found = find(file, trailer, entry, &mut table)?;
+    read_entry_at(file, wide(entry), found, &table, buf, words)
 }

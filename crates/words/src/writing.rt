@@ -94,13 +94,9 @@ fn write_whole(
     ensures { WholeWritten members.now table.now e x extent words.now result buf.old buf.new }
 {
     let mut pieces = no_pieces();
-    match fit(scan(members, table, e, x, words, &mut pieces)) {
-        Err(r) => Err(r),
-        Ok(()) => {
-            store(members, table, e, x, wide(extent), words, buf, &mut pieces);
-            Ok(extent)
-        }
-    }
+    fit(scan(members, table, e, x, words, &mut pieces))?;
+    store(members, table, e, x, wide(extent), words, buf, &mut pieces);
+    Ok(extent)
 }
 
 // 14, 15, 16 for a type of fixed size.
@@ -137,20 +133,16 @@ fn write_elements(
     requires { (t : Ty) × TailedBy members.now table.now e x t × (length buf.old ≤ limit) × (length words.now ≡ word_count n t) }
     ensures { ElementsWritten members.now table.now e x n words.now result buf.old buf.new }
 {
-    match extent_for(buf.len(), x.offset, x.value.stride, n) {
-        None => Err(Refusal::Buffer),
-        Some(extent) => {
-            write_whole(
-                members,
-                table,
-                e,
-                open_rest(x, n as u32),
-                extent as u32,
-                words,
-                buf,
-            )
-        }
-    }
+    let extent = extent_for(buf.len(), x.offset, x.value.stride, n).ok_or(Refusal::Buffer)?;
+    write_whole(
+        members,
+        table,
+        e,
+        open_rest(x, n as u32),
+        extent as u32,
+        words,
+        buf,
+    )
 }
 
 // 14, 15, 16 for an open type.
@@ -166,10 +158,8 @@ fn write_open(
     ensures { OpenWritten members.now table.now e l words.now result buf.old buf.new }
 {
     let x = rest_of(members, table, l);
-    match elements_for(words.len(), x.fixed, x.value.unit) {
-        None => Err(Refusal::Count),
-        Some(n) => write_elements(members, table, e, x, n, words, buf),
-    }
+    let n = elements_for(words.len(), x.fixed, x.value.unit).ok_or(Refusal::Count)?;
+    write_elements(members, table, e, x, n, words, buf)
 }
 
 // 17, 9, 10, and then the rest.
@@ -185,18 +175,14 @@ fn write_entry_at(
     ensures { MeantWritten file.now e g table.now words.now result buf.old buf.new }
 {
     let l = g.value;
-    match allow(l, buf.len(), true) {
-        Err(r) => Err(r),
-        Ok(()) => {
-            let start = g.start;
-            let end = g.end;
-            let members = &file[start..end];
-            if opens(l) {
-                return write_open(members, table, e, l, words, buf);
-            }
-            write_closed(members, table, e, l, words, buf)
-        }
+    allow(l, buf.len(), true)?;
+    let start = g.start;
+    let end = g.end;
+    let members = &file[start..end];
+    if opens(l) {
+        return write_open(members, table, e, l, words, buf);
     }
+    write_closed(members, table, e, l, words, buf)
 }
 
 // Writes the words of entry `entry`, each at its place, and zero where none lies; answers the byte count.
@@ -205,14 +191,8 @@ pub fn write(file: &[u8], entry: u32, words: &[u32], buf: &mut [u8]) -> Result<u
     ensures answer { said result ≡ answer_of (write_call file.now entry words.now buf.old) }
     ensures buffer { buf.new ≡ contents_of buf.old (write_call file.now entry words.now buf.old) }
 {
-    match check_trailer(file) {
-        Err(r) => Err(r),
-        Ok(t) => {
-            let mut table = blank();
-            match find(file, t, entry, &mut table) {
-                Err(r) => Err(r),
-                Ok(g) => write_entry_at(file, wide(entry), g, &table, words, buf),
-            }
-        }
-    }
+    let trailer = check_trailer(file)?;
+    let mut table = blank();
+    let found = find(file, trailer, entry, &mut table)?;
+    write_entry_at(file, wide(entry), found, &table, words, buf)
 }

@@ -8,6 +8,7 @@ use Rattle.layout_structs.specs.SoFar.{Closes}
 use Rattle.layout_structs.proofs.Ended.{closes_placed, closes_unfit, closes_past}
 use Rattle.layout_structs.proofs.finish.Goals as goal
 use Rattle.layout_values.specs.declared.value.Broken.{Broken}
+use Rattle.layout_structs.specs.declared.Ends.{Ends}
 
 -- the run is the one that the arm names
 is : {r s : (Result Ends Broken)} (ms : Members) → r ≡ s → Closes r ms → Closes s ms
