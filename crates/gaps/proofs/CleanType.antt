@@ -43,7 +43,7 @@ module _ (f : List ℕ) (e : ℕ) (b : List ℕ) where
 
 -- ---- a type of fixed size
 
-module _ {ms : List ℕ} {table : List (List ℕ)} {e : ℕ} {l : Value} {t : Ty} (r : Ready ms table e l t) (o : is_open t ≡ false) (b : List ℕ) where
+module _ {ms : List ℕ} {table : List Value} {e : ℕ} {l : Value} {t : Ty} (r : Ready ms table e l t) (o : is_open t ≡ false) (b : List ℕ) where
   pub few_bytes : length b < l.size → clean_type t b ≡ refused 15 0
   unfolding clean_type is_short ◌>>◌ refuse
   few_bytes h = rw (o, ← size_is r, lt-ltb (length b) l.size h) refl
@@ -54,7 +54,7 @@ module _ {ms : List ℕ} {table : List (List ℕ)} {e : ℕ} {l : Value} {t : Ty
 
 -- ---- an open type
 
-module _ {ms : List ℕ} {table : List (List ℕ)} {e : ℕ} {x : Rest} {t : Ty} (y : TailedBy ms table e x t) (b : List ℕ) where
+module _ {ms : List ℕ} {table : List Value} {e : ℕ} {x : Rest} {t : Ty} (y : TailedBy ms table e x t) (b : List ℕ) where
   pub no_elements : elements_found (length b) x.offset x.value.stride ≡ None → clean_type t b ≡ refused 15 0
   unfolding clean_type ◌>>◌ refuse
   no_elements h =
@@ -71,7 +71,7 @@ module _ {ms : List ℕ} {table : List (List ℕ)} {e : ℕ} {x : Rest} {t : Ty}
 -- ---- an entry with n elements
 
 -- Both parts swept, and then what is left up to the extent, are the whole cleaned.
-pub swept_whole : {ms : List ℕ} {table : List (List ℕ)} {e : ℕ} {x : Rest} {t : Ty} {n : ℕ} (w : Whole ms table e x t n) → Ordered (places n t) 0 (extent_of n t) → (b : List ℕ) → extent_of n t ≤ length b → (s : Swept) → s ≡ swept_to (extent_of n t) (over_places sweeping (places_of w.rest x.offset) 0 (over_places sweeping (places_of (shape_of 0 t) 0) 0 (record { bytes = b; from = 0; changed = 0; first = extent_of n t }))) → record { changed = s.changed; first = s.first; contents = s.bytes } ≡ done_from (extent_of n t) b (cleaned n t b)
+pub swept_whole : {ms : List ℕ} {table : List Value} {e : ℕ} {x : Rest} {t : Ty} {n : ℕ} (w : Whole ms table e x t n) → Ordered (places n t) 0 (extent_of n t) → (b : List ℕ) → extent_of n t ≤ length b → (s : Swept) → s ≡ swept_to (extent_of n t) (over_places sweeping (places_of w.rest x.offset) 0 (over_places sweeping (places_of (shape_of 0 t) 0) 0 (record { bytes = b; from = 0; changed = 0; first = extent_of n t }))) → record { changed = s.changed; first = s.first; contents = s.bytes } ≡ done_from (extent_of n t) b (cleaned n t b)
 unfolding cleaned
 swept_whole {x = x} {t = t} {n = n} w o b room s is =
     let start : Swept = record { bytes = b; from = 0; changed = 0; first = extent_of n t } in

@@ -16,18 +16,18 @@ use Rattle.walk_decide.specs.Meant.{Meant}
 use Rattle.said.specs.declared.refusal.Refusal.{Refusal}
 
 -- the entry with n elements is clean, and what changed is told
-abbrev pub WholeCleaned : List ℕ → List (List ℕ) → ℕ → Rest → ℕ → Gaps → List ℕ → List ℕ → Type 0
+abbrev pub WholeCleaned : List ℕ → List Value → ℕ → Rest → ℕ → Gaps → List ℕ → List ℕ → Type 0
 WholeCleaned ms table e x extent r before after =
     (t : Ty) (n : ℕ) → Whole ms table e x t n → extent ≡ extent_of n t → Ordered (places n t) 0 (extent_of n t) → (r ≡ gaps_is (done_from (extent_of n t) before (cleaned n t before))) × (after ≡ cleaned n t before)
 
-abbrev pub ClosedCleaned : List ℕ → List (List ℕ) → ℕ → Value → Result Gaps Refusal → List ℕ → List ℕ → Type 0
+abbrev pub ClosedCleaned : List ℕ → List Value → ℕ → Value → Result Gaps Refusal → List ℕ → List ℕ → Type 0
 ClosedCleaned ms table e l r before after =
     (t : Ty) → Ready ms table e l t → is_open t ≡ false → AnsweredClean (clean_type t before) r before after
 
-abbrev pub OpenCleaned : List ℕ → List (List ℕ) → ℕ → Value → Result Gaps Refusal → List ℕ → List ℕ → Type 0
+abbrev pub OpenCleaned : List ℕ → List Value → ℕ → Value → Result Gaps Refusal → List ℕ → List ℕ → Type 0
 OpenCleaned ms table e l r before after =
     (t : Ty) → Tailed ms table e l t → AnsweredClean (clean_type t before) r before after
 
-abbrev pub MeantCleaned : List ℕ → ℕ → Ground → List (List ℕ) → Result Gaps Refusal → List ℕ → List ℕ → Type 0
+abbrev pub MeantCleaned : List ℕ → ℕ → Ground → List Value → Result Gaps Refusal → List ℕ → List ℕ → Type 0
 MeantCleaned f e g table r before after =
     (t : Ty) → Meant f e g table t → AnsweredClean (clean_call f e before) r before after

@@ -15,7 +15,7 @@ use file::trailer::check_trailer;
 use gaps_sweep::gap::{Sweep, sweep_to};
 use gaps_walk::{sweep_entry, sweep_many};
 use layout_table::{Ground, find};
-use layout_values::value::{Row, Value, blank, opens};
+use layout_values::value::{Value, blank};
 use numbers::wide::wide;
 use said::answer::Gaps;
 use said::refusal::Refusal;
@@ -25,7 +25,7 @@ use walk_pieces::no_pieces;
 // Sweeps an entry of so many bytes: the fixed part, then the tail, then up to the end.
 fn clean_whole(
     members: &[u8],
-    table: &[Row],
+    table: &[Value],
     e: usize,
     x: Rest,
     extent: usize,
@@ -50,7 +50,7 @@ fn clean_whole(
 }
 
 // 15 for a type of fixed size.
-fn clean_closed(members: &[u8], table: &[Row], e: usize, l: Value, buf: &mut [u8]) -> Result<Gaps, Refusal>
+fn clean_closed(members: &[u8], table: &[Value], e: usize, l: Value, buf: &mut [u8]) -> Result<Gaps, Refusal>
     requires { ((t : Ty) × Ready members.now table.now e l t × (is_open t ≡ false)) × (length buf.old ≤ limit) }
     ensures { ClosedCleaned members.now table.now e l result buf.old buf.new }
 {
@@ -62,7 +62,7 @@ fn clean_closed(members: &[u8], table: &[Row], e: usize, l: Value, buf: &mut [u8
 }
 
 // 15 for an open type.
-fn clean_open(members: &[u8], table: &[Row], e: usize, l: Value, buf: &mut [u8]) -> Result<Gaps, Refusal>
+fn clean_open(members: &[u8], table: &[Value], e: usize, l: Value, buf: &mut [u8]) -> Result<Gaps, Refusal>
     requires { ((t : Ty) × Tailed members.now table.now e l t) × (length buf.old ≤ limit) }
     ensures { OpenCleaned members.now table.now e l result buf.old buf.new }
 {
@@ -73,7 +73,7 @@ fn clean_open(members: &[u8], table: &[Row], e: usize, l: Value, buf: &mut [u8])
 }
 
 // 17, 9, 10, and then the rest.
-fn clean_entry_at(file: &[u8], e: usize, g: Ground, table: &[Row], buf: &mut [u8]) -> Result<Gaps, Refusal>
+fn clean_entry_at(file: &[u8], e: usize, g: Ground, table: &[Value], buf: &mut [u8]) -> Result<Gaps, Refusal>
     requires { (t : Ty) × Meant file.now e g table.now t }
     ensures { MeantCleaned file.now e g table.now result buf.old buf.new }
 {
@@ -82,7 +82,7 @@ fn clean_entry_at(file: &[u8], e: usize, g: Ground, table: &[Row], buf: &mut [u8
     let start = g.start;
     let end = g.end;
     let members = &file[start..end];
-    if opens(l) {
+    if l.opens() {
         return clean_open(members, table, e, l, buf);
     }
     clean_closed(members, table, e, l, buf)

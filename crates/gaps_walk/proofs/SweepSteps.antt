@@ -18,20 +18,21 @@ use Rattle.walk_trees.proofs.Room.{each_room, type_tree}
 use Rattle.walk_trees.proofs.TreeSteps.{Turn, turn_start, turn_next, turn_none, Walk, walk_start, walk_first, walk_room, walk_next, walk_none}
 use Rattle.gaps_sweep.specs.Sweep.{Swept, sweeping, Sweeps, Countable}
 use Rattle.gaps_sweep.proofs.Sweep.{sweep_keeps, keeps_countable, any_number}
+use Rattle.layout_values.specs.declared.value.Value.{Value}
 
 -- ---- parts in turn
 
 -- i parts are swept, which led from s₀ to s
-pub record PartsSwept (ms : List ℕ) (table : List (List ℕ)) (e count unit stride at : ℕ) (s₀ : Swept) (i : ℕ) (s : Swept) : Type 0 where
+pub record PartsSwept (ms : List ℕ) (table : List Value) (e count unit stride at : ℕ) (s₀ : Swept) (i : ℕ) (s : Swept) : Type 0 where
   pub turn : Turn sweeping ms table e count unit stride at 0 s₀ i s
   pub long : length s.bytes ≡ length s₀.bytes
   pub countable : Countable s
 
-pub parts_start : (ms : List ℕ) (table : List (List ℕ)) (e count unit stride at : ℕ) {s₀ : Swept} → Countable s₀ → PartsSwept ms table e count unit stride at s₀ 0 s₀
+pub parts_start : (ms : List ℕ) (table : List Value) (e count unit stride at : ℕ) {s₀ : Swept} → Countable s₀ → PartsSwept ms table e count unit stride at s₀ 0 s₀
 parts_start ms table e count unit stride at {s₀} c =
     record { turn = turn_start sweeping ms table e count unit stride at 0 s₀; long = refl; countable = c }
 
-module _ {ms : List ℕ} {table : List (List ℕ)} {e count unit stride at : ℕ} {s₀ : Swept} {i : ℕ} {s : Swept} (now : PartsSwept ms table e count unit stride at s₀ i s) where
+module _ {ms : List ℕ} {table : List Value} {e count unit stride at : ℕ} {s₀ : Swept} {i : ℕ} {s : Swept} (now : PartsSwept ms table e count unit stride at s₀ i s) where
   pub part_ready : {y : Shape} {k words : ℕ} → EachRoom y count unit stride at (length s₀.bytes) k words → i < count → Room y (at + i * stride) (length s.bytes) (k + i * unit) words
   part_ready room h = rw now.long (each_room room h)
 
@@ -50,7 +51,7 @@ module _ {ms : List ℕ} {table : List (List ℕ)} {e count unit stride at : ℕ
 -- ---- members in turn
 
 -- so many members of entry e are left, from byte m on; those before them are swept, which led from s₀ to s, whatever the numbers of their words
-pub record MembersSwept (ms : List ℕ) (table : List (List ℕ)) (e at : ℕ) (s₀ : Swept) (left m end : ℕ) (s : Swept) : Type 0 where
+pub record MembersSwept (ms : List ℕ) (table : List Value) (e at : ℕ) (s₀ : Swept) (left m end : ℕ) (s : Swept) : Type 0 where
   pub k : ℕ
   pub words : ℕ
   pub next : ℕ
@@ -58,11 +59,11 @@ pub record MembersSwept (ms : List ℕ) (table : List (List ℕ)) (e at : ℕ) (
   pub long : length s.bytes ≡ length s₀.bytes
   pub countable : Countable s
 
-pub members_start_lem : {ms : List ℕ} {table : List (List ℕ)} {e at k words : ℕ} {s₀ : Swept} {x : Shape} → Tree ms table e x → (value_at table e).kind ≡ struct_kind → Room x at (length s₀.bytes) k words → Countable s₀ → MembersSwept ms table e at s₀ (value_at table e).count ((value_at table e).reference * (value_at table e).stride) 0 s₀
+pub members_start_lem : {ms : List ℕ} {table : List Value} {e at k words : ℕ} {s₀ : Swept} {x : Shape} → Tree ms table e x → (value_at table e).kind ≡ struct_kind → Room x at (length s₀.bytes) k words → Countable s₀ → MembersSwept ms table e at s₀ (value_at table e).count ((value_at table e).reference * (value_at table e).stride) 0 s₀
 members_start_lem {k} {words} {s₀} t kind room c =
     record { k = k; words = words; next = k; walk = walk_start sweeping s₀ t kind room; long = refl; countable = c }
 
-module _ {ms : List ℕ} {table : List (List ℕ)} {e at : ℕ} {s₀ : Swept} {left m end : ℕ} {s : Swept} (now : MembersSwept ms table e at s₀ left m end s) where
+module _ {ms : List ℕ} {table : List Value} {e at : ℕ} {s₀ : Swept} {left m end : ℕ} {s : Swept} (now : MembersSwept ms table e at s₀ left m end s) where
   pub member_ready : (h : 0 < left) → MemberRoom ms table m end (walk_first now.walk h).y at (length s.bytes) now.next now.words
   member_ready h = rw now.long (walk_room now.walk h)
 

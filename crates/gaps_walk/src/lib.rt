@@ -14,7 +14,7 @@ use file::kinds::STRUCT;
 use gaps_sweep::gap::Sweep;
 use gaps_sweep::parts::{sweep_parts, sweep_run};
 use gaps_sweep::pieces::sweep_each;
-use layout_values::value::{Row, Value, value_at, words_of};
+use layout_values::value::{Value, value_at};
 use numbers::wide::wide;
 use runs::Parts;
 use walk_pieces::{MOST, Pieces, pieces_of};
@@ -24,7 +24,7 @@ use walk_trees::{Series, packed, parts_of, slot_after};
 #[cycle(sweep_entry_sweep_many_sweep_struct)]
 pub fn sweep_entry(
     members: &[u8],
-    table: &[Row],
+    table: &[Value],
     e: usize,
     at: usize,
     buf: &mut [u8],
@@ -37,7 +37,7 @@ pub fn sweep_entry(
 {
     let l = value_at(table, e);
     if packed(l) == 4 {
-        return sweep_run(buf, s, at, wide(words_of(l)), 4);
+        return sweep_run(buf, s, at, wide(l.words()), 4);
     }
     if l.kind == STRUCT {
         return sweep_struct(members, table, e, l, at, buf, s, pieces);
@@ -49,7 +49,7 @@ pub fn sweep_entry(
 #[cycle(sweep_entry_sweep_many_sweep_struct)]
 pub fn sweep_many(
     members: &[u8],
-    table: &[Row],
+    table: &[Value],
     l: Value,
     at: usize,
     buf: &mut [u8],
@@ -90,7 +90,7 @@ pub fn sweep_many(
 #[cycle(sweep_entry_sweep_many_sweep_struct)]
 fn sweep_struct(
     members: &[u8],
-    table: &[Row],
+    table: &[Value],
     e: usize,
     l: Value,
     at: usize,

@@ -133,7 +133,7 @@ module _ (f : List ℕ) (e : ℕ) where
   unfolding entry_of
   found_no_trailer h = found_refused (then_refused _ (trailer_refused f h))
 
-  module _ (a : Result Ground Refusal) (table : List (List ℕ)) (says : said_ground a table ≡ ground_in f e) where
+  module _ (a : Result Ground Refusal) (table : List Value) (says : said_ground a table ≡ ground_in f e) where
     pub found_ground : (g : Ground) → a ≡ Ok g → good g.value ≡ value_found f e
     unfolding value_found ground_of
     found_ground g is =

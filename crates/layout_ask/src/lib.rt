@@ -14,7 +14,7 @@ ghost use Rattle.layout_ask.specs.ValueFound.{value_found, marked};
 use file::kinds::RUNTIME;
 use file::trailer::check_trailer;
 use layout_table::{accept, find};
-use layout_values::value::{Value, blank, stride_of};
+use layout_values::value::{Value, blank};
 use said::answer::Sizes;
 use said::refusal::Refusal;
 
@@ -104,6 +104,6 @@ pub fn layout(file: &[u8], entry: u32) -> Result<Sizes, Refusal>
             size: mark(value.size),
             align: mark(value.align),
             min: mark(least(value)),
-            stride: mark(stride_of(value)),
+            stride: mark(value.own_stride()),
         })
 }

@@ -11,7 +11,7 @@ ghost use Rattle.layout_values.specs.Value.{made_of, Known, value_of};
 use file::fields::TypeEntry;
 use file::kinds::{ABSTRACT_FLOAT, ARRAY, ATOMIC, F16, F32, I32, MATRIX, RUNTIME, U32, VECTOR, is_scalar};
 use layout_values::scalars::{scalar_size, scalar_words, unless_absent, vector_align, zeros};
-use layout_values::value::{Value, opens, stride_of, words_of};
+use layout_values::value::{Broken, Value};
 use numbers::limit::product;
 
 // "7 vector: rows 2-4, reference to a kind 0-6", or 13-15
@@ -113,10 +113,10 @@ pub fn array(e: TypeEntry, l: Value) -> Result<Value, Broken>
     if count < 1 {
         return Err(Broken::Rule);
     }
-    if opens(l) {
+    if l.opens() {
         return Err(Broken::Rule);
     }
-    let stride = stride_of(l);
+    let stride = l.own_stride();
     let Some(size) = product(count, stride) else {
         return Err(Broken::Large);
     };
@@ -125,7 +125,7 @@ pub fn array(e: TypeEntry, l: Value) -> Result<Value, Broken>
         narrow: l.narrow,
         reference: e.reference,
         count,
-        unit: words_of(l),
+        unit: l.words(),
         stride,
         size,
         align: l.align,
@@ -140,7 +140,7 @@ pub fn runtime(e: TypeEntry, l: Value) -> Result<Value, Broken>
     if !zeros(e.columns, e.rows, e.count, 0) {
         return Err(Broken::Rule);
     }
-    if opens(l) {
+    if l.opens() {
         return Err(Broken::Rule);
     }
     let align = l.align;
@@ -152,8 +152,8 @@ pub fn runtime(e: TypeEntry, l: Value) -> Result<Value, Broken>
         narrow: l.narrow,
         reference: e.reference,
         count: 0,
-        unit: words_of(l),
-        stride: stride_of(l),
+        unit: l.words(),
+        stride: l.own_stride(),
         size: 0,
         align,
     })

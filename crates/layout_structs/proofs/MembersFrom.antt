@@ -80,7 +80,7 @@ from_first f ts long r at n first k x e p = sym (rw (members_at_lem f ts n first
 -- ---- the lower entries
 
 -- the type of entry r, whose value the table holds
-pub record LowerFound (f : List ℕ) (table : List (List ℕ)) (ts : List Ty) (r : ℕ) : Type 0 where
+pub record LowerFound (f : List ℕ) (table : List Value) (ts : List Ty) (r : ℕ) : Type 0 where
   pub type : Ty
   pub is : lower ts r ≡ some type
   pub value : value_at table r ≡ value_of (member_length f) (type_entry_at f r).reference type
@@ -91,7 +91,7 @@ pub get_elem_below : {A : Type 0} (l : List A) (r : ℕ) → r < length l → (a
 get_elem_below [] r h = absurd (omega arith)
 get_elem_below (a ∷ l) r h = (get_or (a ∷ l) r a, get_elem_get_d (a ∷ l) r a h)
 
-pub lower_found : (f : List ℕ) (table : List (List ℕ)) (k : ℕ) (ts : List Ty) (r : ℕ) → Lower f table k ts → r < k → LowerFound f table ts r
+pub lower_found : (f : List ℕ) (table : List Value) (k : ℕ) (ts : List Ty) (r : ℕ) → Lower f table k ts → r < k → LowerFound f table ts r
 unfolding lower
 lower_found f table k ts r low h =
     let x : r < length ts = omega (arith, low.count) in
@@ -105,6 +105,6 @@ lower_found f table k ts r low h =
       well_formed = low.holds.well_formed r t.0 t.1;
     }
 
-pub lower_past : (f : List ℕ) (table : List (List ℕ)) (k : ℕ) (ts : List Ty) (r : ℕ) → Lower f table k ts → k ≤ r → lower ts r ≡ none
+pub lower_past : (f : List ℕ) (table : List Value) (k : ℕ) (ts : List Ty) (r : ℕ) → Lower f table k ts → k ≤ r → lower ts r ≡ none
 unfolding lower
 lower_past f table k ts r low h = get_elem_past ts r (omega (arith, low.count))

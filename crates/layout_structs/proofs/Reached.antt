@@ -78,7 +78,7 @@ pub record Coming (f : List ℕ) (ts : List Ty) (at i n : ℕ) (e : MemberEntry)
   pub layout : l ≡ value_of l.stride l.reference type
   pub well_formed : everywhere is_well_formed type ≡ true
 
-pub coming : {f : List ℕ} {ts : List Ty} {at i n : ℕ} {e : MemberEntry} (table : List (List ℕ)) (k r : ℕ) → Lower f table k ts → i < n → e ≡ member_entry_from f (at + member_length f * i) → r ≡ e.type → r < k → Coming f ts at i n e (value_at table r)
+pub coming : {f : List ℕ} {ts : List Ty} {at i n : ℕ} {e : MemberEntry} (table : List Value) (k r : ℕ) → Lower f table k ts → i < n → e ≡ member_entry_from f (at + member_length f * i) → r ≡ e.type → r < k → Coming f ts at i n e (value_at table r)
 coming {f} {ts} table k r low h e q l =
     let x = lower_found f table k ts r low l in
     record {
@@ -142,7 +142,7 @@ module _ {f : List ℕ} {ts : List Ty} {at i n : ℕ} {e : MemberEntry} {l : Val
       ∙ rw no (and-false (all_sized d.members)))
 
 -- A member whose type is not lower refuses the struct.
-pub reached_past : {f : List ℕ} {ts : List Ty} {at i n : ℕ} {e : MemberEntry} (table : List (List ℕ)) (long r k : ℕ) (run : Result Ends Broken) → Reached f ts at i n run → Lower f table k ts → i < n → e ≡ member_entry_from f (at + member_length f * i) → k ≤ e.type → made_of long r (and_then (members_at f ts at n) (λ ms. some (struct k ms))) ≡ Err Rule
+pub reached_past : {f : List ℕ} {ts : List Ty} {at i n : ℕ} {e : MemberEntry} (table : List Value) (long r k : ℕ) (run : Result Ends Broken) → Reached f ts at i n run → Lower f table k ts → i < n → e ≡ member_entry_from f (at + member_length f * i) → k ≤ e.type → made_of long r (and_then (members_at f ts at n) (λ ms. some (struct k ms))) ≡ Err Rule
 unfolding members_at and_then joined when
 reached_past {f} {ts} {at} {i} {n} {e} table long r k run d low l h past =
     refused_members f ts at long r i n k l

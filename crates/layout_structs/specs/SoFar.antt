@@ -134,12 +134,12 @@ pub record Spans (members : ℕ) (e : TypeEntry) (first count : ℕ) : Type 0 wh
   pub empty : e.kind ≡ struct_kind → count ≡ 0 → (f : List ℕ) (ts : List Ty) (k : ℕ) → members ≡ (trailer_of f).members → (Err Rule) ≡ made_of (member_length f) e.reference (struct_made f ts k e)
 
 -- the first entries of the table hold the values of these types of a file, which its rules leave
-pub record Holds (f : List ℕ) (table : List (List ℕ)) (ts : List Ty) : Type 0 where
+pub record Holds (f : List ℕ) (table : List Value) (ts : List Ty) : Type 0 where
   pub first : take (length ts) table ≡ values_from f 0 ts
   pub well_formed : (k : ℕ) (t : Ty) → get_elem? ts k ≡ some t → everywhere is_well_formed t ≡ true
 
 -- the table holds the values of the k lower entries, whose types are ts
-pub record Lower (f : List ℕ) (table : List (List ℕ)) (k : ℕ) (ts : List Ty) : Type 0 where
+pub record Lower (f : List ℕ) (table : List Value) (k : ℕ) (ts : List Ty) : Type 0 where
   pub holds : Holds f table ts
   pub count : length ts ≡ k
   pub few : k ≤ most_types

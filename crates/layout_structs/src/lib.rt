@@ -13,7 +13,7 @@ use file::fields::{MemberEntry, TypeEntry};
 use file::kinds::STRUCT;
 use layout_members::{align_fits, given_align, given_size, is_allowed, rest_is_zero, size_fits};
 use layout_values::scalars::zeros;
-use layout_values::value::{Value, opens, words_of};
+use layout_values::value::{Broken, Value};
 use numbers::limit::{round_up, sum};
 use numbers::order::{larger, smaller};
 use numbers::wide::wide;
@@ -50,7 +50,7 @@ fn join(p: Ends, l: Value, m: MemberEntry) -> SoFar
     };
     let most = larger(p.align, align);
     let narrow = smaller(p.narrow, l.narrow);
-    if opens(l) {
+    if l.opens() {
         return Ok(Ends {
             end: 0,
             align: most,
@@ -65,7 +65,7 @@ fn join(p: Ends, l: Value, m: MemberEntry) -> SoFar
     Ok(Ends {
         end,
         align: most,
-        words: p.words + words_of(l),
+        words: p.words + l.words(),
         opens: false,
         narrow,
     })

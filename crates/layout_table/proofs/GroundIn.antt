@@ -47,17 +47,17 @@ module _ (f : List ℕ) (t : Trailer) (e : ℕ) (x : Taken f t) where
     type_there : (u : Ty) × (get_elem? x.ts e ≡ some u)
     type_there = get_elem_below x.ts e (omega (arith, x.count))
 
-    pub ground_is : {l : Value} {start end : ℕ} (table : List (List ℕ)) → table ≡ values_of f x.ts → l ≡ value_at table e → start ≡ t.start + type_entry_length * t.types → end ≡ start + member_entry_length t.form * t.members → good (record { ground = record { value = l; start = start; end = end }; table = table }) ≡ ground_in f e
+    pub ground_is : {l : Value} {start end : ℕ} (table : List Value) → table ≡ values_of f x.ts → l ≡ value_at table e → start ≡ t.start + type_entry_length * t.types → end ≡ start + member_entry_length t.form * t.members → good (record { ground = record { value = l; start = start; end = end }; table = table }) ≡ ground_in f e
     unfolding ground_in entry_of or_refuse ground_of members_start
     ground_is table values is p q =
         let u = type_there in
-        let known = is ∙ ap (λ (v : List (List ℕ)). value_at v e) values ∙ table_at f x.ts e u.0 u.1 in
+        let known = is ∙ ap (λ (v : List Value). value_at v e) values ∙ table_at f x.ts e u.0 u.1 in
         sym (then_is _ x.taken ∙ then_is {a = u.0} _ (then_is _ x.taken ∙ rw u.1) ∙ rw (known, values, q, p, ← x.trailer_is_lem))
 
 -- ---- what its answer tells
 
 -- The file is accepted, ts are its types, and entry e has this type, ground and table.
-pub record On (f : List ℕ) (e : ℕ) (g : Ground) (table : List (List ℕ)) : Type 0 where
+pub record On (f : List ℕ) (e : ℕ) (g : Ground) (table : List Value) : Type 0 where
   pub ts : List Ty
   pub taken : types_of f ≡ good ts
   pub type : Ty
@@ -65,7 +65,7 @@ pub record On (f : List ℕ) (e : ℕ) (g : Ground) (table : List (List ℕ)) : 
   pub ground_is : g ≡ ground_of f e type
   pub table_is : table ≡ values_of f ts
 
-module _ (f : List ℕ) (e : ℕ) (answer : Result Ground Refusal) (table : List (List ℕ)) (says : said_ground answer table ≡ ground_in f e) where
+module _ (f : List ℕ) (e : ℕ) (answer : Result Ground Refusal) (table : List Value) (says : said_ground answer table ≡ ground_in f e) where
   pub ground_told : (g : Ground) → answer ≡ Ok g → On f e g table
   unfolding ground_in
   ground_told g is =

@@ -22,6 +22,7 @@ use Rattle.said.specs.declared.refusal.Refusal.{Refusal}
 use Rattle.file.specs.declared.trailer.Trailer.{Trailer}
 use Rattle.layout_values.specs.Value.{values_of}
 use Rattle.layout_table.specs.Table.{Table, table_of, said_table, accepted_trailer, said_checked}
+use Rattle.layout_values.specs.declared.value.Value.{Value}
 
 -- ---- an accepted file
 
@@ -85,7 +86,7 @@ pub inner : {A : Type 0} {a b : A} → good a ≡ good b → a ≡ b
 inner e = cc
 
 -- What is said of the table says the trailer.
-pub table_trailer : (f : List ℕ) (answer : Result Trailer Refusal) (table : List (List ℕ)) → said_table answer table ≡ table_of f → said_checked answer ≡ accepted_trailer f
+pub table_trailer : (f : List ℕ) (answer : Result Trailer Refusal) (table : List Value) → said_table answer table ≡ table_of f → said_checked answer ≡ accepted_trailer f
 unfolding table_of accepted_trailer
 table_trailer f (Ok t) table e =
     let x = then_good _ _ (sym e) in
@@ -93,7 +94,7 @@ table_trailer f (Ok t) table e =
 table_trailer f (Err r) table e =
     sym (then_cases _ _ (sym e) (λ h. then_refused _ h) (λ h. good_not_refused refl h.after))
 
-module _ (f : List ℕ) (answer : Result Trailer Refusal) (table : List (List ℕ)) (says : said_table answer table ≡ table_of f) where
+module _ (f : List ℕ) (answer : Result Trailer Refusal) (table : List Value) (says : said_table answer table ≡ table_of f) where
   pub table_refused : (r : Refusal) → answer ≡ Err r → types_of f ≡ refused (number_of r) (place_of r)
   table_refused = told_refused f answer (table_trailer f answer table says)
 

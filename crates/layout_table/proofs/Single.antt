@@ -10,6 +10,7 @@ use Rattle.said.proofs.Single.{single, refusal_from, refusal_told}
 use Rattle.file.specs.declared.trailer.Trailer.{Trailer}
 use Rattle.layout_table.specs.Table.{Table, said_table, said_checked}
 use Rattle.said.specs.declared.refusal.Refusal.{Refusal}
+use Rattle.layout_values.specs.declared.value.Value.{Value}
 
 abbrev checked_from : Said wgsl.Trailer → Result Trailer Refusal
 checked_from (good t) = Ok (record { types = t.types; members = t.members; start = t.start; form = t.form })
@@ -28,18 +29,18 @@ abbrev trailer_in : Said Table → Said wgsl.Trailer
 trailer_in (good x) = good x.trailer
 trailer_in (refused number place) = refused number place
 
-abbrev values_in : Said Table → List (List ℕ)
+abbrev values_in : Said Table → List Value
 values_in (good x) = x.values
 values_in (refused number place) = []
 
-answer_in : (a : Result Trailer Refusal) (table : List (List ℕ)) → said_checked a ≡ trailer_in (said_table a table)
+answer_in : (a : Result Trailer Refusal) (table : List Value) → said_checked a ≡ trailer_in (said_table a table)
 answer_in (Ok t) table = refl
 answer_in (Err r) table = refl
 
 -- Two answers of a fill are the same,
-pub single_fill : {said : Said Table} (a b : Result Trailer Refusal) (t u : List (List ℕ)) → said_table a t ≡ said → said_table b u ≡ said → a ≡ b
+pub single_fill : {said : Said Table} (a b : Result Trailer Refusal) (t u : List Value) → said_table a t ≡ said → said_table b u ≡ said → a ≡ b
 single_fill a b t u p q = single_checked a b (answer_in a t ∙ ap trailer_in p) (answer_in b u ∙ ap trailer_in q)
 
 -- and so are two tables that it leaves of an accepted file.
-pub single_table : {said : Said Table} (a b : Trailer) (t u : List (List ℕ)) → said_table (Ok a) t ≡ said → said_table (Ok b) u ≡ said → t ≡ u
+pub single_table : {said : Said Table} (a b : Trailer) (t u : List Value) → said_table (Ok a) t ≡ said → said_table (Ok b) u ≡ said → t ≡ u
 single_table a b t u p q = ap values_in (p ∙ sym q)

@@ -34,7 +34,7 @@ blank = replicate 8 0
 
 -- ---- a table that is filled up to entry k
 
-pub record Filled (f : List ℕ) (r : Trailer) (k : ℕ) (table : List (List ℕ)) : Type 0 where
+pub record Filled (f : List ℕ) (r : Trailer) (k : ℕ) (table : List Value) : Type 0 where
   pub checked : check_trailer f ≡ good r
   pub trailer : Trailed f r
   pub long : length f ≡ r.start + (type_entry_length * r.types + member_entry_length r.form * r.members) + 10
@@ -49,7 +49,7 @@ pub blank_length : length blank_table ≡ 256
 unfolding blank_table
 blank_length = length-replicate 256 blank
 
-pub filled_none : {f : List ℕ} {r : Trailer} {table : List (List ℕ)} → check_trailer f ≡ good r → table ≡ blank_table → Filled f r 0 table
+pub filled_none : {f : List ℕ} {r : Trailer} {table : List Value} → check_trailer f ≡ good r → table ≡ blank_table → Filled f r 0 table
 unfolding types_below length_by blank_table values_from
 filled_none {f} {r} e h =
     record {
@@ -64,7 +64,7 @@ filled_none {f} {r} e h =
       whole = ap length h ∙ blank_length;
     }
 
-module _ {f : List ℕ} {r : Trailer} {k : ℕ} {table : List (List ℕ)} (t : Filled f r k table) where
+module _ {f : List ℕ} {r : Trailer} {k : ℕ} {table : List Value} (t : Filled f r k table) where
   count : length t.types ≡ k
   count = below_length f k t.types t.below
 
@@ -94,19 +94,19 @@ module _ {f : List ℕ} {r : Trailer} {k : ℕ} {table : List (List ℕ)} (t : F
 -- ---- one entry more
 
 -- one element more of those that are filled, and one less of those that are not
-first_more : (f : List ℕ) (table : List (List ℕ)) (k : ℕ) (l : Value) (ts : List Ty) (t : Ty) → length ts ≡ k → k < length table → take k table ≡ values_from f 0 ts → l ≡ value_of (member_length f) (type_entry_at f k).reference t → take (k + 1) (set table k (row_of l)) ≡ values_from f 0 (ts ++ (t ∷ []))
+first_more : (f : List ℕ) (table : List Value) (k : ℕ) (l : Value) (ts : List Ty) (t : Ty) → length ts ≡ k → k < length table → take k table ≡ values_from f 0 ts → l ≡ value_of (member_length f) (type_entry_at f k).reference t → take (k + 1) (set table k (row_of l)) ≡ values_from f 0 (ts ++ (t ∷ []))
 first_more f table k l ts t n h e q =
     let z : 0 + length ts ≡ k = omega arith in
     rw (add-one k, values_more f 0 ts t, z, ← e, ← q) (take-suc-set table k (row_of l) h)
 
-rest_more : (table : List (List ℕ)) (k : ℕ) (v : List ℕ) → k < 256 → drop k table ≡ replicate (256 - k) blank → drop (k + 1) (set table k v) ≡ replicate (256 - (k + 1)) blank
+rest_more : (table : List Value) (k : ℕ) (v : List ℕ) → k < 256 → drop k table ≡ replicate (256 - k) blank → drop (k + 1) (set table k v) ≡ replicate (256 - (k + 1)) blank
 rest_more table k v h e =
     let z : 256 - k ≡ suc (256 - (k + 1)) = omega arith in
     let b : k < k + 1 = omega arith in
     drop-set-lt (k + 1) table k v b ∙ sym (drop-drop 1 k table) ∙ ap (drop 1) e
     ∙ ap (λ (n : ℕ). drop 1 (replicate n blank)) z
 
-module _ {f : List ℕ} {r : Trailer} {k : ℕ} {table : List (List ℕ)} {e : TypeEntry} (t : Filled f r k table) (h : k < r.types) (is : e ≡ type_entry_at f k) where
+module _ {f : List ℕ} {r : Trailer} {k : ℕ} {table : List Value} {e : TypeEntry} (t : Filled f r k table) (h : k < r.types) (is : e ≡ type_entry_at f k) where
   pub filled_more : {l : Value} {v : List ℕ} → Ok l ≡ made_of (member_length f) e.reference (type_of_entry f t.types k) → v ≡ row_of l → Filled f r (k + 1) (set table k v)
   filled_more {l} {v} m q =
       let x = entry_laid f k (member_length f) e.reference t.below m l refl in
@@ -131,18 +131,18 @@ module _ {f : List ℕ} {r : Trailer} {k : ℕ} {table : List (List ℕ)} {e : T
 
 -- ---- the whole table
 
-whole_table : (f : List ℕ) (table : List (List ℕ)) (k : ℕ) (ts : List Ty) → length ts ≡ k → take k table ≡ values_from f 0 ts → drop k table ≡ replicate (256 - k) blank → table ≡ values_of f ts
+whole_table : (f : List ℕ) (table : List Value) (k : ℕ) (ts : List Ty) → length ts ≡ k → take k table ≡ values_from f 0 ts → drop k table ≡ replicate (256 - k) blank → table ≡ values_of f ts
 unfolding values_of
 whole_table f table k ts n e d = rw (n, ← e, ← d) (sym (take-append-drop k table))
 
 -- where its entries lie, for the members that they name
-pub filled_entries : {f : List ℕ} {r : Trailer} {k start types : ℕ} {table : List (List ℕ)} → Filled f r k table → start ≡ r.start → types ≡ r.types → Entries f start types
+pub filled_entries : {f : List ℕ} {r : Trailer} {k start types : ℕ} {table : List Value} → Filled f r k table → start ≡ r.start → types ≡ r.types → Entries f start types
 filled_entries t at n = record {
   start_is = at ∙ ap (λ (x : Trailer). x.start) t.trailer.is;
   inside = let long = t.long in omega arith;
 }
 
-module _ {f : List ℕ} {r : Trailer} {k : ℕ} (types members stray : ℕ) {table : List (List ℕ)} (t : Filled f r k table) (all : k ≡ r.types) (n : types ≡ r.types) (m : members ≡ r.members) (said : refuse 24 stray (ltb stray members) ≡ all_named f types members) where
+module _ {f : List ℕ} {r : Trailer} {k : ℕ} (types members stray : ℕ) {table : List Value} (t : Filled f r k table) (all : k ≡ r.types) (n : types ≡ r.types) (m : members ≡ r.members) (said : refuse 24 stray (ltb stray members) ≡ all_named f types members) where
   named_as : all_named f r.types r.members ≡ refuse 24 stray (ltb stray members)
   named_as = rw (← n, ← m) (sym said)
 
@@ -157,7 +157,7 @@ module _ {f : List ℕ} {r : Trailer} {k : ℕ} (types members stray : ℕ) {tab
   pub filled_named : members ≤ stray → types_of f ≡ good t.types
   filled_named high = left ∙ refuse_no 24 stray (le-ltb stray members high)
 
-pub filled_table : {f : List ℕ} {r : Trailer} {k : ℕ} {table : List (List ℕ)} (t : Filled f r k table) → types_of f ≡ good t.types → good (record { trailer = r; values = table }) ≡ table_of f
+pub filled_table : {f : List ℕ} {r : Trailer} {k : ℕ} {table : List Value} (t : Filled f r k table) → types_of f ≡ good t.types → good (record { trailer = r; values = table }) ≡ table_of f
 unfolding table_of
 filled_table {f} {r} {k} {table} t is =
     let values = whole_table f table k t.types (count t) t.first t.rest in

@@ -27,7 +27,7 @@ use Rattle.layout_values.specs.declared.value.Broken.TheVariants.{Rule}
 use Rattle.layout_structs.specs.declared.Ends.{Ends}
 
 -- each member entry has n bytes
-module _ {f : List ℕ} {k base members long first count i n : ℕ} {e : TypeEntry} {table : List (List ℕ)} {ts : List Ty} (u : Upward f k e base members long table ts) (s : Spans members e first count) (wide : n ≡ long) (run : Result Ends Broken) (d : Reached f ts (base + n * first) i count run) where
+module _ {f : List ℕ} {k base members long first count i n : ℕ} {e : TypeEntry} {table : List Value} {ts : List Ty} (u : Upward f k e base members long table ts) (s : Spans members e first count) (wide : n ≡ long) (run : Result Ends Broken) (d : Reached f ts (base + n * first) i count run) where
   places : (at m : ℕ) → at + n * m ≡ at + member_length f * m
   places at m = ap (λ (x : ℕ). at + x * m) (wide ∙ u.long_is)
 

@@ -17,13 +17,14 @@ use Rattle.layout_structs.specs.SoFar.{Lower}
 use Rattle.layout_table.specs.declared.Ground.{Ground}
 use Rattle.said.specs.declared.refusal.Refusal.{Refusal}
 use Rattle.file.specs.declared.trailer.Trailer.{Trailer}
+use Rattle.layout_values.specs.declared.value.Value.{Value}
 
 -- ---- the whole table
 
 -- the trailer of an accepted file, and its values
 pub record Table : Type 0 where
   pub trailer : wgsl.Trailer
-  pub values : List (List ℕ)
+  pub values : List Value
 
 -- "A table of 256 layouts"; none where the file is refused
 unfoldable pub table_of : List ℕ → Said Table
@@ -31,7 +32,7 @@ table_of f = do
   ts ← types_of f
   good (record { trailer = trailer_of f; values = values_of f ts })
 
-abbrev pub said_table : Result Trailer Refusal → List (List ℕ) → Said Table
+abbrev pub said_table : Result Trailer Refusal → List Value → Said Table
 said_table (Ok t) table = good (record { trailer = trailer_is t; values = table })
 said_table (Err r) table = refused (number_of r) (place_of r)
 
@@ -59,7 +60,7 @@ ground_of f e t =
 -- an entry, and the table that it stands in
 pub record InTable : Type 0 where
   pub ground : Ground
-  pub table : List (List ℕ)
+  pub table : List Value
 
 -- 1 to 7, 24, 8
 unfoldable pub ground_in : List ℕ → ℕ → Said InTable
@@ -68,7 +69,7 @@ ground_in f e = do
   t ← entry_of f e
   good (record { ground = ground_of f e t; table = values_of f ts })
 
-abbrev pub said_ground : Result Ground Refusal → List (List ℕ) → Said InTable
+abbrev pub said_ground : Result Ground Refusal → List Value → Said InTable
 said_ground (Ok g) table = good (record { ground = g; table = table })
 said_ground (Err r) table = refused (number_of r) (place_of r)
 
@@ -76,7 +77,7 @@ said_ground (Err r) table = refused (number_of r) (place_of r)
 
 -- entry k of a file whose trailer is good, with the fields e, over the lower ones, whose types are ts: its M member entries begin at `base`
 -- and are so long
-pub record Upward (f : List ℕ) (k : ℕ) (e : TypeEntry) (base members long : ℕ) (table : List (List ℕ)) (ts : List Ty) : Type 0 where
+pub record Upward (f : List ℕ) (k : ℕ) (e : TypeEntry) (base members long : ℕ) (table : List Value) (ts : List Ty) : Type 0 where
   pub is_entry : e ≡ type_entry_at f k
   pub base_is : base ≡ members_start f
   pub members_is : members ≡ (trailer_of f).members

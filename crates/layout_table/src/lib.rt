@@ -17,7 +17,7 @@ use layout_referring::over_entry;
 use layout_strays::lowest_stray;
 use layout_structs::{SoFar, finish, no_members, span_of, step};
 use layout_values::scalars::{scalar_entry, zeros};
-use layout_values::value::{Row, Value, blank, row_of, value_at};
+use layout_values::value::{Broken, Value, blank, value_at};
 use numbers::wide::wide;
 use said::refusal::Refusal;
 
@@ -30,7 +30,7 @@ fn struct_entry(
     base: usize,
     members: usize,
     long: u32,
-    table: &[Row],
+    table: &[Value],
 ) -> Result<Value, Broken>
     requires { (e.kind ≡ struct_kind) × ((ts : List Ty) × Upward f.now k (entry_is e) base members long table.now ts) }
     ensures { (ts : List Ty) → Upward f.now k (entry_is e) base members long table.now ts → result ≡ made_of long e.reference (struct_made f.now ts k (entry_is e)) }
@@ -68,7 +68,7 @@ fn entry_made(
     base: usize,
     members: usize,
     long: u32,
-    table: &[Row],
+    table: &[Value],
 ) -> Result<Value, Broken>
     requires { (ts : List Ty) × Upward f.now k (entry_is e) base members long table.now ts }
     ensures { (ts : List Ty) → Upward f.now k (entry_is e) base members long table.now ts → result ≡ made_of long e.reference (type_of_entry f.now ts k) }
@@ -95,7 +95,7 @@ fn entry_made(
 
 // The values of the entries of a file whose trailer is good, worked out before anything else is read or written, or the refusal.
 // Refuses 5 to 7, 24.
-pub fn fill(f: &[u8], t: Trailer, table: &mut [Row]) -> Result<Trailer, Refusal>
+pub fn fill(f: &[u8], t: Trailer, table: &mut [Value]) -> Result<Trailer, Refusal>
     requires { (check_trailer f.now ≡ good (trailer_is t)) × (table.old ≡ blank_table) }
     ensures { said_table result table.new ≡ table_of f.now }
 {
@@ -150,7 +150,7 @@ pub struct Ground {
 
 
 // Fills the table, and finds entry `entry` in it. Refuses 5 to 7, 24, 8.
-pub fn find(f: &[u8], t: Trailer, entry: u32, table: &mut [Row]) -> Result<Ground, Refusal>
+pub fn find(f: &[u8], t: Trailer, entry: u32, table: &mut [Value]) -> Result<Ground, Refusal>
     requires { (check_trailer f.now ≡ good (trailer_is t)) × (table.old ≡ blank_table) }
     ensures { said_ground result table.new ≡ ground_in f.now entry }
 {

@@ -64,18 +64,12 @@ module _ (t : Ty) (l : Value) (is : l ≡ value_of l.stride l.reference t) (w : 
 
   -- "for any type with size and alignment, the size rounded up to the alignment": the larger of the two
   module _ (size : l.size ≡ 0 → ⊥) (align : l.align ≡ 0 → ⊥) where
-    larger : (n : ℕ) → n ≡ max l.align l.size → n ≡ present (own_stride_of t)
-    larger n h =
+    pub stride_larger : (n : ℕ) → n ≡ max l.align l.size → n ≡ present (own_stride_of t)
+    stride_larger n h =
         let a = aligned t l is w align in
         let z = sized t l is w size in
         h ∙ sym (up_larger t l.align l.size w a z)
         ∙ sym (ap present ((stride_is t).rounded l.align l.size a z) ∙ present_is _)
-
-    pub stride_align : l.size < l.align → l.align ≡ present (own_stride_of t)
-    stride_align h = larger l.align (omega arith)
-
-    pub stride_size : l.align ≤ l.size → l.size ≡ present (own_stride_of t)
-    stride_size h = larger l.size (omega arith)
 
 -- ---- of an element
 

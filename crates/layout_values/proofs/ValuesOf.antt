@@ -17,12 +17,19 @@ use Rattle.file.specs.Members.{member_length}
 use Rattle.wgsl.proofs.Absent.{some_not_none}
 use Rattle.wgsl.proofs.AtEntry.{get_elem_low}
 use Rattle.layout_values.specs.declared.value.Value.{Value}
-use Rattle.layout_values.specs.Value.{value_of, row_of, value_at, values_from, values_of, stride_in}
+use Rattle.layout_values.specs.Value.{value_of, blank_value, value_at, values_from, values_of, stride_in}
 
--- An entry whose numbers are a layout's has that layout.
-pub layout_numbers : (table : List (List ℕ)) (e : ℕ) (l : Value) → get_or table e [] ≡ row_of l → value_at table e ≡ l
-unfolding value_at row_of
-layout_numbers table e l h = rw h
+-- A value whose numbers are all 0 is the blank one.
+pub blank_is : (v : Value) → (v.kind ≡ 0) × ((v.narrow ≡ 0) × ((v.reference ≡ 0) × ((v.count ≡ 0) × ((v.unit ≡ 0) × ((v.stride ≡ 0) × ((v.size ≡ 0) × (v.align ≡ 0))))))) → v ≡ blank_value
+blank_is v h =
+    let own : ◌≡◌ {A = Value} (record { kind = v.kind; narrow = v.narrow; reference = v.reference; count = v.count; unit = v.unit; stride = v.stride; size = v.size; align = v.align }) blank_value =
+    rw (h.0, h.1.0, h.1.1.0, h.1.1.1.0, h.1.1.1.1.0, h.1.1.1.1.1.0, h.1.1.1.1.1.1.0, h.1.1.1.1.1.1.1) in
+    own
+
+-- What stands at an entry is its value.
+pub layout_numbers : (table : List Value) (e : ℕ) (l : Value) → get_or table e blank_value ≡ l → value_at table e ≡ l
+unfolding value_at
+layout_numbers table e l h = h
 
 -- The length of member entries stands in a struct's value, and in no other.
 value_long : (long r : ℕ) (t : Ty) → value_of long r t ≡ value_of (value_of long r t).stride r t
@@ -48,7 +55,7 @@ unfolding values_from
 length_values f k [] = refl
 length_values f k (t ∷ ts) = ap suc (length_values f (suc k) ts)
 
-values_at : (f : List ℕ) (k : ℕ) (ts : List Ty) (e : ℕ) (t : Ty) → get_elem? ts e ≡ some t → get_or (values_from f k ts) e [] ≡ row_of (value_of (member_length f) (type_entry_at f (k + e)).reference t)
+values_at : (f : List ℕ) (k : ℕ) (ts : List Ty) (e : ℕ) (t : Ty) → get_elem? ts e ≡ some t → get_or (values_from f k ts) e blank_value ≡ value_of (member_length f) (type_entry_at f (k + e)).reference t
 unfolding values_from
 values_at f k [] e t h = some_not_none h refl
 values_at f k (u ∷ ts) zero t h =
@@ -60,19 +67,19 @@ values_at f k (u ∷ ts) (suc e) t h =
     rw z (values_at f (suc k) ts e t h)
 
 -- The values of one type more.
-pub values_more : (f : List ℕ) (k : ℕ) (ts : List Ty) (t : Ty) → values_from f k (ts ++ (t ∷ [])) ≡ values_from f k ts ++ (row_of (value_of (member_length f) (type_entry_at f (k + length ts)).reference t) ∷ [])
+pub values_more : (f : List ℕ) (k : ℕ) (ts : List Ty) (t : Ty) → values_from f k (ts ++ (t ∷ [])) ≡ values_from f k ts ++ (value_of (member_length f) (type_entry_at f (k + length ts)).reference t ∷ [])
 unfolding values_from
 values_more f k [] t = let z : k + 0 ≡ k = omega arith in rw z
 values_more f k (u ∷ ts) t =
     let z : k + suc (length ts) ≡ suc k + length ts = omega arith in
-    rw z (ap (λ (l : List (List ℕ)). row_of (value_of (member_length f) (type_entry_at f k).reference u) ∷ l) (values_more f (suc k) ts t))
+    rw z (ap (λ (l : List Value). value_of (member_length f) (type_entry_at f k).reference u ∷ l) (values_more f (suc k) ts t))
 
 -- A table that begins with the values of several types holds each.
-pub value_held : (f : List ℕ) (table : List (List ℕ)) (ts : List Ty) (e : ℕ) (t : Ty) → take (length ts) table ≡ values_from f 0 ts → get_elem? ts e ≡ some t → value_at table e ≡ value_of (member_length f) (type_entry_at f e).reference t
+pub value_held : (f : List ℕ) (table : List Value) (ts : List Ty) (e : ℕ) (t : Ty) → take (length ts) table ≡ values_from f 0 ts → get_elem? ts e ≡ some t → value_at table e ≡ value_of (member_length f) (type_entry_at f e).reference t
 value_held f table ts e t first h =
     let z : 0 + e ≡ e = omega arith in
     layout_numbers table e _
-    (sym (get_or-take (length ts) table e [] (get_elem_low ts e h)) ∙ ap (λ (l : List (List ℕ)). get_or l e []) first
+    (sym (get_or-take (length ts) table e blank_value (get_elem_low ts e h)) ∙ ap (λ (l : List Value). get_or l e blank_value) first
     ∙ rw z at (values_at f 0 ts e t h))
 
 module _ (f : List ℕ) (ts : List Ty) where

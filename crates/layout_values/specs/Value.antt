@@ -1,7 +1,6 @@
 -- What the table holds of a type, and what becomes of an entry, in the words of crates/wgsl.
 --
--- In order: a type's narrowest word, its parts; its value; the numbers of a value, and values in a
--- table; the verdict on an entry's type; values that are some type's.
+-- In order: a type's narrowest word, its parts; its value; a table of values; the verdict on an entry's type; values that are some type's.
 -- Definitions only. Assumes nothing.
 use Rattle.std.specs.Prelude.{ℕ, suc, ◌-◌, ◌*◌, min, ◌≡◌, true, cond, List, [], ◌∷◌, ◌++◌, eqb, length, get_or, replicate, Err, Ok, Result}
 use Rattle.std.proofs.Math.Option.{Option, none, some}
@@ -12,6 +11,8 @@ use Rattle.file.specs.Members.{member_length}
 use Rattle.wgsl.specs.Rule.{count_of, is_allowed, given_fits, is_well_formed}
 use Rattle.wgsl.specs.Place.{words_for, word_count}
 use Rattle.layout_values.specs.declared.value.Value.{Value}
+use Rattle.said.specs.declared.refusal.Refusal.{Refusal}
+use Rattle.said.specs.declared.refusal.Refusal.TheVariants as refusal
 use Rattle.layout_values.specs.declared.value.Broken.{Broken}
 use Rattle.layout_values.specs.declared.value.Broken.TheVariants.{Given, Large, Rule}
 
@@ -92,41 +93,28 @@ value_of long reference t =
 unfoldable pub words_in : Value → ℕ
 words_in l = cond (eqb l.kind struct_kind) l.unit (l.count * l.unit)
 
--- ---- numbers, and a table of them
+-- ---- a table of values
 
-unfoldable pub row_of : Value → List ℕ
-row_of l =
-    l.kind ∷ l.narrow ∷ l.reference ∷ l.count ∷ l.unit ∷ l.stride ∷ l.size ∷ l.align ∷ []
-
--- number i of entry e
-abbrev pub number_at : List (List ℕ) → ℕ → ℕ → ℕ
-number_at table e i = get_or (get_or table e []) i 0
-
-unfoldable pub value_at : List (List ℕ) → ℕ → Value
-value_at table e =
-    record {
-      kind = number_at table e 0;
-      narrow = number_at table e 1;
-      reference = number_at table e 2;
-      count = number_at table e 3;
-      unit = number_at table e 4;
-      stride = number_at table e 5;
-      size = number_at table e 6;
-      align = number_at table e 7;
-    }
+-- before it is filled
+abbrev pub blank_value : Value
+blank_value = record { kind = 0; narrow = 0; reference = 0; count = 0; unit = 0; stride = 0; size = 0; align = 0 }
 
 -- "A table of 256 layouts": before it is filled
-unfoldable pub blank_table : List (List ℕ)
-blank_table = replicate most_types (replicate 8 0)
+unfoldable pub blank_table : List Value
+blank_table = replicate most_types blank_value
+
+-- the value of entry e
+unfoldable pub value_at : List Value → ℕ → Value
+value_at table e = get_or table e blank_value
 
 -- the values of types whose entries are those of a file from entry k on
-unfoldable pub values_from : List ℕ → ℕ → List Ty → List (List ℕ)
+unfoldable pub values_from : List ℕ → ℕ → List Ty → List Value
 values_from f k [] = []
-values_from f k (t ∷ ts) = row_of (value_of (member_length f) (type_entry_at f k).reference t) ∷ values_from f (suc k) ts
+values_from f k (t ∷ ts) = value_of (member_length f) (type_entry_at f k).reference t ∷ values_from f (suc k) ts
 
 -- the table of a file with these types: their values, and blanks past them
-unfoldable pub values_of : List ℕ → List Ty → List (List ℕ)
-values_of f ts = values_from f 0 ts ++ replicate (most_types - length ts) (replicate 8 0)
+unfoldable pub values_of : List ℕ → List Ty → List Value
+values_of f ts = values_from f 0 ts ++ replicate (most_types - length ts) blank_value
 
 -- ---- the verdict on an entry's type
 
@@ -147,3 +135,11 @@ pub record Known (l : Value) : Type 0 where
   pub type : Ty
   pub is : l ≡ value_of l.stride l.reference type
   pub well_formed : everywhere is_well_formed type ≡ true
+
+-- ---- why an entry has no value
+
+-- its refusal
+abbrev pub refusal_at : Broken → ℕ → Refusal
+refusal_at Rule entry = refusal.Rule entry
+refusal_at Given entry = refusal.Given entry
+refusal_at Large entry = refusal.Large entry

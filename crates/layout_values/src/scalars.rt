@@ -7,10 +7,9 @@ ghost use Rattle.wgsl.specs.Place.{words_for};
 ghost use Rattle.file.specs.Fields.{entry_is};
 ghost use Rattle.layout_values.specs.Value.{stored_width, made_of};
 
-use crate::value::Value;
+use crate::value::{Broken, Value};
 use file::fields::TypeEntry;
 use file::kinds::{F16, F32, I32, I64};
-use numbers::order::smaller;
 
 // Whether the fields are all zero.
 pub fn zeros(a: u32, b: u32, c: u32, d: u32) -> bool
@@ -59,7 +58,7 @@ fn stored_width(kind: u32) -> u32
     if kind < I32 {
         return 0;
     }
-    smaller(4, scalar_size(kind))
+    scalar_size(kind).min(4)
 }
 
 // The alignment of a vector, and of a matrix column: 0 where it has none.

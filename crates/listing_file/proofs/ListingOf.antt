@@ -70,7 +70,7 @@ abbrev StrideOf : Value → ℕ → Type 0
 StrideOf l stride = (t : Ty) → l ≡ value_of l.stride l.reference t → everywhere is_well_formed t ≡ true → stride ≡ present (own_stride_of t)
 
 -- The lines that are left begin with that of entry k.
-lines_next : {f : List ℕ} {table : List (List ℕ)} {types : ℕ} {ts : List Ty} (k stride : ℕ) → Entries f table types ts → k < types → StrideOf (value_at table k) stride → line k (value_at table k).size (value_at table k).align stride ++ entry_lines (suc k) (drop (suc k) ts) ≡ entry_lines k (drop k ts)
+lines_next : {f : List ℕ} {table : List Value} {types : ℕ} {ts : List Ty} (k stride : ℕ) → Entries f table types ts → k < types → StrideOf (value_at table k) stride → line k (value_at table k).size (value_at table k).align stride ++ entry_lines (suc k) (drop (suc k) ts) ≡ entry_lines k (drop k ts)
 unfolding entry_lines
 lines_next {f} {table} {types} {ts} k stride e h own =
     let low : k < length ts = omega (arith, e.count) in
@@ -81,14 +81,14 @@ lines_next {f} {table} {types} {ts} k stride e h own =
 
 -- ---- the turns of the loop: what is left to put, from here, gives what all lines give from the start
 
-pub record Going (table : List (List ℕ)) (types : ℕ) (out₀ : List ℕ) (at₀ : ℕ) (out : List ℕ) (at k : ℕ) : Type 0 where
+pub record Going (table : List Value) (types : ℕ) (out₀ : List ℕ) (at₀ : ℕ) (out : List ℕ) (at k : ℕ) : Type 0 where
   pub few : types ≤ 256
   pub turn : k ≤ types
   pub high : at ≤ 19 + 44 * k
   pub same : length out ≡ length out₀
   pub left : (f : List ℕ) (ts : List Ty) → Entries f table types ts → (r : ℕ) (after : List ℕ) → Put out at (entry_lines k (drop k ts)) r after → Put out₀ at₀ (entry_lines 0 ts) r after
 
-pub going_none : {table : List (List ℕ)} {types at : ℕ} {before out : List ℕ} → types ≤ 256 → Put before 0 (heading types) at out → Going table types out at out at 0
+pub going_none : {table : List Value} {types at : ℕ} {before out : List ℕ} → types ≤ 256 → Put before 0 (heading types) at out → Going table types out at out at 0
 going_none {types = types} h p =
     record {
       few = h;
@@ -98,7 +98,7 @@ going_none {types = types} h p =
       left = λ f ts e r after q. q;
     }
 
-module _ {table : List (List ℕ)} {types at₀ at k : ℕ} {out₀ out : List ℕ} (g : Going table types out₀ at₀ out at k) where
+module _ {table : List Value} {types at₀ at k : ℕ} {out₀ out : List ℕ} (g : Going table types out₀ at₀ out at k) where
   pub going_more : {r stride : ℕ} {after : List ℕ} → k < types → StrideOf (value_at table k) stride → Put out at (line k (value_at table k).size (value_at table k).align stride) r after → Going table types out₀ at₀ after r (k + 1)
   going_more {stride = stride} h own p =
       record {
@@ -130,7 +130,7 @@ unfolding listing_of input_limit
 listing_is f h e = rw (le-ltb 65_536 (length f) h, e)
 
 -- The lines of an accepted file.
-pub listing_types : (f : List ℕ) {t : Trailer} {table : List (List ℕ)} → length f ≤ 65_536 → (x : Taken f t) → table ≡ values_of f x.ts → Entries f table t.types x.ts × (listing_of f ≡ listed (good x.ts))
+pub listing_types : (f : List ℕ) {t : Trailer} {table : List Value} → length f ≤ 65_536 → (x : Taken f t) → table ≡ values_of f x.ts → Entries f table t.types x.ts × (listing_of f ≡ listed (good x.ts))
 listing_types f short x same = (
   record {
     table_is = same;

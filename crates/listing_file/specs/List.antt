@@ -7,12 +7,13 @@ use Rattle.wgsl.specs.Types.{Ty, everywhere}
 use Rattle.wgsl.specs.Rule.{is_well_formed}
 use Rattle.wgsl.specs.File.{most_types}
 use Rattle.layout_values.specs.Value.{values_of}
+use Rattle.layout_values.specs.declared.value.Value.{Value}
 
 -- room for any listing: its heading, and 256 lines
 abbrev pub listing_room : ℕ
 listing_room = 11_283
 
-pub record Entries (f : List ℕ) (table : List (List ℕ)) (types : ℕ) (ts : List Ty) : Type 0 where
+pub record Entries (f : List ℕ) (table : List Value) (types : ℕ) (ts : List Ty) : Type 0 where
   pub table_is : table ≡ values_of f ts
   pub count : types ≡ length ts
   pub few : types ≤ most_types

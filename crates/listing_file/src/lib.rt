@@ -10,7 +10,7 @@ ghost use Rattle.listing_file.specs.List.{listing_room, Entries};
 
 use file::trailer::check_trailer;
 use layout_table::fill;
-use layout_values::value::{Row, blank, stride_of, value_at};
+use layout_values::value::{blank, value_at, Value};
 use listing_text::{put_heading, put_line, put_refused};
 use said::refusal::{number, place};
 
@@ -18,7 +18,7 @@ use said::refusal::{number, place};
 const INPUT_LIMIT: usize = 65536;
 
 // Puts the lines of an accepted file's entries.
-fn put_entries(out: &mut [u8], table: &[Row], types: u32) -> usize
+fn put_entries(out: &mut [u8], table: &[Value], types: u32) -> usize
     requires room { listing_room ≤ length out.old }
     requires entries { (f : List ℕ) × (ts : List Ty) × Entries f table.now types ts }
     ensures { (f : List ℕ) (ts : List Ty) → Entries f table.now types ts → Put out.old 0 (listed (good ts)) result out.new }
@@ -27,7 +27,7 @@ fn put_entries(out: &mut [u8], table: &[Row], types: u32) -> usize
     let mut k: u32 = 0;
     while k < types {
         let l = value_at(table, k as usize);
-        at = put_line(out, at, k, l.size, l.align, stride_of(l));
+        at = put_line(out, at, k, l.size, l.align, l.own_stride());
         k += 1;
     }
     at

@@ -56,7 +56,7 @@ members_are : (f : List ℕ) (e k : ℕ) (ms : Members) → entry_of f e ≡ goo
 unfolding struct_members members_in or_refuse ◌>>=◌
 members_are f e k ms h = rw h refl
 
-module _ {f : List ℕ} {e : ℕ} {g : Ground} {table : List (List ℕ)} {t : Ty} (x : Meant f e g table t) where
+module _ {f : List ℕ} {e : ℕ} {g : Ground} {table : List Value} {t : Ty} (x : Meant f e g table t) where
   kind_is : g.value.kind ≡ kind_of t
   unfolding value_of
   kind_is = ap (λ (l : Value). l.kind) (entry_value x)

@@ -20,7 +20,7 @@ use Rattle.said.specs.declared.refusal.Refusal.{Refusal}
 -- ---- where a struct ends as it stands
 
 -- the type t, of the value l; its runtime array, if it ends in one, can be found, and begins where it says
-pub record Ends (bytes : List ℕ) (table : List (List ℕ)) (l : Value) (t : Ty) : Type 0 where
+pub record Ends (bytes : List ℕ) (table : List Value) (l : Value) (t : Ty) : Type 0 where
   pub value_is : l ≡ value_of l.stride l.reference t
   pub well_formed : everywhere is_well_formed t ≡ true
   pub findable : is_open t ≡ true → Findable bytes table l
@@ -28,24 +28,24 @@ pub record Ends (bytes : List ℕ) (table : List (List ℕ)) (l : Value) (t : Ty
 
 -- ---- a struct that a call means
 
-pub record StructMeant (bytes : List ℕ) (table : List (List ℕ)) (l : Value) (ms : Members) : Type 0 where
+pub record StructMeant (bytes : List ℕ) (table : List Value) (l : Value) (ms : Members) : Type 0 where
   pub is_struct : Struct bytes table l ms
   pub number : ℕ
   pub ends : Ends bytes table l (struct number ms)
 
 -- ---- the two calls
 
-abbrev pub StructOrdered : List ℕ → List (List ℕ) → Value → List ℕ → Result ℕ Refusal → Type 0
+abbrev pub StructOrdered : List ℕ → List Value → Value → List ℕ → Result ℕ Refusal → Type 0
 StructOrdered bytes table l order r =
     (k : ℕ) (ms : Members) → StructMeant bytes table l ms → said r ≡ or_refuse 23 0 (new_end k ms order)
 
-abbrev pub StructPlanned : List ℕ → List (List ℕ) → Value → Result ℕ Refusal → List ℕ → List ℕ → Type 0
+abbrev pub StructPlanned : List ℕ → List Value → Value → Result ℕ Refusal → List ℕ → List ℕ → Type 0
 StructPlanned bytes table l r before after =
     (ms : Members) → Struct bytes table l ms → Answered (plan_members ms before) r before after
 
-abbrev pub MeantOrdered : List ℕ → ℕ → Ground → List (List ℕ) → List ℕ → Result ℕ Refusal → Type 0
+abbrev pub MeantOrdered : List ℕ → ℕ → Ground → List Value → List ℕ → Result ℕ Refusal → Type 0
 MeantOrdered f e g table order r = (t : Ty) → Meant f e g table t → said r ≡ order_call f e order
 
-abbrev pub MeantPlanned : List ℕ → ℕ → Ground → List (List ℕ) → Result ℕ Refusal → List ℕ → List ℕ → Type 0
+abbrev pub MeantPlanned : List ℕ → ℕ → Ground → List Value → Result ℕ Refusal → List ℕ → List ℕ → Type 0
 MeantPlanned f e g table r before after =
     (t : Ty) → Meant f e g table t → Answered (plan_call f e before) r before after

@@ -10,25 +10,25 @@ ghost use Rattle.said.specs.Answer.{said};
 use file::kinds::STRUCT;
 use file::trailer::check_trailer;
 use layout_table::{Ground, find};
-use layout_values::value::{Row, Value, blank, opens};
+use layout_values::value::{Value, blank};
 use numbers::wide::wide;
 use orders_check::{all_once, end_in};
 use said::refusal::Refusal;
 use walk_decide::rest_of;
 
 // Where a struct of the value `l` ends as it stands: its size, or where its runtime array starts.
-fn end_now(members: &[u8], table: &[Row], l: Value) -> usize
+fn end_now(members: &[u8], table: &[Value], l: Value) -> usize
     requires { (t : Ty) × Ends members.now table.now l t }
     ensures { (t : Ty) → Ends members.now table.now l t → result ≡ extent_of 0 t }
 {
-    if opens(l) {
+    if l.opens() {
         return rest_of(members, table, l).offset;
     }
     wide(l.size)
 }
 
 // 23 for a struct of the value `l`: every position once, and a smaller end.
-fn check_struct(members: &[u8], table: &[Row], l: Value, order: &[u32]) -> Result<u32, Refusal>
+fn check_struct(members: &[u8], table: &[Value], l: Value, order: &[u32]) -> Result<u32, Refusal>
     requires { (ms : Members) × StructMeant members.now table.now l ms }
     ensures { StructOrdered members.now table.now l order.now result }
 {
@@ -49,7 +49,7 @@ fn check_struct(members: &[u8], table: &[Row], l: Value, order: &[u32]) -> Resul
 }
 
 // 9, and then the rest.
-fn check_entry_at(file: &[u8], e: usize, g: Ground, table: &[Row], order: &[u32]) -> Result<u32, Refusal>
+fn check_entry_at(file: &[u8], e: usize, g: Ground, table: &[Value], order: &[u32]) -> Result<u32, Refusal>
     requires { (t : Ty) × Meant file.now e g table.now t }
     ensures { MeantOrdered file.now e g table.now order.now result }
 {

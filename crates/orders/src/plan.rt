@@ -11,13 +11,13 @@ ghost use Rattle.said.specs.Answer.{said};
 use file::kinds::STRUCT;
 use file::trailer::check_trailer;
 use layout_table::{Ground, find};
-use layout_values::value::{Row, Value, blank};
+use layout_values::value::{Value, blank};
 use numbers::wide::wide;
 use orders_plan::plan_members;
 use said::refusal::Refusal;
 
 // 14, and then the order.
-fn plan_struct(members: &[u8], table: &[Row], l: Value, order: &mut [u32]) -> Result<u32, Refusal>
+fn plan_struct(members: &[u8], table: &[Value], l: Value, order: &mut [u32]) -> Result<u32, Refusal>
     requires { (ms : Members) × Struct members.now table.now l ms }
     ensures { StructPlanned members.now table.now l result order.old order.new }
 {
@@ -29,7 +29,7 @@ fn plan_struct(members: &[u8], table: &[Row], l: Value, order: &mut [u32]) -> Re
 }
 
 // 9, and then the rest.
-fn plan_entry_at(file: &[u8], e: usize, g: Ground, table: &[Row], order: &mut [u32]) -> Result<u32, Refusal>
+fn plan_entry_at(file: &[u8], e: usize, g: Ground, table: &[Value], order: &mut [u32]) -> Result<u32, Refusal>
     requires { (t : Ty) × Meant file.now e g table.now t }
     ensures { MeantPlanned file.now e g table.now result order.old order.new }
 {

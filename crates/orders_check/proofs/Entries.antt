@@ -25,14 +25,14 @@ use Rattle.orders_check.proofs.Reordered.{Picks}
 -- ---- one of them
 
 -- entry j of those from byte m on
-record Entry (bytes : List ℕ) (table : List (List ℕ)) (long m : ℕ) (ms : Members) (j : ℕ) : Type 0 where
+record Entry (bytes : List ℕ) (table : List Value) (long m : ℕ) (ms : Members) (j : ℕ) : Type 0 where
   type : Ty
   size : Option ℕ
   align : Option ℕ
   entered : Entered bytes table (m + j * long) type size align
   picks : Picks ms j type size align
 
-entry_at : {bytes : List ℕ} {table : List (List ℕ)} {long c m : ℕ} {ms : Members} → Entries bytes table long c m ms → (j : ℕ) → j < c → Entry bytes table long m ms j
+entry_at : {bytes : List ℕ} {table : List Value} {long c m : ℕ} {ms : Members} → Entries bytes table long c m ms → (j : ℕ) → j < c → Entry bytes table long m ms j
 unfolding chosen
 entry_at none j h = absurd (omega arith)
 entry_at {bytes} {table} {long} {c} {m} (more {t = t} {size = size} {align = align} e es) zero h =
@@ -59,18 +59,18 @@ pub record Coming (ms : Members) (j : ℕ) (e : MemberEntry) (l : Value) : Type 
 -- ---- an order of them
 
 -- the entries of the members ms, last + 1 of them from number `first` on, and an order of as many positions
-pub record Ordered (bytes : List ℕ) (table : List (List ℕ)) (order : List ℕ) (first long last : ℕ) (ms : Members) : Type 0 where
+pub record Ordered (bytes : List ℕ) (table : List Value) (order : List ℕ) (first long last : ℕ) (ms : Members) : Type 0 where
   pub few : last < most_members
   pub entries : Entries bytes table long (last + 1) (first * long) ms
   pub length_is : length order ≡ last + 1
   pub below : all_below (last + 1) order ≡ true
 
 -- A struct has a member at least.
-pub struct_some : {bytes : List ℕ} {table : List (List ℕ)} {l : Value} {ms : Members} → Struct bytes table l ms → 1 ≤ l.count
+pub struct_some : {bytes : List ℕ} {table : List Value} {l : Value} {ms : Members} → Struct bytes table l ms → 1 ≤ l.count
 struct_some {ms = ms} s = omega (arith, (struct_passed s.number ms s.well_formed).some_there, s.count_is)
 
 -- An order of one struct's members is one of those of any struct with its value.
-pub ordered : {bytes : List ℕ} {table : List (List ℕ)} {l : Value} {own ms : Members} {order : List ℕ} {first long count : ℕ} → Struct bytes table l own → length order ≡ count_of own → all_below (count_of own) order ≡ true → first ≡ l.reference → long ≡ l.stride → count ≡ l.count → Struct bytes table l ms → Ordered bytes table order first long (count - 1) ms
+pub ordered : {bytes : List ℕ} {table : List Value} {l : Value} {own ms : Members} {order : List ℕ} {first long count : ℕ} → Struct bytes table l own → length order ≡ count_of own → all_below (count_of own) order ≡ true → first ≡ l.reference → long ≡ l.stride → count ≡ l.count → Struct bytes table l ms → Ordered bytes table order first long (count - 1) ms
 ordered {l = l} {count = count} s n below f g h t =
     let c : count - 1 + 1 ≡ l.count = omega (arith, struct_some s) in
     record {
@@ -81,7 +81,7 @@ ordered {l = l} {count = count} s n below f g h t =
     }
 
 -- the member at position i of the order, whose number is p
-module _ {bytes : List ℕ} {table : List (List ℕ)} {order : List ℕ} {first long last : ℕ} {ms : Members} (o : Ordered bytes table order first long last ms) (i : ℕ) (low : i ≤ last) (p : ℕ) (is : p ≡ get_or order i 0) where
+module _ {bytes : List ℕ} {table : List Value} {order : List ℕ} {first long last : ℕ} {ms : Members} (o : Ordered bytes table order first long last ms) (i : ℕ) (low : i ≤ last) (p : ℕ) (is : p ≡ get_or order i 0) where
   entry : Entry bytes table long (first * long) ms (get_or order i 0)
   entry = entry_at o.entries (get_or order i 0) (below_at (last + 1) order i o.below (omega (arith, o.length_is)))
 

@@ -67,7 +67,7 @@ not_allowed k ms e = rw (e, and-false (between 1 most_members (count_of ms)))
 pub walked_meets : {ms : Members} {order : List ℕ} {i : ℕ} {run : (Result Ends Broken)} {e : MemberEntry} {l : Value} (d : Walked ms order i run) (m : Coming ms (get_or order i 0) e l) → Meets run l d.members m.type
 walked_meets d m = record { verdict = d.verdict; layout = m.layout; going = d.going; well_formed = m.well_formed }
 
-module _ {bytes : List ℕ} {table : List (List ℕ)} {order : List ℕ} {first long last : ℕ} {ms : Members} {i : ℕ} {run : (Result Ends Broken)} {e : MemberEntry} {l : Value} (o : Ordered bytes table order first long last ms) (d : Walked ms order i run) (m : Coming ms (get_or order i 0) e l) (low : i ≤ last) where
+module _ {bytes : List ℕ} {table : List Value} {order : List ℕ} {first long last : ℕ} {ms : Members} {i : ℕ} {run : (Result Ends Broken)} {e : MemberEntry} {l : Value} (o : Ordered bytes table order first long last ms) (d : Walked ms order i run) (m : Coming ms (get_or order i 0) e l) (low : i ≤ last) where
   more_read : reordered ms (take (suc i) order) ≡ some (followed d.members m.type e)
   more_read =
       rw (take-suc order i 0 (omega (arith, o.length_is)))

@@ -15,7 +15,7 @@ ghost use Rattle.said.specs.Answer.{maybe_of};
 use file::fields::{MemberEntry, member_at};
 use layout_members::given_align;
 use layout_structs::{SoFar, no_members, step};
-use layout_values::value::{Row, Value, opens, value_at};
+use layout_values::value::{Broken, Value, value_at};
 use numbers::limit::round_up;
 use numbers::wide::wide;
 
@@ -46,7 +46,7 @@ fn end_after(past: SoFar, l: Value, m: MemberEntry) -> Option<u32>
     requires { (ms : Members) × (t : Ty) × Last past l (member_is m) ms t }
     ensures { (k : ℕ) (ms : Members) (t : Ty) → Last past l (member_is m) ms t → maybe_of result ≡ laid_end k (followed ms t (member_is m)) }
 {
-    if opens(l) {
+    if l.opens() {
         return match past {
             Ok(p) => round_up(given_align(m, l.align), p.end),
             _ => None,
@@ -63,7 +63,7 @@ fn end_after(past: SoFar, l: Value, m: MemberEntry) -> Option<u32>
 
 // Where a struct of the value `l` ends with its members in this order: its size, or where its runtime array starts. None where a runtime
 // array is not the last, or a number passes the limit.
-pub fn end_in(members: &[u8], table: &[Row], l: Value, order: &[u32]) -> Option<u32>
+pub fn end_in(members: &[u8], table: &[Value], l: Value, order: &[u32]) -> Option<u32>
     requires { (ms : Members) × Struct members.now table.now l ms × (length order.now ≡ count_of ms) × (all_below (count_of ms) order.now ≡ true) }
     ensures { (k : ℕ) (ms new : Members) → Struct members.now table.now l ms → reordered ms order.now ≡ some new → maybe_of result ≡ laid_end k new }
 {

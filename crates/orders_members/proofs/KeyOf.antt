@@ -36,7 +36,7 @@ kind_other (runtime t) h = absurd (h refl)
 kind_other (atomic s) h = refl
 kind_other (struct k ms) h = refl
 
-module _ {bytes : List ℕ} {table : List (List ℕ)} {m : ℕ} {t : Ty} {size align : Option ℕ} (e : Entered bytes table m t size align) where
+module _ {bytes : List ℕ} {table : List Value} {m : ℕ} {t : Ty} {size align : Option ℕ} (e : Entered bytes table m t size align) where
   kind_is : (member_value bytes table m).kind ≡ kind_of t
   unfolding value_of
   kind_is = ap (λ (l : Value). l.kind) e.value_is

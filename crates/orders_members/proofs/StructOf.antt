@@ -43,7 +43,7 @@ allowed_last {t} x =
 named : {f : List ℕ} {ts : List Ty} {k j : ℕ} {x : TypeEntry} {ms : Members} → Refers f ts k x (struct j ms) → (members_from f (take k ts) x.count x.reference ≡ some ms) × (x.reference + x.count ≤ (trailer_of f).members)
 named (to_members ms are within) = (are, within)
 
-module _ {f : List ℕ} {ts : List Ty} {bytes : List ℕ} {table : List (List ℕ)} (basis : Basis f ts bytes table) (e : ℕ) where
+module _ {f : List ℕ} {ts : List Ty} {bytes : List ℕ} {table : List Value} (basis : Basis f ts bytes table) (e : ℕ) where
   entered : (m : ℕ) (t : Ty) (ms : Members) → m < (trailer_of f).members → rest_is_zero (member_entry_at f m) ≡ true → lower (take e ts) (member_entry_at f m).type ≡ some t → Member t (given_size (member_entry_at f m)) (given_align (member_entry_at f m)) ms → Entered (member_bytes f) table (m * member_length f) t (given_size (member_entry_at f m)) (given_align (member_entry_at f m))
   entered m t ms h zeros is x =
       let r = read basis {e = e} m t h is in

@@ -15,7 +15,7 @@ use Rattle.walk_trees.specs.Slot.{member_at, member_value}
 -- ---- one member entry
 
 -- the entry at byte m of the member entries is of the type t, with this size and align given, and has passed 5 to 7
-pub record Entered (bytes : List ℕ) (table : List (List ℕ)) (m : ℕ) (t : Ty) (size align : Option ℕ) : Type 0 where
+pub record Entered (bytes : List ℕ) (table : List Value) (m : ℕ) (t : Ty) (size align : Option ℕ) : Type 0 where
   pub inside : m + member_fields_length ≤ length bytes
   pub type_inside : (member_at bytes m).type < length table
   pub value_is : member_value bytes table m ≡ value_of (member_value bytes table m).stride (member_value bytes table m).reference t
@@ -30,14 +30,14 @@ pub record Entered (bytes : List ℕ) (table : List (List ℕ)) (m : ℕ) (t : T
 -- ---- so many of them
 
 -- so many member entries of `long` bytes from byte m on are these members
-pub data Entries (bytes : List ℕ) (table : List (List ℕ)) (long : ℕ) : ℕ → ℕ → Members → Type 0 where
+pub data Entries (bytes : List ℕ) (table : List Value) (long : ℕ) : ℕ → ℕ → Members → Type 0 where
   none : {m : ℕ} → Entries bytes table long zero m no_more
   more : {c m : ℕ} {t : Ty} {size align : Option ℕ} {ms : Members} → Entered bytes table m t size align → Entries bytes table long c (m + long) ms → Entries bytes table long (suc c) m (member t size align ms)
 
 -- ---- the members of an entry
 
 -- a struct of the value l, whose members are ms
-pub record Struct (bytes : List ℕ) (table : List (List ℕ)) (l : Value) (ms : Members) : Type 0 where
+pub record Struct (bytes : List ℕ) (table : List Value) (l : Value) (ms : Members) : Type 0 where
   pub number : ℕ
   pub value_is : l ≡ value_of l.stride l.reference (struct number ms)
   pub well_formed : everywhere is_well_formed (struct number ms) ≡ true

@@ -9,11 +9,11 @@ ghost use Rattle.orders_members.specs.Entries.{Entered, key_of};
 use file::fields::member_at;
 use file::kinds::RUNTIME;
 use layout_members::given_align;
-use layout_values::value::{Row, value_at};
+use layout_values::value::{value_at, Value};
 use numbers::wide::wide;
 
 // The key of the member whose entry begins at byte `m`: its alignment, given or its type's; 0 of a runtime array.
-pub fn member_key(members: &[u8], table: &[Row], m: usize) -> u32
+pub fn member_key(members: &[u8], table: &[Value], m: usize) -> u32
     requires { (t : Ty) × (size : Option ℕ) × (align : Option ℕ) × Entered members.now table.now m t size align }
     ensures { (t : Ty) (size align : Option ℕ) → Entered members.now table.now m t size align → result ≡ key_of t align }
 {

@@ -15,13 +15,14 @@ use lib.Seq.{sets, length-sets}
 use Rattle.wgsl.specs.Types.{Ty, Members, member}
 use Rattle.orders_members.specs.Entries.{Entered, Entries, none, more, key_of}
 use Rattle.orders_plan.specs.Keyed.{keyed_at}
+use Rattle.layout_values.specs.declared.value.Value.{Value}
 
 -- ---- the members that are left
 
 -- a pass for a key over so many member entries, which are `all`: it puts positions into the list `old` from place k on
 pub record Pass : Type 0 where
   pub bytes : List ℕ
-  pub table : List (List ℕ)
+  pub table : List Value
   pub long : ℕ
   pub count : ℕ
   pub key : ℕ

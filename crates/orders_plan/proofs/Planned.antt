@@ -30,7 +30,7 @@ pub record Plan (ms : Members) (old : List ℕ) (next left : ℕ) (order : List 
   pub list_is : sets order next (rest left ms) ≡ sets old 0 (planned_order ms)
   pub place_is : next + length (rest left ms) ≡ count_of ms
 
-module _ {bytes : List ℕ} {table : List (List ℕ)} {l : Value} {ms : Members} (s : Struct bytes table l ms) where
+module _ {bytes : List ℕ} {table : List Value} {l : Value} {ms : Members} (s : Struct bytes table l ms) where
   long_as : length (planned_order ms) ≡ count_of ms
   long_as = planned_length s.number ms s.well_formed
 
@@ -89,7 +89,7 @@ module _ {ms : Members} {old : List ℕ} {next left : ℕ} {order : List ℕ} (p
 
 -- ---- the last pass
 
-module _ {bytes : List ℕ} {table : List (List ℕ)} {l : Value} {ms : Members} (s : Struct bytes table l ms) {old : List ℕ} {next : ℕ} {order : List ℕ} (p : Plan ms old next 0 order) (r : count_of ms ≤ length old) where
+module _ {bytes : List ℕ} {table : List Value} {l : Value} {ms : Members} (s : Struct bytes table l ms) {old : List ℕ} {next : ℕ} {order : List ℕ} (p : Plan ms old next 0 order) (r : count_of ms ≤ length old) where
   pub last_room : next + length (keyed_at 0 0 ms) ≤ length order
   last_room = omega (arith, part_place p (keyed_at 0 0 ms) [] (last_part s), plan_long p)
 

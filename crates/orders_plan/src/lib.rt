@@ -9,7 +9,7 @@ ghost use Rattle.wgsl.specs.Order.{planned_order};
 ghost use Rattle.orders_members.specs.Entries.{Struct};
 ghost use Rattle.orders_plan.specs.Keyed.{keyed_at};
 
-use layout_values::value::{Row, Value};
+use layout_values::value::Value;
 use numbers::wide::wide;
 use orders_members::member_key;
 
@@ -19,7 +19,7 @@ const LARGEST: u32 = 0x8000_0000;
 // Puts the positions of the members with this key, as they stand, into the list from place `k` on; answers the place after them.
 fn put_keyed(
     members: &[u8],
-    table: &[Row],
+    table: &[Value],
     l: Value,
     key: u32,
     order: &mut [u32],
@@ -46,7 +46,7 @@ fn put_keyed(
 }
 
 // Puts the planned order of a struct of the value `l` into the front of the list. Later places stay.
-pub fn plan_members(members: &[u8], table: &[Row], l: Value, order: &mut [u32])
+pub fn plan_members(members: &[u8], table: &[Value], l: Value, order: &mut [u32])
     requires { (ms : Members) × Struct members.now table.now l ms × (count_of ms ≤ length order.old) }
     ensures { (ms : Members) → Struct members.now table.now l ms → order.new ≡ planned_order ms ++ drop (count_of ms) order.old }
 {

@@ -17,7 +17,7 @@ use Rattle.walk_path.specs.Way.{at_entry, Standing}
 use Rattle.paths.specs.Locate.{Viewable}
 use Rattle.paths.proofs.HeldOf.{There}
 
-module _ {f ms : List ℕ} {table : List (List ℕ)} {e : ℕ} {l : Value} {t : Ty} (x : Viewable f ms table e l t) where
+module _ {f ms : List ℕ} {table : List Value} {e : ℕ} {l : Value} {t : Ty} (x : Viewable f ms table e l t) where
   is_entry : entry_of f e ≡ good t
   unfolding entry_of ◌>>=◌ or_refuse
   is_entry = rw (x.basis.good_file, x.there) refl

@@ -33,7 +33,7 @@ use Rattle.paths.specs.Locate.{held_of, Viewable, Opening}
 
 -- ---- an entry
 
-module _ {f ms : List ℕ} {table : List (List ℕ)} {e : ℕ} {l : Value} {t : Ty} (x : Viewable f ms table e l t) where
+module _ {f ms : List ℕ} {table : List Value} {e : ℕ} {l : Value} {t : Ty} (x : Viewable f ms table e l t) where
   pub viewable_value : l ≡ value_of l.stride l.reference t
   viewable_value = rw x.is_layout (layout_value x.basis e t x.there)
 

@@ -16,10 +16,11 @@ use Rattle.walk_decide.specs.Meant.{members_part, Meant}
 use Rattle.walk_decide.proofs.EntryFor.{for_missing}
 use Rattle.walk_decide.proofs.Meant.{entry_site, entry_layout}
 use Rattle.paths.specs.Locate.{Viewable}
+use Rattle.layout_values.specs.declared.value.Value.{Value}
 
 -- ---- what its walk asks
 
-pub entry_viewable : {f : List ℕ} {e : ℕ} {g : Ground} {table : List (List ℕ)} {t : Ty} → Meant f e g table t → has_layout t ≡ true → Viewable f (members_part f g) table e g.value t
+pub entry_viewable : {f : List ℕ} {e : ℕ} {g : Ground} {table : List Value} {t : Ty} → Meant f e g table t → has_layout t ≡ true → Viewable f (members_part f g) table e g.value t
 entry_viewable x h =
     record { types = x.types; basis = entry_site x; there = x.there; is_layout = entry_layout x; is_laid_out = h }
 

@@ -27,7 +27,7 @@ held_of t b =
 -- ---- an entry of the table
 
 -- entry e, of the type t and the value l, that has a layout
-pub record Viewable (f ms : List ℕ) (table : List (List ℕ)) (e : ℕ) (l : Value) (t : Ty) : Type 0 where
+pub record Viewable (f ms : List ℕ) (table : List Value) (e : ℕ) (l : Value) (t : Ty) : Type 0 where
   pub types : List Ty
   pub basis : Basis f types ms table
   pub there : get_elem? types e ≡ some t

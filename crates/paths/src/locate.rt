@@ -10,7 +10,7 @@ ghost use Rattle.said.specs.Answer.{said};
 
 use file::trailer::check_trailer;
 use layout_table::{Ground, find};
-use layout_values::value::{Row, Value, blank, opens};
+use layout_values::value::{Value, blank};
 use numbers::wide::wide;
 use said::refusal::Refusal;
 use walk_decide::{Rest, allow, elements_in, rest_of};
@@ -28,11 +28,11 @@ fn held_open(x: Rest, bytes: usize) -> Option<Held>
 }
 
 // 15: for an entry of the value `l` and a buffer of so many bytes.
-fn held_of(members: &[u8], table: &[Row], l: Value, bytes: usize) -> Option<Held>
+fn held_of(members: &[u8], table: &[Value], l: Value, bytes: usize) -> Option<Held>
     requires { (f : List ℕ) × (e : ℕ) × (t : Ty) × Viewable f members.now table.now e l t × (bytes ≤ limit) }
     ensures { (f : List ℕ) (e : ℕ) (t : Ty) (b : List ℕ) → Viewable f members.now table.now e l t → length b ≡ bytes → result ≡ held_of t b }
 {
-    if opens(l) {
+    if l.opens() {
         return held_open(rest_of(members, table, l), bytes);
     }
     let size = wide(l.size);
@@ -45,7 +45,7 @@ fn held_of(members: &[u8], table: &[Row], l: Value, bytes: usize) -> Option<Held
 // What lies under a path: 15, and then the first bad step.
 fn target_in(
     members: &[u8],
-    table: &[Row],
+    table: &[Value],
     e: usize,
     l: Value,
     path: &[u32],
@@ -63,7 +63,7 @@ fn target_at(
     file: &[u8],
     e: usize,
     g: Ground,
-    table: &[Row],
+    table: &[Value],
     path: &[u32],
     bytes: usize,
     stored: bool,

@@ -40,7 +40,7 @@ unfolding block_ground
 ground_refused f e mask bytes h =
     then_cases _ _ (sym h) (λ q. q) (λ q. good_not_refused (is_entry q.first).entry (entry_missing f e (sym q.after)))
 
-pub ground_at : (f : List ℕ) (e mask bytes : ℕ) (g : Ground) (table : List (List ℕ)) → good (record { ground = g; table = table }) ≡ block_ground f e mask bytes → (t : Ty) × BlockAt f e g table mask bytes t
+pub ground_at : (f : List ℕ) (e mask bytes : ℕ) (g : Ground) (table : List Value) → good (record { ground = g; table = table }) ≡ block_ground f e mask bytes → (t : Ty) × BlockAt f e g table mask bytes t
 unfolding block_ground
 ground_at f e mask bytes g table h =
     let q = then_good _ _ (sym h) in
@@ -62,7 +62,7 @@ members_are : {mask : ℕ} {t : Ty} (b : Block mask t) → settings_of t ≡ cou
 unfolding settings_of
 members_are b = rw b.is refl
 
-module _ {f : List ℕ} {e : ℕ} {g : Ground} {table : List (List ℕ)} {mask bytes : ℕ} {t : Ty} (x : BlockAt f e g table mask bytes t) where
+module _ {f : List ℕ} {e : ℕ} {g : Ground} {table : List Value} {mask bytes : ℕ} {t : Ty} (x : BlockAt f e g table mask bytes t) where
   pub closed : is_open t ≡ false
   closed = (block_struct mask t (is_entry x.block).block).closed
 
@@ -96,7 +96,7 @@ module _ {f : List ℕ} {e : ℕ} {g : Ground} {table : List (List ℕ)} {mask b
       omega (arith, count_is, members_are b, leb-true (count_of b.members) 64 b.few)
 
 -- the block, in buffers of these lengths
-pub in_these : {f : List ℕ} {e : ℕ} {g : Ground} {table : List (List ℕ)} {mask m n : ℕ} {t : Ty} (a b : List ℕ) → BlockAt f e g table mask (max m n) t → length a ≡ m → length b ≡ n → block_entry f e mask (max (length a) (length b)) ≡ good t
+pub in_these : {f : List ℕ} {e : ℕ} {g : Ground} {table : List Value} {mask m n : ℕ} {t : Ty} (a b : List ℕ) → BlockAt f e g table mask (max m n) t → length a ≡ m → length b ≡ n → block_entry f e mask (max (length a) (length b)) ≡ good t
 in_these a b x la lb = rw (la, lb) x.block
 
 -- ---- the spot in it

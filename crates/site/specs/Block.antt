@@ -8,6 +8,7 @@ use Rattle.wgsl.specs.Site.{is_block, block_entry}
 use Rattle.layout_table.specs.declared.Ground.{Ground}
 use Rattle.layout_table.specs.Table.{InTable, ground_in}
 use Rattle.walk_decide.specs.Meant.{Meant}
+use Rattle.layout_values.specs.declared.value.Value.{Value}
 
 -- 17, 9, 10, then 21
 unfoldable pub block_allowed : ℕ → Ty → ℕ → Said (Unit {0})
@@ -22,6 +23,6 @@ block_ground f e mask bytes = do
   ground_in f e
 
 -- entry e is the block of the type t, found in the table
-pub record BlockAt (f : List ℕ) (e : ℕ) (g : Ground) (table : List (List ℕ)) (mask bytes : ℕ) (t : Ty) : Type 0 where
+pub record BlockAt (f : List ℕ) (e : ℕ) (g : Ground) (table : List Value) (mask bytes : ℕ) (t : Ty) : Type 0 where
   pub meant : Meant f e g table t
   pub block : block_entry f e mask bytes ≡ good t

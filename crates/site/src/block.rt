@@ -11,7 +11,7 @@ ghost use Rattle.said.specs.Answer.{said};
 use file::kinds::STRUCT;
 use file::trailer::check_trailer;
 use layout_table::find;
-use layout_values::value::{Row, Value, opens};
+use layout_values::value::Value;
 use said::refusal::Refusal;
 use walk_decide::allow;
 
@@ -36,7 +36,7 @@ pub fn is_block(l: Value, mask: u64) -> bool
     if l.kind != STRUCT {
         return false;
     }
-    if opens(l) {
+    if l.opens() {
         return false;
     }
     if MOST_SETTINGS < l.count {
@@ -57,7 +57,7 @@ fn allow_block(l: Value, mask: u64, bytes: usize) -> Result<(), Refusal>
 }
 
 // Fills the table, and finds in it the block that entry `entry` is with this mask. Refuses 1 to 7, 24, 8, 17, 9, 10, 21.
-pub fn find_block(file: &[u8], entry: u32, mask: u64, bytes: usize, table: &mut [Row]) -> Result<Ground, Refusal>
+pub fn find_block(file: &[u8], entry: u32, mask: u64, bytes: usize, table: &mut [Value]) -> Result<Ground, Refusal>
     requires { table.old ≡ blank_table }
     ensures { said_ground result table.new ≡ block_ground file.now entry mask bytes }
 {

@@ -12,14 +12,14 @@ ghost use Rattle.said.specs.Answer.{said};
 use crate::block::find_block;
 use crate::mask::without_bit;
 use layout_table::Ground;
-use layout_values::value::{Row, blank};
+use layout_values::value::{blank, Value};
 use numbers::wide::wide;
 use said::refusal::Refusal;
 use walk_path::enter::{Stand, enter};
 use walk_path::step::Step;
 
 // 11, with place 0, for a member that entry `e` has not.
-fn member_there(members: &[u8], table: &[Row], e: usize, k: u32) -> Result<(), Refusal>
+fn member_there(members: &[u8], table: &[Value], e: usize, k: u32) -> Result<(), Refusal>
     requires { (f : List ℕ) × (ts : List Ty) × (x : Shape) × Standing f ts members.now table.now 0 (Entry e) x }
     ensures { (f : List ℕ) (ts : List Ty) (x : Shape) → Standing f ts members.now table.now 0 (Entry e) x → said result ≡ there_in x k }
 {
@@ -34,7 +34,7 @@ fn member_there(members: &[u8], table: &[Row], e: usize, k: u32) -> Result<(), R
 }
 
 // The same in the block that was found.
-fn there_in(file: &[u8], e: usize, g: Ground, table: &[Row], k: u32) -> Result<(), Refusal>
+fn there_in(file: &[u8], e: usize, g: Ground, table: &[Value], k: u32) -> Result<(), Refusal>
     requires { (t : Ty) × (mask : ℕ) × (bytes : ℕ) × BlockAt file.now e g table.now mask bytes t }
     ensures { (t : Ty) (mask bytes : ℕ) → BlockAt file.now e g table.now mask bytes t → said result ≡ there_in (shape_of 0 t) k }
 {

@@ -12,7 +12,7 @@ ghost use Rattle.said.specs.Answer.{said};
 use crate::block::find_block;
 use crate::buffers::{both_have, longer};
 use layout_table::Ground;
-use layout_values::value::{Row, blank};
+use layout_values::value::{blank, Value};
 use numbers::wide::wide;
 use said::refusal::Refusal;
 use said::target::Target;
@@ -30,7 +30,7 @@ pub struct Spot {
 
 
 // What `path` leads to from the member `i`.
-fn spot_from(members: &[u8], table: &[Row], i: Inner, path: &[u32]) -> Result<Spot, Refusal>
+fn spot_from(members: &[u8], table: &[Value], i: Inner, path: &[u32]) -> Result<Spot, Refusal>
     requires { (f : List ℕ) × (ts : List Ty) × (y : Shape) × Standing f ts members.now table.now 0 i.stand y × (i.size ≡ span_of y) × (i.offset + span_of y ≤ limit) }
     ensures { (f : List ℕ) (ts : List Ty) (y : Shape) → Standing f ts members.now table.now 0 i.stand y → i.size ≡ span_of y → said result ≡ spot_from i.offset y path.now }
 {
@@ -42,7 +42,7 @@ fn spot_from(members: &[u8], table: &[Row], i: Inner, path: &[u32]) -> Result<Sp
 }
 
 // Member `k` of entry `e`, and what `path` leads to in it.
-fn spot_at(members: &[u8], table: &[Row], e: usize, k: u32, path: &[u32]) -> Result<Spot, Refusal>
+fn spot_at(members: &[u8], table: &[Value], e: usize, k: u32, path: &[u32]) -> Result<Spot, Refusal>
     requires { (f : List ℕ) × (ts : List Ty) × (x : Shape) × Standing f ts members.now table.now 0 (Entry e) x }
     ensures { (f : List ℕ) (ts : List Ty) (x : Shape) → Standing f ts members.now table.now 0 (Entry e) x → said result ≡ spot_at x k path.now }
 {
@@ -61,7 +61,7 @@ fn spot_in(
     file: &[u8],
     e: usize,
     g: Ground,
-    table: &[Row],
+    table: &[Value],
     k: u32,
     path: &[u32],
     factory: usize,

@@ -30,6 +30,7 @@ use Rattle.walk_shapes.proofs.Basis.{basis_inside}
 use Rattle.uniform_rules.proofs.KeepsBy.{keeps_ask, keeps_is}
 use Rattle.uniform.specs.Lowest.{lowest_among, lowest_by, LowestAsks, IsLowest, verdict_of}
 use Rattle.uniform.proofs.RefersBy.{refers_is, refers_inside}
+use Rattle.layout_values.specs.declared.value.Value.{Value}
 
 -- ---- the lowest number told of some entries
 
@@ -53,7 +54,7 @@ among_there told (s ∷ rs) h =
 
 -- ---- one more entry
 
-module _ {f : List ℕ} {ts : List Ty} {ms : List ℕ} {table : List (List ℕ)} (basis : Basis f ts ms table) {k : ℕ} {t : Ty} (there : get_elem? ts k ≡ some t) (few : k < 256) (told : List ℕ) (all : (j : ℕ) → j < k → IsLowest f ts j (get_or told j 0)) where
+module _ {f : List ℕ} {ts : List Ty} {ms : List ℕ} {table : List Value} (basis : Basis f ts ms table) {k : ℕ} {t : Ty} (there : get_elem? ts k ≡ some t) (few : k < 256) (told : List ℕ) (all : (j : ℕ) → j < k → IsLowest f ts j (get_or told j 0)) where
   -- what is told of an entry that k refers to
   told_of : {r : ℕ} → Memᴰ r (refers_to f k) → IsLowest f ts r (get_or told r 0)
   told_of {r} m = all r (refers_lower f ts basis.good_file there m).low
@@ -105,7 +106,7 @@ module _ {f : List ℕ} {ts : List Ty} {ms : List ℕ} {table : List (List ℕ)}
 
 -- ---- upward
 
-module _ {f : List ℕ} {ts : List Ty} {ms : List ℕ} {table : List (List ℕ)} (basis : Basis f ts ms table) (k : ℕ) (low : k < length ts) where
+module _ {f : List ℕ} {ts : List Ty} {ms : List ℕ} {table : List Value} (basis : Basis f ts ms table) (k : ℕ) (low : k < length ts) where
   type_there : (t : Ty) × (get_elem? ts k ≡ some t)
   type_there = (get_or ts k (scalar bool), get_elem_get_d ts k (scalar bool) low)
 

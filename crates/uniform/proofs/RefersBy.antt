@@ -39,7 +39,7 @@ types_at_lem f (suc c) m h =
     let first = member_bytes_at f m (omega arith) in
     rw (byte, ap (λ (x : MemberEntry). x.type) first, types_at_lem f c (suc m) (omega arith))
 
-module _ {f : List ℕ} {ts : List Ty} {ms : List ℕ} {table : List (List ℕ)} (basis : Basis f ts ms table) (e : ℕ) where
+module _ {f : List ℕ} {ts : List Ty} {ms : List ℕ} {table : List Value} (basis : Basis f ts ms table) (e : ℕ) where
   -- they are lower than the struct
   types_inside : (told c m : ℕ) (ns : Members) → e ≤ told → members_from f (take e ts) c m ≡ some ns → m + c ≤ (trailer_of f).members → TypesInside (member_bytes f) told (member_length f) c (m * member_length f)
   unfolding members_from TypesInside

@@ -13,8 +13,9 @@ use Rattle.layout_table.specs.declared.Ground.{Ground}
 use Rattle.walk_decide.specs.Meant.{Meant}
 use Rattle.uniform.specs.Lowest.{IsLowest, verdict_of}
 use Rattle.uniform.proofs.LowestBy.{few_entries, verdict_is}
+use Rattle.layout_values.specs.declared.value.Value.{Value}
 
-module _ {f : List ℕ} {e : ℕ} {g : Ground} {table : List (List ℕ)} {t : Ty} (x : Meant f e g table t) where
+module _ {f : List ℕ} {e : ℕ} {g : Ground} {table : List Value} {t : Ty} (x : Meant f e g table t) where
   asked : Asked f x.types e t
   asked = record { good_file = x.basis.good_file; there = x.there }
 

@@ -50,13 +50,13 @@ lowest_among told (r ∷ rs) = min (get_or told r 0) (lowest_among told rs)
 
 -- ---- what is told of entry k, whatever it refers to being lower
 
-unfoldable pub lowest_by : List ℕ → List (List ℕ) → List ℕ → ℕ → ℕ
+unfoldable pub lowest_by : List ℕ → List Value → List ℕ → ℕ → ℕ
 lowest_by ms table told k =
     let l : Value = value_at table k in
     let low : ℕ = lowest_among told (refers_by ms l) in
     cond (ltb low no_entry) low (cond (keeps_by ms table l) no_entry k)
 
-pub record LowestAsks (ms : List ℕ) (table : List (List ℕ)) (told k : ℕ) : Type 0 where
+pub record LowestAsks (ms : List ℕ) (table : List Value) (told k : ℕ) : Type 0 where
   pub inside : k < length table
   pub few : k < no_entry
   pub refers_inside : RefersInside ms told (value_at table k)

@@ -16,7 +16,7 @@ use file::fields::member_at;
 use file::kinds::{STRUCT, is_scalar};
 use file::trailer::check_trailer;
 use layout_table::{Ground, find};
-use layout_values::value::{Row, Value, blank, value_at};
+use layout_values::value::{Value, blank, value_at};
 use numbers::order::smaller;
 use numbers::wide::wide;
 use said::refusal::Refusal;
@@ -60,7 +60,7 @@ fn lowest_below(members: &[u8], told: &[u32], l: Value) -> u32
 }
 
 // The lowest broken one among entry `k` and those that it reaches, which are lower.
-fn lowest_at(members: &[u8], table: &[Row], told: &[u32], k: usize) -> u32
+fn lowest_at(members: &[u8], table: &[Value], told: &[u32], k: usize) -> u32
     requires { LowestAsks members.now table.now (length told.now) k }
     ensures { result ≡ lowest_by members.now table.now told.now k }
 {
@@ -76,7 +76,7 @@ fn lowest_at(members: &[u8], table: &[Row], told: &[u32], k: usize) -> u32
 }
 
 // The same of entry `e` of an accepted file, with nothing told before.
-fn lowest_broken(members: &[u8], table: &[Row], e: usize) -> u32
+fn lowest_broken(members: &[u8], table: &[Value], e: usize) -> u32
     requires { (f : List ℕ) × (ts : List Ty) × Basis f ts members.now table.now × (e < length ts) }
     ensures { (f : List ℕ) (ts : List Ty) → Basis f ts members.now table.now → e < length ts → IsLowest f ts e result }
 {
@@ -111,7 +111,7 @@ fn verdict(low: u32) -> Result<u32, Refusal>
 }
 
 // 9, 10 and 19, of entry `e`, which is found in the table.
-fn uniform_at(file: &[u8], e: usize, g: Ground, table: &[Row]) -> Result<u32, Refusal>
+fn uniform_at(file: &[u8], e: usize, g: Ground, table: &[Value]) -> Result<u32, Refusal>
     requires { (t : Ty) × Meant file.now e g table.now t }
     ensures { (t : Ty) → Meant file.now e g table.now t → said result ≡ uniform_call file.now e }
 {

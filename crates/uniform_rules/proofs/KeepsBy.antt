@@ -50,11 +50,11 @@ own_multiple lo t align own w is fits =
     (multiple_trans own a.0 (up a.0 lo) (aligned.multiple own is) (up_multiple a.0 lo))
 
 -- members, where the one before them ended at lo, as the table says them
-pub record Kept (f : List ℕ) (table : List (List ℕ)) (c m lo : ℕ) (ns : Members) : Type 0 where
+pub record Kept (f : List ℕ) (table : List Value) (c m lo : ℕ) (ns : Members) : Type 0 where
   pub slots_all : SlotsAll (member_bytes f) table (member_length f) c (m * member_length f) lo
   pub keeps_is : (earliest : ℕ) → slots_keep (member_bytes f) table (member_length f) c (m * member_length f) lo earliest ≡ members_keep earliest (some lo) ns
 
-module _ {f : List ℕ} {ts : List Ty} {ms : List ℕ} {table : List (List ℕ)} (basis : Basis f ts ms table) (e : ℕ) where
+module _ {f : List ℕ} {ts : List Ty} {ms : List ℕ} {table : List Value} (basis : Basis f ts ms table) (e : ℕ) where
   -- those after a member
   rest_kept : (c m lo : ℕ) (t : Ty) (ns : Members) → Read f ts table e m t → members_from f (take e ts) c (suc m) ≡ some ns → Ruled (some lo) (member t (given_size (member_entry_at f m)) (given_align (member_entry_at f m)) ns) → ((lo' : ℕ) → Ruled (some lo') ns → Kept f table c (suc m) lo' ns) →
       SlotsAll (member_bytes f) table (member_length f) c (m * member_length f + member_length f) (slot_at (member_bytes f) table (m * member_length f) lo).end
@@ -105,7 +105,7 @@ module _ {f : List ℕ} {ts : List Ty} {ms : List ℕ} {table : List (List ℕ)}
 
 -- ---- every entry
 
-module _ {f : List ℕ} {ts : List Ty} {ms : List ℕ} {table : List (List ℕ)} (basis : Basis f ts ms table) (e : ℕ) where
+module _ {f : List ℕ} {ts : List Ty} {ms : List ℕ} {table : List Value} (basis : Basis f ts ms table) (e : ℕ) where
   -- the members of a struct
   struct_kept : {members : Members} → get_elem? ts e ≡ some (struct e members) → members_from f (take e ts) (type_entry_at f e).count (type_entry_at f e).reference ≡ some members → (type_entry_at f e).reference + (type_entry_at f e).count ≤ (trailer_of f).members → Kept f table (value_at table e).count (value_at table e).reference 0 members
   struct_kept {members} there are within =

@@ -20,7 +20,7 @@ use Rattle.uniform_rules.specs.Keeps.{start_keeps, earliest_by, slots_keep, Slot
 
 -- ---- what is found of the first of some members
 
-module _ {ms : List ℕ} {table : List (List ℕ)} {m end : ℕ} where
+module _ {ms : List ℕ} {table : List Value} {m end : ℕ} where
   pub slot_inside : {p : Slot} → p ≡ slot_at ms table m end → SlotAsks ms table m end → p.ty < length table
   unfolding slot_at
   slot_inside is x = rw is x.type_inside
@@ -30,11 +30,11 @@ module _ {ms : List ℕ} {table : List (List ℕ)} {m end : ℕ} where
   slot_low is x = rw is x.low
 
 -- its slot, and the value of its type
-pub record Turn (ms : List ℕ) (table : List (List ℕ)) (m end : ℕ) (p : Slot) (v : Value) : Type 0 where
+pub record Turn (ms : List ℕ) (table : List Value) (m end : ℕ) (p : Slot) (v : Value) : Type 0 where
   pub slot_is : p ≡ slot_at ms table m end
   pub value_is : v ≡ value_at table p.ty
 
-turn_value : {ms : List ℕ} {table : List (List ℕ)} {m end : ℕ} {p : Slot} {v : Value} → Turn ms table m end p v → v ≡ member_value ms table m
+turn_value : {ms : List ℕ} {table : List Value} {m end : ℕ} {p : Slot} {v : Value} → Turn ms table m end p v → v ≡ member_value ms table m
 unfolding slot_at
 turn_value {table = table} t = t.value_is ∙ ap (λ (s : Slot). value_at table s.ty) t.slot_is
 
@@ -43,7 +43,7 @@ turn_value {table = table} t = t.value_is ∙ ap (λ (s : Slot). value_at table 
 less_one : (count : ℕ) → suc count - 1 ≡ count
 less_one count = omega arith
 
-module _ (ms : List ℕ) (table : List (List ℕ)) (long m end : ℕ) where
+module _ (ms : List ℕ) (table : List Value) (long m end : ℕ) where
   -- It can be placed,
   pub next_asks : (count : ℕ) → 0 < count → SlotsAll ms table long count m end → SlotAsks ms table m end
   unfolding SlotsAll

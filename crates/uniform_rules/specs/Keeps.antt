@@ -27,7 +27,7 @@ earliest_by l earliest start =
 
 -- ---- all members of a struct, whose entries of so many bytes begin at byte m; the one before them ended at `end`
 
-unfoldable pub slots_keep : List ℕ → List (List ℕ) → ℕ → ℕ → ℕ → ℕ → ℕ → Bool
+unfoldable pub slots_keep : List ℕ → List Value → ℕ → ℕ → ℕ → ℕ → ℕ → Bool
 slots_keep ms table length zero m end earliest = true
 slots_keep ms table length (suc count) m end earliest =
     let l : Value = member_value ms table m in
@@ -36,18 +36,18 @@ slots_keep ms table length (suc count) m end earliest =
     && slots_keep ms table length count (m + length) s.end (earliest_by l earliest s.start)
 
 -- all of them can be placed
-unfoldable pub SlotsAll : List ℕ → List (List ℕ) → ℕ → ℕ → ℕ → ℕ → Type 0
+unfoldable pub SlotsAll : List ℕ → List Value → ℕ → ℕ → ℕ → ℕ → Type 0
 SlotsAll ms table length zero m end = Unit {0}
 SlotsAll ms table length (suc count) m end =
     SlotAsks ms table m end × SlotsAll ms table length count (m + length) (slot_at ms table m end).end
 
 -- ---- every kind
 
-unfoldable pub keeps_by : List ℕ → List (List ℕ) → Value → Bool
+unfoldable pub keeps_by : List ℕ → List Value → Value → Bool
 keeps_by ms table l =
     cond (eqb l.kind struct_kind) (slots_keep ms table l.stride l.count (l.reference * l.stride) 0 0)
     (cond (is_raised l.kind) (eqb (l.stride % uniform_unit) 0) (not (eqb l.kind atomic_kind)))
 
 -- what asking it takes: the members of a struct can be placed
-pub record KeepsAsk (ms : List ℕ) (table : List (List ℕ)) (l : Value) : Type 0 where
+pub record KeepsAsk (ms : List ℕ) (table : List Value) (l : Value) : Type 0 where
   pub slots_all : l.kind ≡ struct_kind → SlotsAll ms table l.stride l.count (l.reference * l.stride) 0

@@ -6,7 +6,7 @@ ghost use Rattle.wgsl.specs.Round.{limit};
 ghost use Rattle.uniform_rules.specs.Keeps.{is_raised, start_keeps, earliest_by, slots_keep, SlotsAll, keeps_by, KeepsAsk};
 
 use file::kinds::{ARRAY, ATOMIC, STRUCT};
-use layout_values::value::{Row, Value, value_at};
+use layout_values::value::{Value, value_at};
 use numbers::power::up_power;
 use numbers::wide::wide;
 use walk_trees::slot_after;
@@ -53,7 +53,7 @@ fn earliest_by(l: Value, earliest: usize, start: usize) -> usize
 }
 
 // Whether the members of a struct of the value `l` start where they may.
-fn members_keep(members: &[u8], table: &[Row], l: Value) -> bool
+fn members_keep(members: &[u8], table: &[Value], l: Value) -> bool
     requires { SlotsAll members.now table.now l.stride l.count (l.reference * l.stride) 0 }
     ensures { result ≡ slots_keep members.now table.now l.stride l.count (l.reference * l.stride) 0 0 }
 {
@@ -77,7 +77,7 @@ fn members_keep(members: &[u8], table: &[Row], l: Value) -> bool
 }
 
 // Whether a type of the value `l` keeps the rules itself; those within it are not looked at.
-pub fn keeps(members: &[u8], table: &[Row], l: Value) -> bool
+pub fn keeps(members: &[u8], table: &[Value], l: Value) -> bool
     requires { KeepsAsk members.now table.now l }
     ensures { result ≡ keeps_by members.now table.now l }
 {

@@ -25,6 +25,7 @@ use Rattle.walk_shapes.specs.Basis.{Basis}
 use Rattle.walk_shapes.proofs.Basis.{basis_layout, basis_well_formed}
 use Rattle.walk_decide.specs.Meant.{members_part, Meant}
 use Rattle.walk_decide.proofs.Tailed.{layout_value}
+use Rattle.layout_values.specs.declared.value.Value.{Value}
 
 -- ---- the members' part
 
@@ -40,7 +41,7 @@ members_inside f ts e t h = (omega arith, omega (arith, (accepted f ts h).traile
 
 -- ---- an entry that is there
 
-pub entry_found : (f : List ℕ) (e : ℕ) (table : List (List ℕ)) (g : Ground) → good (record { ground = g; table = table }) ≡ ground_in f e → (t : Ty) × Meant f e g table t
+pub entry_found : (f : List ℕ) (e : ℕ) (table : List Value) (g : Ground) → good (record { ground = g; table = table }) ≡ ground_in f e → (t : Ty) × Meant f e g table t
 unfolding ground_in entry_of
 entry_found f e table g p =
     let y = then_good (types_of f) _ (sym p) in
@@ -63,7 +64,7 @@ entry_found f e table g p =
 
 -- ---- what it is
 
-module _ {f : List ℕ} {e : ℕ} {g : Ground} {table : List (List ℕ)} {t : Ty} (x : Meant f e g table t) where
+module _ {f : List ℕ} {e : ℕ} {g : Ground} {table : List Value} {t : Ty} (x : Meant f e g table t) where
   -- It stands on the members' part.
   pub entry_site : Basis f x.types (members_part f g) table
   entry_site = rw (members_part_lem f e t x.ground_is) x.basis

@@ -11,8 +11,9 @@ use Rattle.walk_decide.specs.Whole.{Ready, Tailed}
 use Rattle.walk_decide.specs.Meant.{members_part, Meant}
 use Rattle.walk_decide.proofs.Tailed.{ready_at, tailed_at}
 use Rattle.walk_decide.proofs.Meant.{entry_site, entry_layout}
+use Rattle.layout_values.specs.declared.value.Value.{Value}
 
-module _ {f : List ℕ} {e : ℕ} {g : Ground} {table : List (List ℕ)} {t : Ty} (x : Meant f e g table t) where
+module _ {f : List ℕ} {e : ℕ} {g : Ground} {table : List Value} {t : Ty} (x : Meant f e g table t) where
   pub entry_ready : is_storable t ≡ true → Ready (members_part f g) table e g.value t
   entry_ready s = rw (entry_layout x) (ready_at (entry_site x) e t x.there s)
 

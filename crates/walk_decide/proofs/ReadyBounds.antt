@@ -22,7 +22,7 @@ use Rattle.walk_decide.specs.Decide.{rest_from}
 use Rattle.walk_decide.specs.Whole.{Ready, Tailed}
 use Rattle.walk_decide.proofs.Whole.{ready_words}
 
-module _ {ms : List ℕ} {table : List (List ℕ)} {e : ℕ} {l : Value} {t : Ty} (r : Ready ms table e l t) where
+module _ {ms : List ℕ} {table : List Value} {e : ℕ} {l : Value} {t : Ty} (r : Ready ms table e l t) where
   -- Each word takes at least two bytes.
   pub words_few : (n : ℕ) → 2 * word_count n t ≤ extent_of n t
   unfolding is_storable has_layout
@@ -37,7 +37,7 @@ module _ {ms : List ℕ} {table : List (List ℕ)} {e : ℕ} {l : Value} {t : Ty
   unfolding value_of
   size_is = ap (λ (x : Value). x.size) r.is_layout
 
-module _ {ms : List ℕ} {table : List (List ℕ)} {e : ℕ} {l : Value} {t : Ty} (x : Tailed ms table e l t) where
+module _ {ms : List ℕ} {table : List Value} {e : ℕ} {l : Value} {t : Ty} (x : Tailed ms table e l t) where
   -- It is open.
   pub tailed_open : is_open t ≡ true
   tailed_open = go (is_open t) refl

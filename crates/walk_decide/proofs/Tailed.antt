@@ -44,7 +44,7 @@ runtime_storable u well plain =
     hold_both (has_layout (runtime u)) (everywhere is_plain (runtime u))
     (hold_both (is_present (align_of u)) true (some_present (runtime_passed u well).aligned_is) refl) plain
 
-module _ {f : List ℕ} {ts : List Ty} {ms : List ℕ} {table : List (List ℕ)} (basis : Basis f ts ms table) (e : ℕ) where
+module _ {f : List ℕ} {ts : List Ty} {ms : List ℕ} {table : List Value} (basis : Basis f ts ms table) (e : ℕ) where
   -- ---- a storable entry
 
   -- The layout of an entry is its type's value.

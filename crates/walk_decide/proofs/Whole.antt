@@ -36,7 +36,7 @@ use Rattle.walk_decide.specs.Whole.{Ready, Tailed, Whole}
 
 -- ---- a storable type
 
-module _ {ms : List ℕ} {table : List (List ℕ)} {e : ℕ} {l : Value} {t : Ty} (r : Ready ms table e l t) where
+module _ {ms : List ℕ} {table : List Value} {e : ℕ} {l : Value} {t : Ty} (r : Ready ms table e l t) where
   is_laid_out : has_layout t ≡ true
   unfolding is_storable
   is_laid_out = (both_hold (has_layout t) (everywhere is_plain t) r.storable).0
@@ -85,7 +85,7 @@ module _ {ms : List ℕ} {table : List (List ℕ)} {e : ℕ} {l : Value} {t : Ty
 
 -- ---- an open type
 
-pub open_whole : {ms : List ℕ} {table : List (List ℕ)} {e : ℕ} {l : Value} {t : Ty} → Tailed ms table e l t → (n : ℕ) → Whole ms table e (open_rest (rest_from ms table l) n) t n
+pub open_whole : {ms : List ℕ} {table : List Value} {e : ℕ} {l : Value} {t : Ty} → Tailed ms table e l t → (n : ℕ) → Whole ms table e (open_rest (rest_from ms table l) n) t n
 unfolding open_rest shape_of span_of
 open_whole x n =
     let r = x.ready in
@@ -103,7 +103,7 @@ open_whole x n =
 
 -- ---- words and room
 
-module _ {ms : List ℕ} {table : List (List ℕ)} {e : ℕ} {x : Rest} {t : Ty} {n : ℕ} (w : Whole ms table e x t n) where
+module _ {ms : List ℕ} {table : List Value} {e : ℕ} {x : Rest} {t : Ty} {n : ℕ} (w : Whole ms table e x t n) where
   pub fixed_words_lem : shape_words (shape_of 0 t) ≡ x.fixed
   unfolding word_count places
   fixed_words_lem = sym (places_words (shape_of 0 t) 0) ∙ w.fixed_is

@@ -31,17 +31,17 @@ elements_found bytes offset stride =
 -- ---- what lies after the fixed part
 
 -- the last member of a struct with the value l
-abbrev pub last_slot : List ℕ → List (List ℕ) → Value → Slot
+abbrev pub last_slot : List ℕ → List Value → Value → Slot
 last_slot ms table l = slot_in ms table l.stride (l.reference * l.stride) 0 (l.count - 1)
 
 -- the runtime array that an entry with the value l is or ends in
-unfoldable pub rest_from : List ℕ → List (List ℕ) → Value → Rest
+unfoldable pub rest_from : List ℕ → List Value → Value → Rest
 rest_from ms table l =
     cond (eqb l.kind runtime_kind) (record { value = l; offset = 0; fixed = 0 })
     (record { value = value_at table (last_slot ms table l).ty; offset = (last_slot ms table l).start; fixed = l.unit })
 
 -- what finding it asks
-pub record Findable (ms : List ℕ) (table : List (List ℕ)) (l : Value) : Type 0 where
+pub record Findable (ms : List ℕ) (table : List Value) (l : Value) : Type 0 where
   pub some_members : (l.kind ≡ runtime_kind → ⊥) → 1 ≤ l.count
   pub slots_ask : (l.kind ≡ runtime_kind → ⊥) → SlotsAsk ms table l.stride (l.reference * l.stride) 0 (l.count - 1)
   pub inside : (l.kind ≡ runtime_kind → ⊥) → (last_slot ms table l).ty < length table

@@ -10,13 +10,14 @@ use Rattle.file.specs.Members.{member_bytes}
 use Rattle.layout_table.specs.declared.Ground.{Ground}
 use Rattle.layout_table.specs.Table.{ground_of}
 use Rattle.walk_shapes.specs.Basis.{Basis}
+use Rattle.layout_values.specs.declared.value.Value.{Value}
 
 -- the part of the file that the code hands on as the member entries
 abbrev pub members_part : List ℕ → Ground → List ℕ
 members_part f g = take (g.end - g.start) (drop g.start f)
 
 -- entry e of a file, of the type t
-pub record Meant (f : List ℕ) (e : ℕ) (g : Ground) (table : List (List ℕ)) (t : Ty) : Type 0 where
+pub record Meant (f : List ℕ) (e : ℕ) (g : Ground) (table : List Value) (t : Ty) : Type 0 where
   pub types : List Ty
   pub basis : Basis f types (member_bytes f) table
   pub there : get_elem? types e ≡ some t

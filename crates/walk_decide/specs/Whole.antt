@@ -26,7 +26,7 @@ pub record Covered (t : Ty) (n width : ℕ) : Type 0 where
   pub extent_is : extent_of n t ≡ count * width
 
 -- entry e, of the storable type t and the value l
-pub record Ready (ms : List ℕ) (table : List (List ℕ)) (e : ℕ) (l : Value) (t : Ty) : Type 0 where
+pub record Ready (ms : List ℕ) (table : List Value) (e : ℕ) (l : Value) (t : Ty) : Type 0 where
   pub is_layout : l ≡ value_of l.stride l.reference t
   pub well_formed : everywhere is_well_formed t ≡ true
   pub storable : is_storable t ≡ true
@@ -37,7 +37,7 @@ pub record Ready (ms : List ℕ) (table : List (List ℕ)) (e : ℕ) (l : Value)
 
 -- ---- an open entry
 
-pub record Tailed (ms : List ℕ) (table : List (List ℕ)) (e : ℕ) (l : Value) (t : Ty) : Type 0 where
+pub record Tailed (ms : List ℕ) (table : List Value) (e : ℕ) (l : Value) (t : Ty) : Type 0 where
   pub ready : Ready ms table e l t
   pub findable : Findable ms table l
   pub element : Ty
@@ -48,7 +48,7 @@ pub record Tailed (ms : List ℕ) (table : List (List ℕ)) (e : ℕ) (l : Value
   pub unit_above : 0 < (rest_from ms table l).value.unit
 
 -- .. whose tail is x
-pub record TailedBy (ms : List ℕ) (table : List (List ℕ)) (e : ℕ) (x : Rest) (t : Ty) : Type 0 where
+pub record TailedBy (ms : List ℕ) (table : List Value) (e : ℕ) (x : Rest) (t : Ty) : Type 0 where
   pub layout : Value
   pub tailed : Tailed ms table e layout t
   pub tail_is : x ≡ rest_from ms table layout
@@ -56,7 +56,7 @@ pub record TailedBy (ms : List ℕ) (table : List (List ℕ)) (e : ℕ) (x : Res
 -- ---- an entry with n elements
 
 -- entry e, of the type t with n elements: its fixed part, and the tail x after it
-pub record Whole (ms : List ℕ) (table : List (List ℕ)) (e : ℕ) (x : Rest) (t : Ty) (n : ℕ) : Type 0 where
+pub record Whole (ms : List ℕ) (table : List Value) (e : ℕ) (x : Rest) (t : Ty) (n : ℕ) : Type 0 where
   pub run_asks : RunAsks table e
   pub tree : Tree ms table e (shape_of 0 t)
   pub rest : Shape

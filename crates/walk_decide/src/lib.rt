@@ -13,7 +13,7 @@ ghost use Rattle.walk_decide.specs.Decide.{elements_of, extent_for, elements_fou
 ghost use Rattle.said.specs.Answer.{said};
 
 use file::kinds::RUNTIME;
-use layout_values::value::{Row, Value, value_at, words_of};
+use layout_values::value::{Value, value_at};
 use numbers::limit::LIMIT;
 use numbers::wide::wide;
 use said::refusal::Refusal;
@@ -106,7 +106,7 @@ pub struct Rest {
 }
 
 // The runtime array that an open entry is or ends in.
-pub fn rest_of(members: &[u8], table: &[Row], l: Value) -> Rest
+pub fn rest_of(members: &[u8], table: &[Value], l: Value) -> Rest
     requires { Findable members.now table.now l }
     ensures { result ≡ rest_from members.now table.now l }
 {
@@ -143,7 +143,7 @@ pub fn closed_rest(l: Value) -> Rest
             align: 0,
         },
         offset: 0,
-        fixed: wide(words_of(l)),
+        fixed: wide(l.words()),
     }
 }
 

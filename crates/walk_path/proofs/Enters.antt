@@ -20,18 +20,19 @@ use Rattle.walk_path.specs.declared.enter.Inner.{Inner}
 use Rattle.walk_path.specs.Way.{Standing, Enters}
 use Rattle.walk_path.proofs.SizeAt.{step_inside}
 use Rattle.walk_path.proofs.IndexStep.{stands_sound}
+use Rattle.layout_values.specs.declared.value.Value.{Value}
 
 -- ---- the next place
 
 -- what a step into i leads to from the shape x
-pub record Next (f : List ℕ) (ts : List Ty) (ms : List ℕ) (table : List (List ℕ)) (n : ℕ) (i : Inner) (x : Shape) (s : Step) : Type 0 where
+pub record Next (f : List ℕ) (ts : List Ty) (ms : List ℕ) (table : List Value) (n : ℕ) (i : Inner) (x : Shape) (s : Step) : Type 0 where
   pub y : Shape
   pub at : Standing f ts ms table n i.stand y
   pub size_is : i.size ≡ span_of y
   pub inside : i.offset + span_of y ≤ span_of x
   pub enters : (j : ℕ) → enter j x s ≡ good (target i.offset y)
 
-pub next : {f : List ℕ} {ts : List Ty} {ms : List ℕ} {table : List (List ℕ)} {n : ℕ} {p : Stand} {x : Shape} {i : Inner} {s : Step} → Standing f ts ms table n p x → Enters ts n (Ok i) x s → Next f ts ms table n i x s
+pub next : {f : List ℕ} {ts : List Ty} {ms : List ℕ} {table : List Value} {n : ℕ} {p : Stand} {x : Shape} {i : Inner} {s : Step} → Standing f ts ms table n p x → Enters ts n (Ok i) x s → Next f ts ms table n i x s
 unfolding Enters
 next {x = x} {i = i} {s = s} at (y, stands, size, enters) =
     let inside = (step_inside 0 x s (target i.offset y) (stands_sound at.basis at.stands) (enters 0)).1 in

@@ -35,14 +35,14 @@ use Rattle.walk_path.proofs.SizeAt.{kind_there, inner_size}
 -- ---- a part
 
 -- a part, of the shape y, of an entry with the layout l: a column over the entry that it refers to, or that entry
-pub record Part (ts : List Ty) (table : List (List ℕ)) (n : ℕ) (l : Value) (y : Shape) : Type 0 where
+pub record Part (ts : List Ty) (table : List Value) (n : ℕ) (l : Value) (y : Shape) : Type 0 where
   pub inside : l.reference < length table
   pub as_column : l.kind ≡ 8 → Stands ts n (Column l.unit l.reference) y × (l.unit * (value_at table l.reference).size ≡ span_of y)
   pub as_entry : (l.kind ≡ 8 → ⊥) → Stands ts n (Entry l.reference) y × (size_at table n l.reference ≡ span_of y)
 
 -- ---- what an entry is
 
-pub data EntryFound (ts : List Ty) (table : List (List ℕ)) (n e : ℕ) : Shape → Type 0 where
+pub data EntryFound (ts : List Ty) (table : List Value) (n e : ℕ) : Shape → Type 0 where
   -- kinds 0 to 6, and 13 to 15
   a_scalar : (s : Scalar) → (value_at table e).kind ≡ scalar_kind s → is_scalar_kind (value_at table e).kind ≡ true → EntryFound ts table n e (one s)
   an_atomic : (s : Scalar) → (value_at table e).kind ≡ 11 → (value_at table e).reference < length table → (value_at table (value_at table e).reference).kind ≡ scalar_kind s → EntryFound ts table n e (one s)
@@ -84,7 +84,7 @@ array_sized c t h =
 
 -- ---- every kind
 
-module _ {f : List ℕ} {ts : List Ty} {ms : List ℕ} {table : List (List ℕ)} (basis : Basis f ts ms table) (n e : ℕ) where
+module _ {f : List ℕ} {ts : List Ty} {ms : List ℕ} {table : List Value} (basis : Basis f ts ms table) (n e : ℕ) where
   -- the parts of a runtime array, and of the others
   runtime_parts : (value_at table e).kind ≡ 10 → parts_at table n e ≡ n
   unfolding parts_at

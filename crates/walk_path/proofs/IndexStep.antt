@@ -38,14 +38,14 @@ use Rattle.walk_path.proofs.EntryFound.{Part, EntryFound, a_scalar, an_atomic, o
 -- ---- where a walk stands
 
 -- a column of r scalars s over the entry e
-record InColumn (ts : List Ty) (table : List (List ℕ)) (n r e : ℕ) (x : Shape) : Type 0 where
+record InColumn (ts : List Ty) (table : List Value) (n r e : ℕ) (x : Shape) : Type 0 where
   s : Scalar
   shape_is : x ≡ column r s
   there : e < length table
   size_is : (value_at table e).size ≡ present (width_of s)
   below : Stands ts n (Entry e) (one s)
 
-module _ {f : List ℕ} {ts : List Ty} {ms : List ℕ} {table : List (List ℕ)} (basis : Basis f ts ms table) where
+module _ {f : List ℕ} {ts : List Ty} {ms : List ℕ} {table : List Value} (basis : Basis f ts ms table) where
   inside_of : {n e : ℕ} {x : Shape} → Stands ts n (Entry e) x → e < length table
   inside_of (at_entry {e} {t} there has) = basis_inside basis e t there
 
@@ -72,7 +72,7 @@ module _ {f : List ℕ} {ts : List Ty} {ms : List ℕ} {table : List (List ℕ)}
       let wide : present (width_of s) ≡ w.0 = ap present w.1 ∙ present_is w.0 in
       (omega (arith, (width_power s w.0 w.1).low), omega arith, mod_self (present (width_of s)))
 
-module _ {f : List ℕ} {ts : List Ty} {ms : List ℕ} {table : List (List ℕ)} {n e : ℕ} {x : Shape} (at : Standing f ts ms table n (Entry e) x) where
+module _ {f : List ℕ} {ts : List Ty} {ms : List ℕ} {table : List Value} {n e : ℕ} {x : Shape} (at : Standing f ts ms table n (Entry e) x) where
   pub entry_inside : e < length table
   entry_inside = inside_of at.basis at.stands
 
@@ -87,7 +87,7 @@ members_no_index n z end no_more i j = refl
 members_no_index n z end (types.member t size align ms) i j = refl
 
 -- "index step on a struct, scalar or atomic"
-pub no_index : {ts : List Ty} {table : List (List ℕ)} {n e : ℕ} {x : Shape} → EntryFound ts table n e x → (7 ≤ (value_at table e).kind → (value_at table e).kind ≤ 10 → ⊥) → (i j : ℕ) → enter j x (index i) ≡ refused 13 j
+pub no_index : {ts : List Ty} {table : List Value} {n e : ℕ} {x : Shape} → EntryFound ts table n e x → (7 ≤ (value_at table e).kind → (value_at table e).kind ≤ 10 → ⊥) → (i j : ℕ) → enter j x (index i) ≡ refused 13 j
 unfolding enter
 no_index (a_scalar s is low) none i j = refl
 no_index (an_atomic s is lower below) none i j = refl
@@ -97,7 +97,7 @@ no_index (of_members z end ms is) none i j = members_no_index _ z end ms i j
 -- ---- the part of an entry
 
 -- "index not below the count"
-pub past_end : {ts : List Ty} {table : List (List ℕ)} {n e : ℕ} {x : Shape} → EntryFound ts table n e x → 7 ≤ (value_at table e).kind → (value_at table e).kind ≤ 10 → (i : ℕ) → parts_at table n e ≤ i → (j : ℕ) → enter j x (index i) ≡ refused 12 j
+pub past_end : {ts : List Ty} {table : List Value} {n e : ℕ} {x : Shape} → EntryFound ts table n e x → 7 ≤ (value_at table e).kind → (value_at table e).kind ≤ 10 → (i : ℕ) → parts_at table n e ≤ i → (j : ℕ) → enter j x (index i) ≡ refused 12 j
 unfolding enter
 past_end (a_scalar s is under) low high i h j = absurd (kind_clash _ _ under refl low (omega arith))
 past_end (an_atomic s is lower below) low high i h j = absurd (omega arith)
@@ -105,12 +105,12 @@ past_end (of_parts {count = c} under over count stride part) low high i h j = rw
 past_end (of_members z end ms is) low high i h j = absurd (omega arith)
 
 -- part i of entry e, of the shape x
-record Indexed (ts : List Ty) (table : List (List ℕ)) (n e i : ℕ) (x : Shape) : Type 0 where
+record Indexed (ts : List Ty) (table : List Value) (n e i : ℕ) (x : Shape) : Type 0 where
   y : Shape
   part : Part ts table n (value_at table e) y
   enters : (j : ℕ) → enter j x (index i) ≡ good (record { offset = i * (value_at table e).stride; shape = y })
 
-indexed : {ts : List Ty} {table : List (List ℕ)} {n e i : ℕ} {x : Shape} → EntryFound ts table n e x → Parted table n e i → Indexed ts table n e i x
+indexed : {ts : List Ty} {table : List Value} {n e i : ℕ} {x : Shape} → EntryFound ts table n e x → Parted table n e i → Indexed ts table n e i x
 unfolding enter
 indexed (a_scalar s is under) has = absurd (kind_clash _ _ under refl has.low (omega (arith, has.high)))
 indexed (an_atomic s is lower below) has = absurd (omega (arith, has.high))
@@ -119,7 +119,7 @@ indexed {i = i} (of_parts {count = c} {y = y} low high count stride part) has =
     record { y = y; part = part; enters = λ j. rw (lt-ltb i c h, stride) }
 indexed (of_members z end ms is) has = absurd (omega (arith, has.high))
 
-module _ {f : List ℕ} {ts : List Ty} {ms : List ℕ} {table : List (List ℕ)} {n e i : ℕ} {x : Shape} (at : Standing f ts ms table n (Entry e) x) (has : Parted table n e i) where
+module _ {f : List ℕ} {ts : List Ty} {ms : List ℕ} {table : List Value} {n e i : ℕ} {x : Shape} (at : Standing f ts ms table n (Entry e) x) (has : Parted table n e i) where
   here : Indexed ts table n e i x
   here = indexed (entry_found at) has
 
@@ -158,7 +158,7 @@ column_indexed : (r : ℕ) (s : Scalar) (i j : ℕ) → i < r → enter j (colum
 unfolding enter column
 column_indexed r s i j h = rw (lt-ltb i r h)
 
-module _ {f : List ℕ} {ts : List Ty} {ms : List ℕ} {table : List (List ℕ)} {n r e : ℕ} {x : Shape} (at : Standing f ts ms table n (Column r e) x) where
+module _ {f : List ℕ} {ts : List Ty} {ms : List ℕ} {table : List Value} {n r e : ℕ} {x : Shape} (at : Standing f ts ms table n (Column r e) x) where
   own : InColumn ts table n r e x
   own = in_column at.basis at.stands
 
@@ -203,7 +203,7 @@ members_no_scalar n z end no_more = refl
 members_no_scalar n z end (types.member t size align ms) = refl
 
 -- A scalar's layout says its kind.
-pub its_scalar : {ts : List Ty} {table : List (List ℕ)} {n e : ℕ} {x : Shape} → EntryFound ts table n e x → is_scalar_kind (value_at table e).kind ≡ true → (value_at table e).kind ≡ kind_in x
+pub its_scalar : {ts : List Ty} {table : List Value} {n e : ℕ} {x : Shape} → EntryFound ts table n e x → is_scalar_kind (value_at table e).kind ≡ true → (value_at table e).kind ≡ kind_in x
 unfolding kind_in
 its_scalar (a_scalar s is under) low = is
 its_scalar (an_atomic s is lower below) low = absurd (kind_clash _ 11 low (sym is) (omega arith) (omega arith))
@@ -211,7 +211,7 @@ its_scalar (of_parts under over count stride part) low = absurd (kind_clash _ _ 
 its_scalar (of_members z end ms is) low = absurd (kind_clash _ 12 low (sym is) (omega arith) (omega arith))
 
 -- An atomic's layout refers to its scalar's.
-pub atomic_scalar : {ts : List Ty} {table : List (List ℕ)} {n e : ℕ} {x : Shape} → EntryFound ts table n e x → (value_at table e).kind ≡ 11 → ((value_at table e).reference < length table) × ((value_at table (value_at table e).reference).kind ≡ kind_in x)
+pub atomic_scalar : {ts : List Ty} {table : List Value} {n e : ℕ} {x : Shape} → EntryFound ts table n e x → (value_at table e).kind ≡ 11 → ((value_at table e).reference < length table) × ((value_at table (value_at table e).reference).kind ≡ kind_in x)
 unfolding kind_in
 atomic_scalar (a_scalar s is under) eleven = absurd (kind_clash _ 11 under (sym eleven) (omega arith) (omega arith))
 atomic_scalar (an_atomic s is lower below) eleven = (lower, below)
@@ -219,7 +219,7 @@ atomic_scalar (of_parts under over count stride part) eleven = absurd (omega ari
 atomic_scalar (of_members z end ms is) eleven = absurd (omega arith)
 
 -- Parts and structs are no one scalar.
-pub no_scalar_lem : {ts : List Ty} {table : List (List ℕ)} {n e : ℕ} {x : Shape} → EntryFound ts table n e x → is_scalar_kind (value_at table e).kind ≡ false → ((value_at table e).kind ≡ 11 → ⊥) → kind_in x ≡ 7
+pub no_scalar_lem : {ts : List Ty} {table : List Value} {n e : ℕ} {x : Shape} → EntryFound ts table n e x → is_scalar_kind (value_at table e).kind ≡ false → ((value_at table e).kind ≡ 11 → ⊥) → kind_in x ≡ 7
 unfolding kind_in
 no_scalar_lem (a_scalar s is under) high other = true_not_false under high
 no_scalar_lem (an_atomic s is lower below) high other = absurd (other is)

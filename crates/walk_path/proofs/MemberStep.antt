@@ -43,7 +43,7 @@ use Rattle.walk_path.proofs.IndexStep.{stands_sound}
 -- ---- what is found of member i
 
 -- of the members whose entries, each of so many bytes, begin at byte m; the one before them ended at `end`; x is their shape
-pub record MemberFound (ts : List Ty) (ms : List ℕ) (table : List (List ℕ)) (n long m end i : ℕ) (x : Shape) : Type 0 where
+pub record MemberFound (ts : List Ty) (ms : List ℕ) (table : List Value) (n long m end i : ℕ) (x : Shape) : Type 0 where
   pub slots_ask : SlotsAsk ms table long m end i
   pub type : Ty
   pub there : get_elem? ts (slot_in ms table long m end i).ty ≡ some type
@@ -51,7 +51,7 @@ pub record MemberFound (ts : List Ty) (ms : List ℕ) (table : List (List ℕ)) 
   pub sized : (is_present (size_of type) ≡ true) ⊎ (is_runtime type ≡ true)
   pub enters : (j : ℕ) → enter j x (member i) ≡ good (record { offset = (slot_in ms table long m end i).start; shape = shape_of n type })
 
-module _ {f : List ℕ} {ts : List Ty} {ms : List ℕ} {table : List (List ℕ)} (basis : Basis f ts ms table) (n e : ℕ) where
+module _ {f : List ℕ} {ts : List Ty} {ms : List ℕ} {table : List Value} (basis : Basis f ts ms table) (n e : ℕ) where
   -- ---- a member that is there
 
   first_found : {m lo : ℕ} {t : Ty} {others : Members} (z : ℕ) → Read f ts table e m t → Ruled (some lo) (types.member t (given_size (member_entry_at f m)) (given_align (member_entry_at f m)) others) → MemberFound ts (member_bytes f) table n (member_length f) (m * member_length f) lo 0 (fields_of n z (some lo) (types.member t (given_size (member_entry_at f m)) (given_align (member_entry_at f m)) others))
@@ -131,7 +131,7 @@ outside n i (struct c members) h j = absurd (h refl)
 
 -- ---- a member step at an entry
 
-module _ {f : List ℕ} {ts : List Ty} {ms : List ℕ} {table : List (List ℕ)} (basis : Basis f ts ms table) (n e : ℕ) where
+module _ {f : List ℕ} {ts : List Ty} {ms : List ℕ} {table : List Value} (basis : Basis f ts ms table) (n e : ℕ) where
   -- A struct's layout names its members.
   struct_found : {t : Ty} → Refers f ts e (type_entry_at f e) t → get_elem? ts e ≡ some t → (value_at table e).kind ≡ struct_kind → (i : ℕ) → i < (value_at table e).count → MemberFound ts ms table n (value_at table e).stride ((value_at table e).reference * (value_at table e).stride) 0 i (shape_of n t)
   unfolding kind_of shape_of
@@ -157,7 +157,7 @@ module _ {f : List ℕ} {ts : List Ty} {ms : List ℕ} {table : List (List ℕ)}
   struct_past (to_atomic s down below) there i h j = refl
   struct_past (to_members members are within) there i h j = past n _ i (some 0) members (omega (arith, (struct_says basis e there).1)) j
 
-module _ {f : List ℕ} {ts : List Ty} {ms : List ℕ} {table : List (List ℕ)} (basis : Basis f ts ms table) where
+module _ {f : List ℕ} {ts : List Ty} {ms : List ℕ} {table : List Value} (basis : Basis f ts ms table) where
   -- Outside a struct there is no member,
   pub member_outside : {n e : ℕ} {x : Shape} → Stands ts n (Entry e) x → ((value_at table e).kind ≡ struct_kind → ⊥) → (i j : ℕ) → enter j x (member i) ≡ refused 11 j
   member_outside {n} (at_entry {e} {t} there laid) h i j = outside n i t (λ q. h (kind_there basis e t there ∙ q)) j
@@ -172,7 +172,7 @@ module _ {f : List ℕ} {ts : List Ty} {ms : List ℕ} {table : List (List ℕ)}
       rw same (struct_found basis n e (basis_refers basis e t there) there (rw same at is) i (rw same at h))
 
 -- What a walk finds of a member: its entry and the bytes of it, within the limit.
-module _ {f : List ℕ} {ts : List Ty} {ms : List ℕ} {table : List (List ℕ)} {n e : ℕ} {x : Shape} {long m i : ℕ} (s : Standing f ts ms table n (Entry e) x) (found : MemberFound ts ms table n long m 0 i x) where
+module _ {f : List ℕ} {ts : List Ty} {ms : List ℕ} {table : List Value} {n e : ℕ} {x : Shape} {long m i : ℕ} (s : Standing f ts ms table n (Entry e) x) (found : MemberFound ts ms table n long m 0 i x) where
   pub found_inside : (slot_in ms table long m 0 i).ty < length table
   found_inside = basis_inside s.basis _ found.type found.there
 

@@ -53,11 +53,11 @@ ten_runtime (atomic s) e = absurd (omega arith)
 ten_runtime (struct k ms) e = absurd (omega arith)
 
 -- Where the bytes of an entry are within the limit, the product that `size_at` works out is.
-pub size_within : (table : List (List ℕ)) (n e : ℕ) → size_at table n e ≤ limit → (value_at table e).kind ≡ 10 → n * (value_at table e).stride ≤ limit
+pub size_within : (table : List Value) (n e : ℕ) → size_at table n e ≤ limit → (value_at table e).kind ≡ 10 → n * (value_at table e).stride ≤ limit
 unfolding size_at
 size_within table n e h is = rw (eq-eqb (value_at table e).kind 10 is) at h
 
-module _ {f : List ℕ} {ts : List Ty} {ms : List ℕ} {table : List (List ℕ)} (basis : Basis f ts ms table) where
+module _ {f : List ℕ} {ts : List Ty} {ms : List ℕ} {table : List Value} (basis : Basis f ts ms table) where
   pub kind_there : (e : ℕ) (t : Ty) → get_elem? ts e ≡ some t → (value_at table e).kind ≡ kind_of t
   unfolding value_of
   kind_there e t there = ap (λ (l : Value). l.kind) (basis_layout basis e t there)

@@ -22,19 +22,20 @@ use Rattle.walk_path.specs.declared.enter.NoStep.TheVariants.{NoIndex, NoMember,
 use Rattle.said.specs.Answer.{said}
 use Rattle.said.specs.declared.target.Target.{Target}
 use Rattle.walk_path.specs.declared.enter.Inner.{Inner}
+use Rattle.layout_values.specs.declared.value.Value.{Value}
 
 -- ---- what a value says, where a runtime array has n elements
 
 -- the bytes of entry e, which is no open struct
-unfoldable pub size_at : List (List ℕ) → ℕ → ℕ → ℕ
+unfoldable pub size_at : List Value → ℕ → ℕ → ℕ
 size_at table n e = cond (eqb (value_at table e).kind runtime_kind) (n * (value_at table e).stride) (value_at table e).size
 
 -- the parts of entry e: a vector's scalars, a matrix's columns, an array's elements
-unfoldable pub parts_at : List (List ℕ) → ℕ → ℕ → ℕ
+unfoldable pub parts_at : List Value → ℕ → ℕ → ℕ
 parts_at table n e = cond (eqb (value_at table e).kind runtime_kind) n (value_at table e).count
 
 -- entry e has parts, number i among them
-pub record Parted (table : List (List ℕ)) (n e i : ℕ) : Type 0 where
+pub record Parted (table : List Value) (n e i : ℕ) : Type 0 where
   pub low : vector_kind ≤ (value_at table e).kind
   pub high : (value_at table e).kind ≤ runtime_kind
   pub inside : i < parts_at table n e
@@ -46,7 +47,7 @@ pub data Stands (ts : List Ty) (n : ℕ) : Stand → Shape → Type 0 where
   at_entry : {e : ℕ} {t : Ty} → get_elem? ts e ≡ some t → has_layout t ≡ true → Stands ts n (Entry e) (shape_of n t)
   at_column : {r e : ℕ} {s : Scalar} → get_elem? ts e ≡ some (scalar s) → has_layout (scalar s) ≡ true → Stands ts n (Column r e) (column r s)
 
-pub record Standing (f : List ℕ) (ts : List Ty) (ms : List ℕ) (table : List (List ℕ)) (n : ℕ) (p : Stand) (x : Shape) : Type 0 where
+pub record Standing (f : List ℕ) (ts : List Ty) (ms : List ℕ) (table : List Value) (n : ℕ) (p : Stand) (x : Shape) : Type 0 where
   pub basis : Basis f ts ms table
   pub stands : Stands ts n p x
   pub within : span_of x ≤ limit
@@ -64,6 +65,6 @@ Enters ts n (Err NoIndex) x s = (j : ℕ) → enter j x s ≡ refused 13 j
 -- ---- what a walk promises
 
 -- from wherever it stands, in so many bytes, the steps from number k on lead to what r says
-abbrev pub Walks : List ℕ → List (List ℕ) → ℕ → Stand → ℕ → List ℕ → ℕ → ℕ → Result Target Refusal → Type 0
+abbrev pub Walks : List ℕ → List Value → ℕ → Stand → ℕ → List ℕ → ℕ → ℕ → Result Target Refusal → Type 0
 Walks ms table n p size path k offset r =
     (f : List ℕ) (ts : List Ty) (x : Shape) → Standing f ts ms table n p x → size ≡ span_of x → said r ≡ reached (walk k offset x (map step_of (drop k path)))

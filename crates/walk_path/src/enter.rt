@@ -12,7 +12,7 @@ ghost use Rattle.said.specs.Target.{kind_in};
 
 use crate::step::Step;
 use file::kinds::{ATOMIC, MATRIX, RUNTIME, STRUCT, VECTOR, is_scalar};
-use layout_values::value::{Row, value_at};
+use layout_values::value::{value_at, Value};
 use numbers::wide::wide;
 use said::target::NO_SCALAR;
 use walk_trees::member_in;
@@ -34,7 +34,7 @@ pub struct Inner {
 
 
 // The bytes of entry `e`, which is no open struct. A runtime array has `n` elements.
-fn size_at(table: &[Row], n: usize, e: usize) -> usize
+fn size_at(table: &[Value], n: usize, e: usize) -> usize
     requires { (e < length table.now) × ((value_at table.now e).kind ≡ runtime_kind → n * (value_at table.now e).stride ≤ limit) }
     ensures { result ≡ size_at table.now n e }
 {
@@ -46,7 +46,7 @@ fn size_at(table: &[Row], n: usize, e: usize) -> usize
 }
 
 // Entry `e` as what a step leads to.
-fn into_entry(table: &[Row], n: usize, e: usize, offset: usize) -> Result<Inner, NoStep>
+fn into_entry(table: &[Value], n: usize, e: usize, offset: usize) -> Result<Inner, NoStep>
     requires { (e < length table.now) × ((value_at table.now e).kind ≡ runtime_kind → n * (value_at table.now e).stride ≤ limit) }
     ensures { result ≡ Ok (record { offset = offset; size = size_at table.now n e; stand = Entry e }) }
 {
@@ -58,7 +58,7 @@ fn into_entry(table: &[Row], n: usize, e: usize, offset: usize) -> Result<Inner,
 }
 
 // A member step at entry `e`.
-fn enter_member(members: &[u8], table: &[Row], n: usize, e: usize, number: u32) -> Result<Inner, NoStep>
+fn enter_member(members: &[u8], table: &[Value], n: usize, e: usize, number: u32) -> Result<Inner, NoStep>
     requires { (f : List ℕ) × (ts : List Ty) × (x : Shape) × Standing f ts members.now table.now n (Entry e) x }
     ensures { (f : List ℕ) (ts : List Ty) (x : Shape) → Standing f ts members.now table.now n (Entry e) x → Enters ts n result x (member number) }
 {
@@ -74,7 +74,7 @@ fn enter_member(members: &[u8], table: &[Row], n: usize, e: usize, number: u32) 
 }
 
 // How many parts entry `e` has. A runtime array has `n` elements.
-fn parts_at(table: &[Row], n: usize, e: usize) -> usize
+fn parts_at(table: &[Value], n: usize, e: usize) -> usize
     requires { e < length table.now }
     ensures { result ≡ parts_at table.now n e }
 {
@@ -86,7 +86,7 @@ fn parts_at(table: &[Row], n: usize, e: usize) -> usize
 }
 
 // A part that is there: a vector's scalar, a matrix's column, an array's element.
-fn enter_part(table: &[Row], n: usize, e: usize, number: u32) -> Result<Inner, NoStep>
+fn enter_part(table: &[Value], n: usize, e: usize, number: u32) -> Result<Inner, NoStep>
     requires { (f : List ℕ) × (ts : List Ty) × (ms : List ℕ) × (x : Shape) × Standing f ts ms table.now n (Entry e) x × Parted table.now n e number }
     ensures { (f : List ℕ) (ts : List Ty) (ms : List ℕ) (x : Shape) → Standing f ts ms table.now n (Entry e) x → Parted table.now n e number → Enters ts n result x (index number) }
 {
@@ -104,7 +104,7 @@ fn enter_part(table: &[Row], n: usize, e: usize, number: u32) -> Result<Inner, N
 }
 
 // An index step at entry `e`: vectors, matrices and arrays have parts.
-fn enter_index(table: &[Row], n: usize, e: usize, number: u32) -> Result<Inner, NoStep>
+fn enter_index(table: &[Value], n: usize, e: usize, number: u32) -> Result<Inner, NoStep>
     requires { (f : List ℕ) × (ts : List Ty) × (ms : List ℕ) × (x : Shape) × Standing f ts ms table.now n (Entry e) x }
     ensures { (f : List ℕ) (ts : List Ty) (ms : List ℕ) (x : Shape) → Standing f ts ms table.now n (Entry e) x → Enters ts n result x (index number) }
 {
@@ -122,7 +122,7 @@ fn enter_index(table: &[Row], n: usize, e: usize, number: u32) -> Result<Inner, 
 }
 
 // An index step at a column of `count` rows over the scalar's entry `e`.
-fn enter_column(table: &[Row], count: u32, e: usize, number: u32) -> Result<Inner, NoStep>
+fn enter_column(table: &[Value], count: u32, e: usize, number: u32) -> Result<Inner, NoStep>
     requires { (f : List ℕ) × (ts : List Ty) × (ms : List ℕ) × (n : ℕ) × (x : Shape) × Standing f ts ms table.now n (Column count e) x }
     ensures { (f : List ℕ) (ts : List Ty) (ms : List ℕ) (n : ℕ) (x : Shape) → Standing f ts ms table.now n (Column count e) x → Enters ts n result x (index number) }
 {
@@ -138,7 +138,7 @@ fn enter_column(table: &[Row], count: u32, e: usize, number: u32) -> Result<Inne
 }
 
 // What a step leads to from a place.
-pub fn enter(members: &[u8], table: &[Row], n: usize, p: Stand, s: Step) -> Result<Inner, NoStep>
+pub fn enter(members: &[u8], table: &[Value], n: usize, p: Stand, s: Step) -> Result<Inner, NoStep>
     requires { (f : List ℕ) × (ts : List Ty) × (x : Shape) × Standing f ts members.now table.now n p x }
     ensures { (f : List ℕ) (ts : List Ty) (x : Shape) → Standing f ts members.now table.now n p x → Enters ts n result x (step_is s) }
 {
@@ -160,7 +160,7 @@ pub fn enter(members: &[u8], table: &[Row], n: usize, p: Stand, s: Step) -> Resu
 }
 
 // The kind of the one scalar that a place is, or `NO_SCALAR`.
-pub fn kind_in(table: &[Row], p: Stand) -> u32
+pub fn kind_in(table: &[Value], p: Stand) -> u32
     requires { (f : List ℕ) × (ts : List Ty) × (ms : List ℕ) × (n : ℕ) × (x : Shape) × Standing f ts ms table.now n p x }
     ensures { (f : List ℕ) (ts : List Ty) (ms : List ℕ) (n : ℕ) (x : Shape) → Standing f ts ms table.now n p x → result ≡ kind_in x }
 {

@@ -7,14 +7,14 @@ ghost use Rattle.walk_path.specs.Way.{Standing, Walks};
 
 use crate::enter::{Stand, enter, kind_in};
 use crate::step::step_of;
-use layout_values::value::Row;
+use layout_values::value::Value;
 use said::refusal::Refusal;
 use said::target::Target;
 
 // The steps from number `k` on, from a place that lies at `offset` and has `size` bytes. An open type has `n` elements.
 pub fn walk(
     members: &[u8],
-    table: &[Row],
+    table: &[Value],
     n: usize,
     p: Stand,
     size: usize,

@@ -144,13 +144,13 @@ added_as {ps = ps} all h is = added_then all (added_none _ _ 0) h (omega arith) 
 -- ---- parts in turn
 
 -- parts of the shape x, by the numbers of their value: each has the shape `part` of the entry `element`
-pub record Apart (ms : List ℕ) (table : List (List ℕ)) (element count stride : ℕ) (x : Shape) : Type 0 where
+pub record Apart (ms : List ℕ) (table : List Value) (element count stride : ℕ) (x : Shape) : Type 0 where
   pub part : Shape
   pub tree : Tree ms table element part
   pub fits : span_of part ≤ stride
   pub is : x ≡ parts count stride part
 
-pub apart : {ms : List ℕ} {table : List (List ℕ)} {r : Value} {element count stride : ℕ} {x : Shape} → Many ms table r x → part_width table r ≡ 0 → element ≡ r.reference → count ≡ r.count → stride ≡ r.stride → Apart ms table element count stride x
+pub apart : {ms : List ℕ} {table : List Value} {r : Value} {element count stride : ℕ} {x : Shape} → Many ms table r x → part_width table r ≡ 0 → element ≡ r.reference → count ≡ r.count → stride ≡ r.stride → Apart ms table element count stride x
 apart m none e c s =
     let E = many_each m none in
     rw (e, c, s) (record { part = E.part; tree = E.tree; fits = E.elements.fits; is = E.is })
@@ -176,7 +176,7 @@ added_parts {c = c} {r = r} {l = l} {m = m} g count i stride at all e =
 -- ---- members in turn
 
 -- so many members of entry e, of the shape x, are left, from byte m on; those before them are added to c pieces of l
-pub record MembersAdded (ms : List ℕ) (table : List (List ℕ)) (e at c : ℕ) (l : List ℕ) (left m end r : ℕ) (l' : List ℕ) (x : Shape) : Type 0 where
+pub record MembersAdded (ms : List ℕ) (table : List Value) (e at c : ℕ) (l : List ℕ) (left m end r : ℕ) (l' : List ℕ) (x : Shape) : Type 0 where
   pub rest : Shape
   pub rest_left : Left ms table e left m end rest
   pub span_is : span_of rest ≡ span_of x
@@ -184,11 +184,11 @@ pub record MembersAdded (ms : List ℕ) (table : List (List ℕ)) (e at c : ℕ)
   pub added : Added c l done (at + span_of x) r l'
   pub whole_is : (q : ℕ) → done q ++ places_of rest (q + at) ≡ places_of x (q + at)
 
-pub member_type : (ms : List ℕ) (table : List (List ℕ)) (m end : ℕ) {p : Slot} → p ≡ slot_at ms table m end → p.ty ≡ (member_at ms m).type
+pub member_type : (ms : List ℕ) (table : List Value) (m end : ℕ) {p : Slot} → p ≡ slot_at ms table m end → p.ty ≡ (member_at ms m).type
 unfolding slot_at
 member_type ms table m end is = ap (λ (q : Slot). q.ty) is
 
-pub members_start_lem : {ms : List ℕ} {table : List (List ℕ)} {e : ℕ} (at c : ℕ) (l : List ℕ) {x : Shape} → Tree ms table e x → (value_at table e).kind ≡ struct_kind → MembersAdded ms table e at c l (value_at table e).count ((value_at table e).reference * (value_at table e).stride) 0 c l x
+pub members_start_lem : {ms : List ℕ} {table : List Value} {e : ℕ} (at c : ℕ) (l : List ℕ) {x : Shape} → Tree ms table e x → (value_at table e).kind ≡ struct_kind → MembersAdded ms table e at c l (value_at table e).count ((value_at table e).reference * (value_at table e).stride) 0 c l x
 members_start_lem at c l {x} t kind =
     record {
       rest = x;
@@ -199,7 +199,7 @@ members_start_lem at c l {x} t kind =
       whole_is = λ q. refl;
     }
 
-module _ {ms : List ℕ} {table : List (List ℕ)} {e at c : ℕ} {l : List ℕ} {left m end r : ℕ} {l' : List ℕ} {x : Shape} (now : MembersAdded ms table e at c l left m end r l' x) where
+module _ {ms : List ℕ} {table : List Value} {e at c : ℕ} {l : List ℕ} {left m end r : ℕ} {l' : List ℕ} {x : Shape} (now : MembersAdded ms table e at c l left m end r l' x) where
   -- the member whose turn it is
   pub member_first : 0 < left → First ms table e left m end now.rest
   member_first h = left_first now.rest_left h

@@ -12,7 +12,7 @@ ghost use Rattle.walk_trees.specs.Tree.{Many, Tree};
 ghost use Rattle.walk_pieces.specs.Piece.{piece_of, most_pieces, Asks, Touching, Gathered, Pieced, WordsAsk, PartsAsk, PiecesAsk, Listed};
 
 use file::kinds::STRUCT;
-use layout_values::value::{Row, Value, value_at};
+use layout_values::value::{Value, value_at};
 use numbers::wide::wide;
 use runs::Parts;
 use walk_trees::{parts_of, slot_after};
@@ -111,7 +111,7 @@ fn add_parts(pieces: &mut [u32], k: usize, at: usize, p: Parts) -> usize
 #[cycle(add_entry_add_many_add_struct)]
 fn add_entry(
     members: &[u8],
-    table: &[Row],
+    table: &[Value],
     e: usize,
     at: usize,
     pieces: &mut [u32],
@@ -131,7 +131,7 @@ fn add_entry(
 #[cycle(add_entry_add_many_add_struct)]
 fn add_many(
     members: &[u8],
-    table: &[Row],
+    table: &[Value],
     r: Value,
     at: usize,
     pieces: &mut [u32],
@@ -163,7 +163,7 @@ fn add_many(
 #[cycle(add_entry_add_many_add_struct)]
 fn add_struct(
     members: &[u8],
-    table: &[Row],
+    table: &[Value],
     e: usize,
     at: usize,
     pieces: &mut [u32],
@@ -195,7 +195,7 @@ fn add_struct(
 // of the entry for its pieces to be worth finding.
 pub fn pieces_of(
     members: &[u8],
-    table: &[Row],
+    table: &[Value],
     e: usize,
     elements: usize,
     pieces: &mut Pieces,

@@ -16,8 +16,9 @@ use Rattle.file.specs.Members.{member_length}
 use Rattle.layout_values.specs.Value.{value_at, value_of}
 use Rattle.layout_values.proofs.ValuesOf.{length_table, table_at}
 use Rattle.walk_shapes.specs.Basis.{Basis}
+use Rattle.layout_values.specs.declared.value.Value.{Value}
 
-module _ {f : List ℕ} {ts : List Ty} {ms : List ℕ} {table : List (List ℕ)} (s : Basis f ts ms table) where
+module _ {f : List ℕ} {ts : List Ty} {ms : List ℕ} {table : List Value} (s : Basis f ts ms table) where
   few : length ts ≤ 256
   few = let a = accepted f ts s.good_file in omega (arith, a.count, a.trailer_good.high)
 

@@ -23,6 +23,7 @@ use Rattle.file.specs.Members.{member_bytes, member_length}
 use Rattle.walk_trees.specs.Slot.{slot_at, slot_in, SlotsAsk}
 use Rattle.walk_shapes.specs.Basis.{Basis}
 use Rattle.walk_shapes.proofs.MemberRead.{Ruled, first_ruled, rest_ruled, last_none, Read, read, first_placeable, first_start, first_end}
+use Rattle.layout_values.specs.declared.value.Value.{Value}
 
 -- A test that holds of every type within the members holds of every type within the last one.
 pub last_everywhere : (p : Ty → Bool) (before : Ty) (ms : Members) → everywhere p before ≡ true → every_member p ms ≡ true → everywhere p (last_of before ms) ≡ true
@@ -35,12 +36,12 @@ last_everywhere p before (member t size align ms) b h =
 -- ---- its place
 
 -- member c of those from number m on, the last of ns, is a runtime array of elements of the type u
-pub record Last (f : List ℕ) (ts : List Ty) (table : List (List ℕ)) (c m lo : ℕ) (ns : Members) (u : Ty) : Type 0 where
+pub record Last (f : List ℕ) (ts : List Ty) (table : List Value) (c m lo : ℕ) (ns : Members) (u : Ty) : Type 0 where
   pub slots_ask : SlotsAsk (member_bytes f) table (member_length f) (m * member_length f) lo c
   pub there : get_elem? ts (slot_in (member_bytes f) table (member_length f) (m * member_length f) lo c).ty ≡ some (runtime u)
   pub tail_is : (before : Option Tail) → members_tail before (some lo) ns ≡ some (record { offset = (slot_in (member_bytes f) table (member_length f) (m * member_length f) lo c).start; stride = present (stride_of u) })
 
-module _ {f : List ℕ} {ts : List Ty} {ms : List ℕ} {table : List (List ℕ)} (basis : Basis f ts ms table) (e : ℕ) where
+module _ {f : List ℕ} {ts : List Ty} {ms : List ℕ} {table : List Value} (basis : Basis f ts ms table) (e : ℕ) where
   tail_at_lem : (start : Option ℕ) (t u : Ty) (a : ℕ) → t ≡ runtime u → a ≡ present start → tail_at start t ≡ some (record { offset = a; stride = present (stride_of u) })
   unfolding tail_at
   tail_at_lem start t u a is e = rw (is, e)

@@ -110,7 +110,7 @@ or_own_lem given own n e = rw e
 -- ---- the first of some members, read from the file
 
 -- member m of a struct with the entry e has the type t
-pub record Read (f : List ℕ) (ts : List Ty) (table : List (List ℕ)) (e m : ℕ) (t : Ty) : Type 0 where
+pub record Read (f : List ℕ) (ts : List Ty) (table : List Value) (e m : ℕ) (t : Ty) : Type 0 where
   pub is_entry : member_at (member_bytes f) (m * member_length f) ≡ member_entry_at f m
   pub inside : m * member_length f + member_fields_length ≤ length (member_bytes f)
   pub lower_is : (member_at (member_bytes f) (m * member_length f)).type < e
@@ -118,7 +118,7 @@ pub record Read (f : List ℕ) (ts : List Ty) (table : List (List ℕ)) (e m : �
   pub type_inside : (member_at (member_bytes f) (m * member_length f)).type < length table
   pub is_layout : member_value (member_bytes f) table (m * member_length f) ≡ value_of (member_length f) (type_entry_at f (member_at (member_bytes f) (m * member_length f)).type).reference t
 
-pub read : {f : List ℕ} {ts : List Ty} {ms : List ℕ} {table : List (List ℕ)} → Basis f ts ms table → {e : ℕ} (m : ℕ) (t : Ty) → m < (trailer_of f).members → lower (take e ts) (member_entry_at f m).type ≡ some t → Read f ts table e m t
+pub read : {f : List ℕ} {ts : List Ty} {ms : List ℕ} {table : List Value} → Basis f ts ms table → {e : ℕ} (m : ℕ) (t : Ty) → m < (trailer_of f).members → lower (take e ts) (member_entry_at f m).type ≡ some t → Read f ts table e m t
 unfolding lower
 read {f} {ts} basis {e} m t h is =
     let same = member_bytes_at f m h in
@@ -137,7 +137,7 @@ read {f} {ts} basis {e} m t h is =
 
 -- ---- its alignment, size and place
 
-module _ {f : List ℕ} {ts : List Ty} {table : List (List ℕ)} {e m : ℕ} {t : Ty} (r : Read f ts table e m t) where
+module _ {f : List ℕ} {ts : List Ty} {table : List Value} {e m : ℕ} {t : Ty} (r : Read f ts table e m t) where
   align_is : (own a : ℕ) → align_of t ≡ some own → given_or (given_align (member_entry_at f m)) (align_of t) ≡ some a → member_align (member_bytes f) table (m * member_length f) ≡ a
   unfolding value_of
   align_is own a h is =

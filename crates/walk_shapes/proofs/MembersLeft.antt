@@ -29,6 +29,7 @@ use Rattle.file.specs.Members.{member_bytes, member_length}
 use Rattle.walk_shapes.specs.Basis.{Basis}
 use Rattle.walk_shapes.proofs.MemberRead.{first_ruled, rest_ruled, last_none, Read, read, first_placeable, first_start, first_end}
 use Rattle.walk_shapes.proofs.Kept.{Kept, Fine}
+use Rattle.layout_values.specs.declared.value.Value.{Value}
 
 -- ---- one member and those after it
 
@@ -63,7 +64,7 @@ module _ {end : Option ℕ} {z : ℕ} {t : Ty} {size align : Option ℕ} {ms : M
       let o = rest_ordered rest 0 lo x.sound.1 x.sound.2 in
       omega (arith, ordered_span (places_of rest 0) (0 + lo) (0 + span_of rest) o)
 
-module _ (f : List ℕ) (ts : List Ty) (ms : List ℕ) (table : List (List ℕ)) (basis : Basis f ts ms table) (e : ℕ) (long : (value_at table e).stride ≡ member_length f) (below : (i : ℕ) (u : Ty) → i < e → get_elem? ts i ≡ some u → Kept u → Tree (member_bytes f) table i (shape_of 0 u)) where
+module _ (f : List ℕ) (ts : List Ty) (ms : List ℕ) (table : List Value) (basis : Basis f ts ms table) (e : ℕ) (long : (value_at table e).stride ≡ member_length f) (below : (i : ℕ) (u : Ty) → i < e → get_elem? ts i ≡ some u → Kept u → Tree (member_bytes f) table i (shape_of 0 u)) where
   -- one member, in front of those after it
   left_more : (c m lo z : ℕ) (t : Ty) (ns : Members) → Read f ts table e m t → members_from f (take e ts) c (suc m) ≡ some ns → Fine (some lo) z (member t (given_size (member_entry_at f m)) (given_align (member_entry_at f m)) ns) → ((lo' : ℕ) → Fine (some lo') z ns → Left (member_bytes f) table e c (suc m * member_length f) lo' (fields_of 0 z (some lo') ns)) → Left (member_bytes f) table e (suc c) (m * member_length f) lo (fields_of 0 z (some lo) (member t (given_size (member_entry_at f m)) (given_align (member_entry_at f m)) ns))
   unfolding fields_of

@@ -20,6 +20,7 @@ use Rattle.walk_trees.specs.Slot.{Referring}
 use Rattle.walk_shapes.specs.Basis.{Basis}
 use Rattle.walk_shapes.proofs.Basis.{basis_inside, basis_layout, basis_well_formed, basis_refers}
 use Rattle.walk_shapes.proofs.Counted.{fixed_counted}
+use Rattle.layout_values.specs.declared.value.Value.{Value}
 
 -- the element of an array is a lower entry's type
 unfoldable pub Over : List Ty → ℕ → ℕ → Ty → Type 0
@@ -41,7 +42,7 @@ refers_over (to_runtime u none down found) = (down, found)
 refers_over (to_atomic s down found) = tt
 refers_over (to_members ms are within) = tt
 
-module _ {f : List ℕ} {ts : List Ty} {ms : List ℕ} {table : List (List ℕ)} (basis : Basis f ts ms table) where
+module _ {f : List ℕ} {ts : List Ty} {ms : List ℕ} {table : List Value} (basis : Basis f ts ms table) where
   -- So it is of each entry.
   pub over_at : (e : ℕ) (t : Ty) → get_elem? ts e ≡ some t → Over ts e (type_entry_at f e).reference t
   over_at e t there = refers_over (basis_refers basis e t there)

@@ -28,8 +28,9 @@ use Rattle.walk_shapes.proofs.PartRun.{packed_of, packed_value, packed_narrow, p
 use Rattle.walk_shapes.proofs.Widths.{narrow_width}
 use Rattle.walk_shapes.proofs.Over.{over_at, element_counted, value_referring}
 use Rattle.walk_shapes.proofs.Says.{kind_is, says_at, kept_at}
+use Rattle.layout_values.specs.declared.value.Value.{Value}
 
-module _ {f : List ℕ} {ts : List Ty} {ms : List ℕ} {table : List (List ℕ)} (basis : Basis f ts ms table) where
+module _ {f : List ℕ} {ts : List Ty} {ms : List ℕ} {table : List Value} (basis : Basis f ts ms table) where
   -- the run of a value that is no runtime array's, and of a runtime array's
   packed_run : (e : ℕ) (t : Ty) → get_elem? ts e ≡ some t → (kind_of t ≡ 10 → ⊥) → run_at table e ≡ packed_of t
   unfolding run_at value_of

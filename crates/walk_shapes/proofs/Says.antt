@@ -30,7 +30,7 @@ use Rattle.walk_shapes.proofs.Kept.{Kept, kept, kept_words, kept_layout, Element
 use Rattle.walk_shapes.proofs.PartRun.{packed_of, packed_value, parts_in, part_run, part_narrow, parts_words, parts_span, parts_fit, parts_places}
 use Rattle.walk_shapes.proofs.Over.{Over, over_at, value_referring}
 
-module _ {f : List ℕ} {ts : List Ty} {ms : List ℕ} {table : List (List ℕ)} (basis : Basis f ts ms table) where
+module _ {f : List ℕ} {ts : List Ty} {ms : List ℕ} {table : List Value} (basis : Basis f ts ms table) where
   -- the layout l says the parts of t, whose runtime array has n elements
   pub record Says (l : Value) (n : ℕ) (t : Ty) : Type 0 where
     pub referring : Referring table l

@@ -36,7 +36,7 @@ use Rattle.walk_shapes.proofs.PartRun.{packed_of, packed_value, packed_narrow, r
 use Rattle.walk_shapes.proofs.Over.{Over, over_at}
 use Rattle.walk_shapes.proofs.Says.{Says, kind_is, reference_is, says_at, runs_say, many_say, kept_at}
 
-module _ {f : List ℕ} {ts : List Ty} {ms : List ℕ} {table : List (List ℕ)} (basis : Basis f ts ms table) where
+module _ {f : List ℕ} {ts : List Ty} {ms : List ℕ} {table : List Value} (basis : Basis f ts ms table) where
   -- ---- the words of an entry
 
   valued : (e : ℕ) (t : Ty) → get_elem? ts e ≡ some t → Kept t → Valued table e (shape_of 0 t)

@@ -19,7 +19,7 @@ use Rattle.walk_trees.specs.Tree.{Elements, Many, Tree, Room, EachRoom, MemberRo
 use Rattle.walk_trees.proofs.Many.{tree_valued, many_each, depth, depth_each}
 
 -- Room for parts is room for each.
-pub parts_room : {table : List (List ℕ)} {r : Value} {y : Shape} {at bytes k ws : ℕ} → Elements table r y → Room (parts r.count r.stride y) at bytes k ws → EachRoom y r.count r.unit r.stride at bytes k ws
+pub parts_room : {table : List Value} {r : Value} {y : Shape} {at bytes k ws : ℕ} → Elements table r y → Room (parts r.count r.stride y) at bytes k ws → EachRoom y r.count r.unit r.stride at bytes k ws
 unfolding span_of shape_words
 parts_room {r} E room =
     record {
@@ -36,7 +36,7 @@ each_room {count} {unit} {i} room h =
     }
 
 -- Parts that are entries, with the numbers of their layout: an entry for each, and room; and so of any shape that the layout has.
-pub record Each (ms : List ℕ) (table : List (List ℕ)) (r : Value) (element count unit stride at bytes k ws : ℕ) : Type 0 where
+pub record Each (ms : List ℕ) (table : List Value) (r : Value) (element count unit stride at bytes k ws : ℕ) : Type 0 where
   pub y : Shape
   pub tree : Tree ms table element y
   pub room : EachRoom y count unit stride at bytes k ws
@@ -44,7 +44,7 @@ pub record Each (ms : List ℕ) (table : List (List ℕ)) (r : Value) (element c
   pub deep : depth table r ≡ 5 * element + 5
   pub any : (x : Shape) → Many ms table r x → (z : Shape) × Tree ms table element z × (x ≡ parts count stride z)
 
-pub each_entry : {ms : List ℕ} {table : List (List ℕ)} {r : Value} {x : Shape} {element count unit stride at bytes k ws : ℕ} → Many ms table r x → part_width table r ≡ 0 → Room x at bytes k ws → element ≡ r.reference → count ≡ r.count → unit ≡ r.unit → stride ≡ r.stride → Each ms table r element count unit stride at bytes k ws
+pub each_entry : {ms : List ℕ} {table : List Value} {r : Value} {x : Shape} {element count unit stride at bytes k ws : ℕ} → Many ms table r x → part_width table r ≡ 0 → Room x at bytes k ws → element ≡ r.reference → count ≡ r.count → unit ≡ r.unit → stride ≡ r.stride → Each ms table r element count unit stride at bytes k ws
 each_entry {table} {r} m w room e c u s =
     let m₀ = many_each m w in
     rw (e, c, u, s)
@@ -59,7 +59,7 @@ each_entry {table} {r} m w room e c u s =
 
 -- ---- a member at its place
 
-module _ {ms : List ℕ} {table : List (List ℕ)} {m end : ℕ} {y : Shape} {at bytes k ws : ℕ} (ready : MemberRoom ms table m end y at bytes k ws) {p : Slot} (is : p ≡ slot_at ms table m end) where
+module _ {ms : List ℕ} {table : List Value} {m end : ℕ} {y : Shape} {at bytes k ws : ℕ} (ready : MemberRoom ms table m end y at bytes k ws) {p : Slot} (is : p ≡ slot_at ms table m end) where
   pub type_is : p.ty ≡ (member_at ms m).type
   unfolding slot_at
   type_is = ap (λ (q : Slot). q.ty) is

@@ -15,11 +15,11 @@ use Rattle.walk_trees.specs.Slot.{part_width}
 use Rattle.walk_trees.specs.Tree.{Runs, RunsOf, Room}
 use Rattle.walk_trees.proofs.TreeOne.{repeated_alike}
 
-pub own_runs : {table : List (List ℕ)} {l : Value} {x : Shape} {p : Parts} → Runs table l x → p ≡ record { count = l.count; unit = l.unit; width = part_width table l; stride = l.stride } → RunsOf p x
+pub own_runs : {table : List Value} {l : Value} {x : Shape} {p : Parts} → Runs table l x → p ≡ record { count = l.count; unit = l.unit; width = part_width table l; stride = l.stride } → RunsOf p x
 own_runs R is = rw (is, R.narrow_is) R.runs_are
 
 -- n elements whose parts, by their value x, are runs that fill the stride.
-pub row_runs : {table : List (List ℕ)} {x : Value} {y : Shape} {p : Parts} {n stride : ℕ} → Runs table x y → stride ≡ x.count * x.stride → p ≡ record { count = n * x.count; unit = x.unit; width = part_width table x; stride = x.stride } → RunsOf p (parts n stride y)
+pub row_runs : {table : List Value} {x : Value} {y : Shape} {p : Parts} {n stride : ℕ} → Runs table x y → stride ≡ x.count * x.stride → p ≡ record { count = n * x.count; unit = x.unit; width = part_width table x; stride = x.stride } → RunsOf p (parts n stride y)
 unfolding places_of span_of shape_words
 row_runs {x = x} {y = y} {n = n} R fills is =
     rw (is, R.narrow_is, fills)

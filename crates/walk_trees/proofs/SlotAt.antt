@@ -15,12 +15,12 @@ use Rattle.layout_values.specs.Value.{value_at, words_in}
 use Rattle.walk_trees.specs.Slot.{member_at, member_value, member_align, member_size, slot_at, Counted, SlotAsks}
 
 -- the member at m has the entry x, its type is ty and that type's layout r
-pub record MemberFound (ms : List ℕ) (table : List (List ℕ)) (m : ℕ) (x : MemberEntry) (ty : ℕ) (r : Value) : Type 0 where
+pub record MemberFound (ms : List ℕ) (table : List Value) (m : ℕ) (x : MemberEntry) (ty : ℕ) (r : Value) : Type 0 where
   pub is_entry : x ≡ member_at ms m
   pub type_is : ty ≡ x.type
   pub is_layout : r ≡ value_at table ty
 
-module _ {ms : List ℕ} {table : List (List ℕ)} {m ty : ℕ} {x : MemberEntry} {r : Value} (f : MemberFound ms table m x ty r) where
+module _ {ms : List ℕ} {table : List Value} {m ty : ℕ} {x : MemberEntry} {r : Value} (f : MemberFound ms table m x ty r) where
   pub type_found : ty ≡ (member_at ms m).type
   type_found = f.type_is ∙ ap (λ (y : MemberEntry). y.type) f.is_entry
 

@@ -6,8 +6,9 @@ use mathlib.Core.Path.{◌≡◌}
 use native.Mathlib.Numerals.{unary_clauses}
 use native.Mathlib.Omega.{arith}
 use Rattle.walk_trees.specs.Slot.{slot_at, SlotAsks, slot_in, SlotsAsk}
+use Rattle.layout_values.specs.declared.value.Value.{Value}
 
-module _ (ms : List ℕ) (table : List (List ℕ)) (length m end : ℕ) where
+module _ (ms : List ℕ) (table : List Value) (length m end : ℕ) where
   pub next_placeable : (i : ℕ) → SlotsAsk ms table length m end i → SlotAsks ms table m end
   unfolding SlotsAsk
   next_placeable zero p = p

@@ -23,19 +23,20 @@ use Rattle.walk_trees.specs.Tree.{Member, Left, none, more, Tree, Room, MemberRo
 use Rattle.walk_trees.proofs.TreeOne.{tree_one}
 use Rattle.walk_trees.proofs.Many.{tree_valued, tree_left}
 use Rattle.walk_trees.proofs.Room.{type_tree, member_words}
+use Rattle.layout_values.specs.declared.value.Value.{Value}
 
 -- ---- parts in turn
 
 -- i parts are done, which led from s₀ to s, whatever shape a tree says that they have
-pub record Turn {S : Type 0} (f : Place → ℕ → S → S) (ms : List ℕ) (table : List (List ℕ)) (e count unit stride at k : ℕ) (s₀ : S) (i : ℕ) (s : S) : Type 0 where
+pub record Turn {S : Type 0} (f : Place → ℕ → S → S) (ms : List ℕ) (table : List Value) (e count unit stride at k : ℕ) (s₀ : S) (i : ℕ) (s : S) : Type 0 where
   pub within : i ≤ count
   pub turns : (y : Shape) → Tree ms table e y → Repeating f (λ p. places_of y p) count unit stride at k s₀ i s
 
-pub turn_start : {S : Type 0} (f : Place → ℕ → S → S) (ms : List ℕ) (table : List (List ℕ)) (e count unit stride at k : ℕ) (s₀ : S) → Turn f ms table e count unit stride at k s₀ 0 s₀
+pub turn_start : {S : Type 0} (f : Place → ℕ → S → S) (ms : List ℕ) (table : List Value) (e count unit stride at k : ℕ) (s₀ : S) → Turn f ms table e count unit stride at k s₀ 0 s₀
 turn_start f ms table e count unit stride at k s₀ =
     record { within = omega arith; turns = λ y t. repeating_start f (λ p. places_of y p) count unit stride at k s₀ }
 
-module _ {S : Type 0} {f : Place → ℕ → S → S} {ms : List ℕ} {table : List (List ℕ)} {e count unit stride at k : ℕ} {s₀ : S} {i : ℕ} {s : S} (now : Turn f ms table e count unit stride at k s₀ i s) where
+module _ {S : Type 0} {f : Place → ℕ → S → S} {ms : List ℕ} {table : List Value} {e count unit stride at k : ℕ} {s₀ : S} {i : ℕ} {s : S} (now : Turn f ms table e count unit stride at k s₀ i s) where
   pub turn_next : {y : Shape} {s' : S} → Tree ms table e y → shape_words y ≡ unit → i < count → ((x : Shape) → Tree ms table e x → s' ≡ over_places f (places_of x (at + i * stride)) (k + i * unit) s) → Turn f ms table e count unit stride at k s₀ (i + 1) s'
   turn_next t u h done =
       record {
@@ -58,13 +59,13 @@ unfolding places_of
 over_field f o y rest at k s = rw (← places_words y (at + o)) (sym (over_append f (places_of y (at + o)) (places_of rest at) k s))
 
 -- so many members of entry e are left, from byte m and word `next` on; they, from s on, are all of the entry from s₀ on
-pub record Walk {S : Type 0} (f : Place → ℕ → S → S) (ms : List ℕ) (table : List (List ℕ)) (e at bytes k ws : ℕ) (s₀ : S) (left m end next : ℕ) (s : S) : Type 0 where
+pub record Walk {S : Type 0} (f : Place → ℕ → S → S) (ms : List ℕ) (table : List Value) (e at bytes k ws : ℕ) (s₀ : S) (left m end next : ℕ) (s : S) : Type 0 where
   pub rest : Shape
   pub rest_left : Left ms table e left m end rest
   pub room : Room rest at bytes next ws
   pub same : (x : Shape) → Tree ms table e x → over_places f (places_of rest at) next s ≡ over_places f (places_of x at) k s₀
 
-pub walk_start : {S : Type 0} (f : Place → ℕ → S → S) {ms : List ℕ} {table : List (List ℕ)} {e at bytes k ws : ℕ} {x : Shape} (s₀ : S) → Tree ms table e x → (value_at table e).kind ≡ struct_kind → Room x at bytes k ws → Walk f ms table e at bytes k ws s₀ (value_at table e).count ((value_at table e).reference * (value_at table e).stride) 0 k s₀
+pub walk_start : {S : Type 0} (f : Place → ℕ → S → S) {ms : List ℕ} {table : List Value} {e at bytes k ws : ℕ} {x : Shape} (s₀ : S) → Tree ms table e x → (value_at table e).kind ≡ struct_kind → Room x at bytes k ws → Walk f ms table e at bytes k ws s₀ (value_at table e).count ((value_at table e).reference * (value_at table e).stride) 0 k s₀
 walk_start f {at} {k} {x} s₀ t kind room =
     record {
       rest = x;
@@ -74,7 +75,7 @@ walk_start f {at} {k} {x} s₀ t kind room =
     }
 
 -- the first of the members that are left, of the shape y, and what is left after it
-pub record First (ms : List ℕ) (table : List (List ℕ)) (e left m end : ℕ) (x : Shape) : Type 0 where
+pub record First (ms : List ℕ) (table : List Value) (e left m end : ℕ) (x : Shape) : Type 0 where
   pub y : Shape
   pub rest : Shape
   pub is : x ≡ field (slot_at ms table m end).start y rest
@@ -82,17 +83,17 @@ pub record First (ms : List ℕ) (table : List (List ℕ)) (e left m end : ℕ) 
   pub tree : Tree ms table (member_at ms m).type y
   pub rest_left : Left ms table e (left - 1) (m + (value_at table e).stride) (slot_at ms table m end).end rest
 
-pub left_first : {ms : List ℕ} {table : List (List ℕ)} {e left m end : ℕ} {x : Shape} → Left ms table e left m end x → 0 < left → First ms table e left m end x
+pub left_first : {ms : List ℕ} {table : List Value} {e left m end : ℕ} {x : Shape} → Left ms table e left m end x → 0 < left → First ms table e left m end x
 left_first none h = absurd (omega arith)
 left_first {ms} {table} {e} {m} {end} (more {c = c} {y = y} {rest = rest} M t l) h =
     record { y = y; rest = rest; is = refl; member = M; tree = t; rest_left = rw sub-one l }
 
-pub left_none : {ms : List ℕ} {table : List (List ℕ)} {e left m end : ℕ} {x : Shape} → Left ms table e left m end x → left ≡ 0 → (at : ℕ) → places_of x at ≡ []
+pub left_none : {ms : List ℕ} {table : List Value} {e left m end : ℕ} {x : Shape} → Left ms table e left m end x → left ≡ 0 → (at : ℕ) → places_of x at ≡ []
 unfolding places_of
 left_none none h at = refl
 left_none (more M t l) h at = absurd (omega arith)
 
-module _ {S : Type 0} {f : Place → ℕ → S → S} {ms : List ℕ} {table : List (List ℕ)} {e at bytes k ws : ℕ} {s₀ : S} {left m end next : ℕ} {s : S} (now : Walk f ms table e at bytes k ws s₀ left m end next s) where
+module _ {S : Type 0} {f : Place → ℕ → S → S} {ms : List ℕ} {table : List Value} {e at bytes k ws : ℕ} {s₀ : S} {left m end next : ℕ} {s : S} (now : Walk f ms table e at bytes k ws s₀ left m end next s) where
   -- the member whose turn it is
   pub walk_first : 0 < left → First ms table e left m end now.rest
   walk_first h = left_first now.rest_left h

@@ -22,13 +22,13 @@ unfoldable pub packed_as : Value → ℕ
 packed_as l = cond (eqb l.size 0) 0 (touching l.size (words_in l) l.narrow)
 
 -- the width of the words of each part of a type that is no struct, where they lie one after the other; else 0
-unfoldable pub part_width : List (List ℕ) → Value → ℕ
+unfoldable pub part_width : List Value → Value → ℕ
 part_width table l =
     cond (ltb l.kind array_kind) l.narrow
     (cond (ltb runtime_kind l.kind) l.narrow (packed_as (value_at table l.reference)))
 
 -- the width of the words of entry e, whatever the number of its elements, where they lie one after the other; else 0
-unfoldable pub run_at : List (List ℕ) → ℕ → ℕ
+unfoldable pub run_at : List Value → ℕ → ℕ
 run_at table e =
     let l : Value = value_at table e in
     cond (eqb l.kind runtime_kind) (touching l.stride l.unit (part_width table l)) (packed_as l)
@@ -38,12 +38,12 @@ abbrev pub Counted : Value → Type 0
 Counted l = words_in l ≤ limit
 
 -- what an array refers to is there
-pub record Referring (table : List (List ℕ)) (l : Value) : Type 0 where
+pub record Referring (table : List Value) (l : Value) : Type 0 where
   pub inside : array_kind ≤ l.kind → l.kind ≤ runtime_kind → l.reference < length table
   pub counted : array_kind ≤ l.kind → l.kind ≤ runtime_kind → Counted (value_at table l.reference)
 
 -- what looking for the run of entry e asks
-pub record RunAsks (table : List (List ℕ)) (e : ℕ) : Type 0 where
+pub record RunAsks (table : List Value) (e : ℕ) : Type 0 where
   pub inside : e < length table
   pub counted : Counted (value_at table e)
   pub referring : Referring table (value_at table e)
@@ -68,17 +68,17 @@ abbrev pub member_at : List ℕ → ℕ → MemberEntry
 member_at ms m = member_entry_from ms m
 
 -- the value of a member's type
-abbrev pub member_value : List ℕ → List (List ℕ) → ℕ → Value
+abbrev pub member_value : List ℕ → List Value → ℕ → Value
 member_value ms table m = value_at table (member_at ms m).type
 
-abbrev pub member_align : List ℕ → List (List ℕ) → ℕ → ℕ
+abbrev pub member_align : List ℕ → List Value → ℕ → ℕ
 member_align ms table m = or_own (given_align (member_at ms m)) (member_value ms table m).align
 
-abbrev pub member_size : List ℕ → List (List ℕ) → ℕ → ℕ
+abbrev pub member_size : List ℕ → List Value → ℕ → ℕ
 member_size ms table m = or_own (given_size (member_at ms m)) (member_value ms table m).size
 
 -- the member at m, where the one before it ended at `end`
-unfoldable pub slot_at : List ℕ → List (List ℕ) → ℕ → ℕ → Slot
+unfoldable pub slot_at : List ℕ → List Value → ℕ → ℕ → Slot
 slot_at ms table m end =
     record {
       ty = (member_at ms m).type;
@@ -88,7 +88,7 @@ slot_at ms table m end =
     }
 
 -- its entry and its type's value are there, and its start is within the limit
-pub record SlotAsks (ms : List ℕ) (table : List (List ℕ)) (m end : ℕ) : Type 0 where
+pub record SlotAsks (ms : List ℕ) (table : List Value) (m end : ℕ) : Type 0 where
   pub inside : m + member_fields_length ≤ length ms
   pub type_inside : (member_at ms m).type < length table
   pub counted : Counted (member_value ms table m)
@@ -98,12 +98,12 @@ pub record SlotAsks (ms : List ℕ) (table : List (List ℕ)) (m end : ℕ) : Ty
 -- ---- a member further on, where member entries are so many bytes long
 
 -- member i of those from m on, where the one before them ended at `end`
-unfoldable pub slot_in : List ℕ → List (List ℕ) → ℕ → ℕ → ℕ → ℕ → Slot
+unfoldable pub slot_in : List ℕ → List Value → ℕ → ℕ → ℕ → ℕ → Slot
 slot_in ms table length m end zero = slot_at ms table m end
 slot_in ms table length m end (suc i) = slot_in ms table length (m + length) (slot_at ms table m end).end i
 
 -- it and those before it can be placed
-unfoldable pub SlotsAsk : List ℕ → List (List ℕ) → ℕ → ℕ → ℕ → ℕ → Type 0
+unfoldable pub SlotsAsk : List ℕ → List Value → ℕ → ℕ → ℕ → ℕ → Type 0
 SlotsAsk ms table length m end zero = SlotAsks ms table m end
 SlotsAsk ms table length m end (suc i) =
     SlotAsks ms table m end × SlotsAsk ms table length (m + length) (slot_at ms table m end).end i

@@ -39,13 +39,13 @@ abbrev pub said_parts : Value → Parts
 said_parts l = record { count = l.count; unit = l.unit; width = l.narrow; stride = l.stride }
 
 -- the words of each part lie one after the other
-pub record Runs (table : List (List ℕ)) (l : Value) (x : Shape) : Type 0 where
+pub record Runs (table : List Value) (l : Value) (x : Shape) : Type 0 where
   pub referring : Referring table l
   pub narrow_is : part_width table l ≡ l.narrow
   pub runs_are : RunsOf (said_parts l) x
 
 -- each part is the shape y of another entry
-pub record Elements (table : List (List ℕ)) (l : Value) (y : Shape) : Type 0 where
+pub record Elements (table : List Value) (l : Value) (y : Shape) : Type 0 where
   pub referring : Referring table l
   pub no_run : part_width table l ≡ 0
   pub wide : (l.narrow ≡ 2 → ⊥) → Wide y
@@ -55,7 +55,7 @@ pub record Elements (table : List (List ℕ)) (l : Value) (y : Shape) : Type 0 w
 -- ---- members
 
 -- the member at m of entry e, of the shape y, is placed where the one before it ended at `end`; `rest` are the members after it
-pub record Member (ms : List ℕ) (table : List (List ℕ)) (e m end : ℕ) (y rest : Shape) : Type 0 where
+pub record Member (ms : List ℕ) (table : List Value) (e m end : ℕ) (y rest : Shape) : Type 0 where
   pub slot_asks : SlotAsks ms table m end
   pub lower : (member_at ms m).type < e
   pub within : (slot_at ms table m end).start + span_of y ≤ span_of rest
@@ -63,7 +63,7 @@ pub record Member (ms : List ℕ) (table : List (List ℕ)) (e m end : ℕ) (y r
 -- ---- entries
 
 -- entry e, of the shape x, has its value, which counts its words, and says if they lie one after the other and if one has two bytes
-pub record Valued (table : List (List ℕ)) (e : ℕ) (x : Shape) : Type 0 where
+pub record Valued (table : List Value) (e : ℕ) (x : Shape) : Type 0 where
   pub inside : e < length table
   pub words_are : shape_words x ≡ words_in (value_at table e)
   pub counted : Counted (value_at table e)
@@ -73,17 +73,17 @@ pub record Valued (table : List (List ℕ)) (e : ℕ) (x : Shape) : Type 0 where
 
 mutual
   -- parts as the value l says have the shape x
-  pub data Many (ms : List ℕ) (table : List (List ℕ)) : Value → Shape → Type 0 where
+  pub data Many (ms : List ℕ) (table : List Value) : Value → Shape → Type 0 where
     runs : {l : Value} {x : Shape} → Runs table l x → Many ms table l x
     each : {l : Value} {y : Shape} → Elements table l y → Tree ms table l.reference y → Many ms table l (parts l.count l.stride y)
 
   -- so many members of entry e from byte m on, where the one before them ended at `end`, have the shape x
-  pub data Left (ms : List ℕ) (table : List (List ℕ)) : ℕ → ℕ → ℕ → ℕ → Shape → Type 0 where
+  pub data Left (ms : List ℕ) (table : List Value) : ℕ → ℕ → ℕ → ℕ → Shape → Type 0 where
     none : {e m end z : ℕ} → Left ms table e zero m end (whole z)
     more : {e c m end : ℕ} {y rest : Shape} → Member ms table e m end y rest → Tree ms table (member_at ms m).type y → Left ms table e c (m + (value_at table e).stride) (slot_at ms table m end).end rest → Left ms table e (suc c) m end (field (slot_at ms table m end).start y rest)
 
   -- entry e has the shape x
-  pub data Tree (ms : List ℕ) (table : List (List ℕ)) : ℕ → Shape → Type 0 where
+  pub data Tree (ms : List ℕ) (table : List Value) : ℕ → Shape → Type 0 where
     many : {e : ℕ} {x : Shape} → Valued table e x → ((value_at table e).kind ≡ struct_kind → ⊥) → (part_width table (value_at table e) ≡ 0 → (value_at table e).reference < e) → Many ms table (value_at table e) x → Tree ms table e x
     members : {e : ℕ} {x : Shape} → Valued table e x → (value_at table e).kind ≡ struct_kind → Left ms table e (value_at table e).count ((value_at table e).reference * (value_at table e).stride) 0 x → Tree ms table e x
 
@@ -101,7 +101,7 @@ pub record EachRoom (y : Shape) (count unit stride at bytes k words : ℕ) : Typ
   pub words_there : k + count * unit ≤ words
 
 -- the member at m, of the shape y, of a struct from byte `at` on, where the one before it ended at `end`
-pub record MemberRoom (ms : List ℕ) (table : List (List ℕ)) (m end : ℕ) (y : Shape) (at bytes k words : ℕ) : Type 0 where
+pub record MemberRoom (ms : List ℕ) (table : List Value) (m end : ℕ) (y : Shape) (at bytes k words : ℕ) : Type 0 where
   pub slot_asks : SlotAsks ms table m end
   pub tree : Tree ms table (member_at ms m).type y
   pub room : Room y (at + (slot_at ms table m end).start) bytes k words
@@ -113,6 +113,6 @@ pub record WordRoom (x : Shape) (k words : ℕ) : Type 0 where
 -- ---- what a function over one member promises
 
 -- P of the places of the member at m, of a struct from byte `at` on, where the one before it ended at `end`
-abbrev pub OfMember : List ℕ → List (List ℕ) → ℕ → ℕ → ℕ → (List Place → Type 0) → Type 0
+abbrev pub OfMember : List ℕ → List Value → ℕ → ℕ → ℕ → (List Place → Type 0) → Type 0
 OfMember ms table m end at P =
     (y : Shape) → Tree ms table (slot_at ms table m end).ty y → P (places_of y (at + (slot_at ms table m end).start))

@@ -10,7 +10,7 @@ ghost use Rattle.walk_trees.specs.Tree.{Many, RunsOf};
 use file::fields::member_at;
 use file::kinds::{ARRAY, RUNTIME, STRUCT};
 use layout_members::{given_align, given_size};
-use layout_values::value::{Row, Value, value_at, words_of};
+use layout_values::value::{Value, value_at};
 use numbers::power::up_power;
 use numbers::wide::wide;
 use runs::Parts;
@@ -40,11 +40,11 @@ pub fn packed(l: Value) -> u32
     if l.size == 0 {
         return 0;
     }
-    touch(l.size, words_of(l), l.narrow)
+    touch(l.size, l.words(), l.narrow)
 }
 
 // The same of the words of each part of an entry that is no struct.
-fn part_width(table: &[Row], l: Value) -> u32
+fn part_width(table: &[Value], l: Value) -> u32
     requires { Referring table.now l }
     ensures { result ≡ part_width table.now l }
 {
@@ -68,7 +68,7 @@ fn touch(stride: u32, words: u32, width: u32) -> u32
 }
 
 // The same of the words of entry `e`, whatever the number of its elements where it is a runtime array.
-pub fn run_at(table: &[Row], e: usize) -> u32
+pub fn run_at(table: &[Value], e: usize) -> u32
     requires { RunAsks table.now e }
     ensures { result ≡ run_at table.now e }
 {
@@ -93,7 +93,7 @@ fn no_parts() -> Parts
 
 // The parts of an entry whose elements have the value `x`, no struct, as one row: where these are runs and fill the `stride` of `l`, so that
 // the columns of matrices in an array touch each other as those of one do. Else no parts.
-fn row_of(table: &[Row], l: Value, x: Value) -> Parts
+fn row_of(table: &[Value], l: Value, x: Value) -> Parts
     requires { (ms : List ℕ) × (y : Shape) × Many ms table.now x y }
     ensures { (result.width ≡ 0 → ⊥) → (ms : List ℕ) (y : Shape) → Many ms table.now x y → RunsOf result (parts l.count l.stride y) }
 {
@@ -112,7 +112,7 @@ fn row_of(table: &[Row], l: Value, x: Value) -> Parts
 
 // The parts of an entry with the value `l`, no struct, as runs: its own, or those of its elements as one row. Else no parts, and of these
 // the width is 0.
-pub fn parts_of(table: &[Row], l: Value) -> Parts
+pub fn parts_of(table: &[Value], l: Value) -> Parts
     requires { (ms : List ℕ) × (x : Shape) × Many ms table.now l x }
     ensures runs { (result.width ≡ 0 → ⊥) → (ms : List ℕ) (x : Shape) → Many ms table.now l x → RunsOf result x }
     ensures none { result.width ≡ 0 → part_width table.now l ≡ 0 }
@@ -148,14 +148,14 @@ fn put_after(ty: usize, align: u32, size: u32, words: u32, end: usize) -> Slot
 }
 
 // Member `m`, where the one before it ended at `end`. Most members are given neither size nor align: those go first.
-pub fn slot_after(members: &[u8], table: &[Row], m: usize, end: usize) -> Slot
+pub fn slot_after(members: &[u8], table: &[Value], m: usize, end: usize) -> Slot
     requires { SlotAsks members.now table.now m end }
     ensures { result ≡ slot_at members.now table.now m end }
 {
     let e = member_at(members, m);
     let ty = wide(e.ty);
     let r = value_at(table, ty);
-    let words = words_of(r);
+    let words = r.words();
     if e.flags == 0 {
         return put_after(ty, r.align, r.size, words, end);
     }
@@ -170,7 +170,7 @@ pub fn slot_after(members: &[u8], table: &[Row], m: usize, end: usize) -> Slot
 
 // Member `number` of a struct with the value `l`. Structs may share member entries, so a member's place is worked out in its own struct,
 // from the first member on.
-pub fn member_in(members: &[u8], table: &[Row], l: Value, number: u32) -> Slot
+pub fn member_in(members: &[u8], table: &[Value], l: Value, number: u32) -> Slot
     requires { SlotsAsk members.now table.now l.stride (l.reference * l.stride) 0 number }
     ensures { result ≡ slot_in members.now table.now l.stride (l.reference * l.stride) 0 number }
 {

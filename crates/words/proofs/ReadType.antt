@@ -37,7 +37,7 @@ module _ (f : List ℕ) (e : ℕ) (b ws : List ℕ) where
 
 -- ---- a type of fixed size
 
-module _ {ms : List ℕ} {table : List (List ℕ)} {e : ℕ} {l : Value} {t : Ty} (r : Ready ms table e l t) (o : is_open t ≡ false) (b ws : List ℕ) where
+module _ {ms : List ℕ} {table : List Value} {e : ℕ} {l : Value} {t : Ty} (r : Ready ms table e l t) (o : is_open t ≡ false) (b ws : List ℕ) where
   pub few_bytes : length b < l.size → read_type t b ws ≡ refused 15 0
   few_bytes h = closed_short t r.well_formed o ws b (rw (size_is r) at h)
 
@@ -52,7 +52,7 @@ module _ {ms : List ℕ} {table : List (List ℕ)} {e : ℕ} {l : Value} {t : Ty
 
 -- ---- an open type
 
-module _ {ms : List ℕ} {table : List (List ℕ)} {e : ℕ} {x : Rest} {t : Ty} (y : TailedBy ms table e x t) (b ws : List ℕ) where
+module _ {ms : List ℕ} {table : List Value} {e : ℕ} {x : Rest} {t : Ty} (y : TailedBy ms table e x t) (b ws : List ℕ) where
   pub no_elements : elements_found (length b) x.offset x.value.stride ≡ None → read_type t b ws ≡ refused 15 0
   no_elements h =
       let z = y.tailed in

@@ -37,10 +37,10 @@ module _ (f : List ℕ) (e : ℕ) (ws b : List ℕ) where
 
 -- ---- a type of fixed size
 
-pub fixed_extent : {ms : List ℕ} {table : List (List ℕ)} {e : ℕ} {l : Value} {t : Ty} → Ready ms table e l t → is_open t ≡ false → l.size ≡ extent_of 0 t
+pub fixed_extent : {ms : List ℕ} {table : List Value} {e : ℕ} {l : Value} {t : Ty} → Ready ms table e l t → is_open t ≡ false → l.size ≡ extent_of 0 t
 fixed_extent {t = t} r o = size_is r ∙ sym (closed_extent 0 t o)
 
-module _ {ms : List ℕ} {table : List (List ℕ)} {e : ℕ} {l : Value} {t : Ty} (r : Ready ms table e l t) (o : is_open t ≡ false) (ws b : List ℕ) where
+module _ {ms : List ℕ} {table : List Value} {e : ℕ} {l : Value} {t : Ty} (r : Ready ms table e l t) (o : is_open t ≡ false) (ws b : List ℕ) where
   pub wrong_words : (length ws ≡ words_in l → ⊥) → write_type t ws b ≡ refused 14 0
   wrong_words h = closed_wrong t r.well_formed o ws b (λ q. h (q ∙ ready_words r))
 
@@ -55,7 +55,7 @@ module _ {ms : List ℕ} {table : List (List ℕ)} {e : ℕ} {l : Value} {t : Ty
 
 -- ---- an open type
 
-module _ {ms : List ℕ} {table : List (List ℕ)} {e : ℕ} {x : Rest} {t : Ty} (y : TailedBy ms table e x t) (ws b : List ℕ) where
+module _ {ms : List ℕ} {table : List Value} {e : ℕ} {x : Rest} {t : Ty} (y : TailedBy ms table e x t) (ws b : List ℕ) where
   words_are : (n : ℕ) → word_count n t ≡ x.fixed + n * x.value.unit
   words_are n = rw y.tail_is (tailed_words y.tailed n)
 

@@ -11,7 +11,7 @@ ghost use Rattle.said.specs.Answer.{said};
 
 use file::trailer::check_trailer;
 use layout_table::{Ground, find};
-use layout_values::value::{Row, Value, blank, opens, words_of};
+use layout_values::value::{Value, blank};
 use numbers::wide::wide;
 use said::refusal::Refusal;
 use walk_decide::{Rest, allow, closed_rest, elements_in, open_rest, rest_of};
@@ -19,7 +19,7 @@ use walk_pieces::no_pieces;
 use words_read::{read_entry, read_many};
 
 // Puts the words of an entry down: the fixed part, then the tail.
-fn load(members: &[u8], table: &[Row], e: usize, x: Rest, buf: &[u8], words: &mut [u32])
+fn load(members: &[u8], table: &[Value], e: usize, x: Rest, buf: &[u8], words: &mut [u32])
     requires { (t : Ty) × (n : ℕ) × Whole members.now table.now e x t n × (word_count n t ≤ length words.old) × (extent_of n t ≤ length buf.now) }
     ensures { WholeLoaded members.now table.now e x buf.now words.old words.new }
 {
@@ -40,7 +40,7 @@ fn load(members: &[u8], table: &[Row], e: usize, x: Rest, buf: &[u8], words: &mu
 // 15 and 14 for a type of fixed size.
 fn read_closed(
     members: &[u8],
-    table: &[Row],
+    table: &[Value],
     e: usize,
     l: Value,
     buf: &[u8],
@@ -52,17 +52,17 @@ fn read_closed(
     if buf.len() < wide(l.size) {
         return Err(Refusal::Buffer);
     }
-    if words.len() < wide(words_of(l)) {
+    if words.len() < wide(l.words()) {
         return Err(Refusal::Count);
     }
     load(members, table, e, closed_rest(l), buf, words);
-    Ok(words_of(l))
+    Ok(l.words())
 }
 
 // 14 for an open type with `n` elements.
 fn read_elements(
     members: &[u8],
-    table: &[Row],
+    table: &[Value],
     e: usize,
     x: Rest,
     n: usize,
@@ -83,7 +83,7 @@ fn read_elements(
 // 15 and 14 for an open type.
 fn read_open(
     members: &[u8],
-    table: &[Row],
+    table: &[Value],
     e: usize,
     l: Value,
     buf: &[u8],
@@ -102,7 +102,7 @@ fn read_entry_at(
     file: &[u8],
     e: usize,
     g: Ground,
-    table: &[Row],
+    table: &[Value],
     buf: &[u8],
     words: &mut [u32],
 ) -> Result<u32, Refusal>
@@ -114,7 +114,7 @@ fn read_entry_at(
     let start = g.start;
     let end = g.end;
     let members = &file[start..end];
-    if opens(l) {
+    if l.opens() {
         return read_open(members, table, e, l, buf, words);
     }
     read_closed(members, table, e, l, buf, words)

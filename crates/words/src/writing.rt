@@ -13,7 +13,7 @@ ghost use Rattle.said.specs.Answer.{said};
 
 use file::trailer::check_trailer;
 use layout_table::{Ground, find};
-use layout_values::value::{Row, Value, blank, opens, words_of};
+use layout_values::value::{Value, blank};
 use numbers::wide::wide;
 use runs::write_run;
 use said::refusal::Refusal;
@@ -38,7 +38,7 @@ fn zero(buf: &mut [u8], n: usize)
 // Tests the words of an entry: the fixed part, then the tail.
 fn scan(
     members: &[u8],
-    table: &[Row],
+    table: &[Value],
     e: usize,
     x: Rest,
     words: &[u32],
@@ -57,7 +57,7 @@ fn scan(
 // Stores the words of an entry of so many bytes: at once where they cover it; else over zeros, the fixed part, then the tail.
 fn store(
     members: &[u8],
-    table: &[Row],
+    table: &[Value],
     e: usize,
     x: Rest,
     extent: usize,
@@ -83,7 +83,7 @@ fn store(
 // The words are right in number, and the bytes are there.
 fn write_whole(
     members: &[u8],
-    table: &[Row],
+    table: &[Value],
     e: usize,
     x: Rest,
     extent: u32,
@@ -102,7 +102,7 @@ fn write_whole(
 // 14, 15, 16 for a type of fixed size.
 fn write_closed(
     members: &[u8],
-    table: &[Row],
+    table: &[Value],
     e: usize,
     l: Value,
     words: &[u32],
@@ -111,7 +111,7 @@ fn write_closed(
     requires { (t : Ty) × Ready members.now table.now e l t × (is_open t ≡ false) }
     ensures { ClosedWritten members.now table.now e l words.now result buf.old buf.new }
 {
-    if words.len() != wide(words_of(l)) {
+    if words.len() != wide(l.words()) {
         return Err(Refusal::Count);
     }
     if buf.len() < wide(l.size) {
@@ -123,7 +123,7 @@ fn write_closed(
 // 15 and 16 for an open type with `n` elements.
 fn write_elements(
     members: &[u8],
-    table: &[Row],
+    table: &[Value],
     e: usize,
     x: Rest,
     n: usize,
@@ -148,7 +148,7 @@ fn write_elements(
 // 14, 15, 16 for an open type.
 fn write_open(
     members: &[u8],
-    table: &[Row],
+    table: &[Value],
     e: usize,
     l: Value,
     words: &[u32],
@@ -167,7 +167,7 @@ fn write_entry_at(
     file: &[u8],
     e: usize,
     g: Ground,
-    table: &[Row],
+    table: &[Value],
     words: &[u32],
     buf: &mut [u8],
 ) -> Result<u32, Refusal>
@@ -179,7 +179,7 @@ fn write_entry_at(
     let start = g.start;
     let end = g.end;
     let members = &file[start..end];
-    if opens(l) {
+    if l.opens() {
         return write_open(members, table, e, l, words, buf);
     }
     write_closed(members, table, e, l, words, buf)

@@ -12,7 +12,7 @@ ghost use Rattle.walk_trees.specs.Tree.{Many, Tree, Room, MemberRoom, OfMember};
 ghost use Rattle.walk_pieces.specs.Piece.{Listed};
 
 use file::kinds::STRUCT;
-use layout_values::value::{Row, Value, value_at};
+use layout_values::value::{Value, value_at};
 use numbers::wide::wide;
 use runs::{read_few, read_parts};
 use walk_pieces::{MOST, Pieces, pieces_of};
@@ -23,7 +23,7 @@ use words_pieces::reading::read_each;
 #[cycle(read_entry_read_many_read_member_read_struct)]
 pub fn read_entry(
     members: &[u8],
-    table: &[Row],
+    table: &[Value],
     e: usize,
     at: usize,
     buf: &[u8],
@@ -47,7 +47,7 @@ pub fn read_entry(
 #[cycle(read_entry_read_many_read_member_read_struct)]
 pub fn read_many(
     members: &[u8],
-    table: &[Row],
+    table: &[Value],
     r: Value,
     at: usize,
     buf: &[u8],
@@ -102,7 +102,7 @@ pub fn read_many(
 #[cycle(read_entry_read_many_read_member_read_struct)]
 fn read_struct(
     members: &[u8],
-    table: &[Row],
+    table: &[Value],
     e: usize,
     r: Value,
     at: usize,
@@ -133,7 +133,7 @@ fn read_struct(
 #[cycle(read_entry_read_many_read_member_read_struct)]
 fn read_member(
     members: &[u8],
-    table: &[Row],
+    table: &[Value],
     m: usize,
     end: usize,
     at: usize,

@@ -76,7 +76,7 @@ wide_run : (n at : ℕ) → AllWide (run_places n 4 at)
 unfolding run_places AllWide
 wide_run n at = wide_repeated n 4 (λ p. record { at = p; width = 4 } ∷ []) at (λ p. (refl, tt))
 
-wide_runs : {table : List (List ℕ)} {r : Value} {x : Shape} → Runs table r x → r.narrow ≡ 4 → Wide x
+wide_runs : {table : List Value} {r : Value} {x : Shape} → Runs table r x → r.narrow ≡ 4 → Wide x
 unfolding Wide part_places
 wide_runs {r} R w at =
     rw (R.runs_are.places_are at, w)
@@ -87,7 +87,7 @@ unfolding Wide places_of
 wide_parts n stride y h at = wide_repeated n stride (λ p. places_of y p) at h
 
 -- A layout whose narrowest word has not two bytes has none of two bytes.
-wide_many : {ms : List ℕ} {table : List (List ℕ)} {r : Value} {x : Shape} → Many ms table r x → (r.narrow ≡ 2 → ⊥) → Wide x
+wide_many : {ms : List ℕ} {table : List Value} {r : Value} {x : Shape} → Many ms table r x → (r.narrow ≡ 2 → ⊥) → Wide x
 wide_many (runs R) h = wide_runs R (⊎_elim (λ w. absurd (h w)) (λ w. w) R.runs_are.width)
 wide_many {r} (each {y = y} E t) h = wide_parts r.count r.stride y (E.wide h)
 
@@ -113,7 +113,7 @@ unfolding Wide
 wide_fine {ws} k x low h = sym (wide_passes ws low (places_of x 0) k (h 0))
 
 -- What holds no f16 is fine.
-module _ {ms : List ℕ} {table : List (List ℕ)} {ws : List ℕ} (k : ℕ) (low : Words32 ws) where
+module _ {ms : List ℕ} {table : List Value} {ws : List ℕ} (k : ℕ) (low : Words32 ws) where
   pub entry_fine : {e : ℕ} → ((value_at table e).narrow ≡ 2 → ⊥) → Says ws k (λ x. Tree ms table e x) (Ok tt)
   entry_fine h x t = wide_fine k x low ((tree_valued t).wide h)
 
@@ -123,25 +123,25 @@ module _ {ms : List ℕ} {table : List (List ℕ)} {ws : List ℕ} (k : ℕ) (lo
 -- ---- parts
 
 -- Parts that are runs, as one run.
-pub says_run : {ms : List ℕ} {table : List (List ℕ)} {r : Value} (ws : List ℕ) (k : ℕ) (s : Result (Unit {0}) Refusal) {p : Parts} → ((x : Shape) → Many ms table r x → RunsOf p x) → said s ≡ over_places (testing ws) (run_places (p.count * p.unit) p.width 0) k (good tt) → Says ws k (λ x. Many ms table r x) s
+pub says_run : {ms : List ℕ} {table : List Value} {r : Value} (ws : List ℕ) (k : ℕ) (s : Result (Unit {0}) Refusal) {p : Parts} → ((x : Shape) → Many ms table r x → RunsOf p x) → said s ≡ over_places (testing ws) (run_places (p.count * p.unit) p.width 0) k (good tt) → Says ws k (λ x. Many ms table r x) s
 says_run ws k s {p} are said x m =
     said ∙ rw ((are x m).places_are 0) (sym (tested_moved ws p.count p.unit p.width p.stride 0 k (good tt)))
 
 -- the layout's parts are entries, and their words are there
-pub each_there : {ms : List ℕ} {table : List (List ℕ)} {r : Value} {x : Shape} {element count unit k ws : ℕ} → Many ms table r x → part_width table r ≡ 0 → WordRoom x k ws → element ≡ r.reference → count ≡ r.count → unit ≡ r.unit → Each ms table r element count unit r.stride 0 (span_of x) k ws
+pub each_there : {ms : List ℕ} {table : List Value} {r : Value} {x : Shape} {element count unit k ws : ℕ} → Many ms table r x → part_width table r ≡ 0 → WordRoom x k ws → element ≡ r.reference → count ≡ r.count → unit ≡ r.unit → Each ms table r element count unit r.stride 0 (span_of x) k ws
 each_there m w room e c u =
     each_entry m w (record { bytes_there = omega arith; words_there = room.words_there }) e c u refl
 
 -- i parts have passed; how far they lie apart does not matter
-pub record Turns (ms : List ℕ) (table : List (List ℕ)) (ws : List ℕ) (element count unit k i : ℕ) : Type 0 where
+pub record Turns (ms : List ℕ) (table : List Value) (ws : List ℕ) (element count unit k i : ℕ) : Type 0 where
   pub turn : (stride : ℕ) → Turn (testing ws) ms table element count unit stride 0 k (good tt) i (good tt)
 
-pub turns_start : (ms : List ℕ) (table : List (List ℕ)) (ws : List ℕ) (element count unit k : ℕ) → Turns ms table ws element count unit k 0
+pub turns_start : (ms : List ℕ) (table : List Value) (ws : List ℕ) (element count unit k : ℕ) → Turns ms table ws element count unit k 0
 turns_start ms table ws element count unit k =
     record { turn = λ stride. turn_start (testing ws) ms table element count unit stride 0 k (good tt) }
 
 -- Elements that fit are passed.
-pub turns_fitting : {ms : List ℕ} {table : List (List ℕ)} {r : Value} {element count unit bytes k n : ℕ} (all : Each ms table r element count unit r.stride 0 bytes k n) {ws : List ℕ} {i : ℕ} → i ≤ count → ((y : Shape) → Tree ms table element y → (stride : ℕ) → good tt ≡ over_places (testing ws) (places_of (parts i stride y) 0) k (good tt)) → Turns ms table ws element count unit k i
+pub turns_fitting : {ms : List ℕ} {table : List Value} {r : Value} {element count unit bytes k n : ℕ} (all : Each ms table r element count unit r.stride 0 bytes k n) {ws : List ℕ} {i : ℕ} → i ≤ count → ((y : Shape) → Tree ms table element y → (stride : ℕ) → good tt ≡ over_places (testing ws) (places_of (parts i stride y) 0) k (good tt)) → Turns ms table ws element count unit k i
 unfolding places_of
 turns_fitting {element = element} {count = count} {unit = unit} {k = k} all {ws} {i} h fit =
     record {
@@ -164,7 +164,7 @@ turns_fitting {element = element} {count = count} {unit = unit} {k = k} all {ws}
           };
     }
 
-module _ {ms : List ℕ} {table : List (List ℕ)} {r : Value} {element count unit bytes k n : ℕ} (all : Each ms table r element count unit r.stride 0 bytes k n) {ws : List ℕ} {i : ℕ} (now : Turns ms table ws element count unit k i) where
+module _ {ms : List ℕ} {table : List Value} {r : Value} {element count unit bytes k n : ℕ} (all : Each ms table r element count unit r.stride 0 bytes k n) {ws : List ℕ} {i : ℕ} (now : Turns ms table ws element count unit k i) where
   turns_said : (s : Result (Unit {0}) Refusal) → i < count → Says ws (k + i * unit) (λ x. Tree ms table element x) s → (stride : ℕ) → Turn (testing ws) ms table element count unit stride 0 k (good tt) (i + 1) (said s)
   turns_said s h said stride =
       turn_next (now.turn stride) all.tree all.room.unit_is h
@@ -188,12 +188,12 @@ module _ {ms : List ℕ} {table : List (List ℕ)} {r : Value} {element count un
 
 -- so many members are left, from the one at byte m and from word `next` on, and those before have passed;
 -- the walk knows where they lie, though the code need not
-pub record Scanned (ms : List ℕ) (table : List (List ℕ)) (ws : List ℕ) (e k left m next : ℕ) : Type 0 where
+pub record Scanned (ms : List ℕ) (table : List Value) (ws : List ℕ) (e k left m next : ℕ) : Type 0 where
   pub bytes : ℕ
   pub end : ℕ
   pub walk : Walk (testing ws) ms table e 0 bytes k (length ws) (good tt) left m end next (good tt)
 
-pub scanned_start : {ms : List ℕ} {table : List (List ℕ)} (ws : List ℕ) {e k left m : ℕ} {x : Shape} → Tree ms table e x → (value_at table e).kind ≡ struct_kind → WordRoom x k (length ws) → left ≡ (value_at table e).count → m ≡ (value_at table e).reference * (value_at table e).stride → Scanned ms table ws e k left m k
+pub scanned_start : {ms : List ℕ} {table : List Value} (ws : List ℕ) {e k left m : ℕ} {x : Shape} → Tree ms table e x → (value_at table e).kind ≡ struct_kind → WordRoom x k (length ws) → left ≡ (value_at table e).count → m ≡ (value_at table e).reference * (value_at table e).stride → Scanned ms table ws e k left m k
 scanned_start ws {x} t kind room c f =
     rw (c, f)
     (record {
@@ -202,7 +202,7 @@ scanned_start ws {x} t kind room c f =
       walk = walk_start (testing ws) (good tt) t kind (record { bytes_there = omega arith; words_there = room.words_there });
     })
 
-module _ {ms : List ℕ} {table : List (List ℕ)} {ws : List ℕ} {e k left m next : ℕ} (now : Scanned ms table ws e k left m next) where
+module _ {ms : List ℕ} {table : List Value} {ws : List ℕ} {e k left m next : ℕ} (now : Scanned ms table ws e k left m next) where
   -- the member whose turn it is
   module _ (h : 0 < left) where
     scanned_room : MemberRoom ms table m now.end (walk_first now.walk h).y 0 now.bytes next (length ws)

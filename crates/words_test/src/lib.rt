@@ -15,7 +15,7 @@ ghost use Rattle.said.specs.Answer.{said};
 
 use file::fields::half;
 use file::kinds::STRUCT;
-use layout_values::value::{Row, Value, value_at, words_of};
+use layout_values::value::{Value, value_at};
 use numbers::wide::wide;
 use runs::scan_run;
 use walk_pieces::{MOST, Pieces, pieces_of};
@@ -26,7 +26,7 @@ use words_pieces::testing::fitting;
 #[cycle(scan_entry_scan_many_scan_struct)]
 pub fn scan_entry(
     members: &[u8],
-    table: &[Row],
+    table: &[Value],
     e: usize,
     words: &[u32],
     k: usize,
@@ -49,7 +49,7 @@ pub fn scan_entry(
 // How many of `count` elements of `unit` words, each the entry `e`, fit before the first that does not, by their pieces, where they are few.
 fn fit_at_once(
     members: &[u8],
-    table: &[Row],
+    table: &[Value],
     e: usize,
     count: usize,
     unit: usize,
@@ -72,7 +72,7 @@ fn fit_at_once(
 #[cycle(scan_entry_scan_many_scan_struct)]
 pub fn scan_many(
     members: &[u8],
-    table: &[Row],
+    table: &[Value],
     r: Value,
     words: &[u32],
     k: usize,
@@ -109,7 +109,7 @@ pub fn scan_many(
 #[cycle(scan_entry_scan_many_scan_struct)]
 fn scan_struct(
     members: &[u8],
-    table: &[Row],
+    table: &[Value],
     e: usize,
     r: Value,
     words: &[u32],
@@ -135,7 +135,7 @@ fn scan_struct(
                 }
             }
         }
-        next += wide(words_of(l));
+        next += wide(l.words());
         m += length;
         left -= 1;
     }

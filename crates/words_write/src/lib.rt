@@ -12,7 +12,7 @@ ghost use Rattle.walk_trees.specs.Tree.{Many, Tree, Room, MemberRoom, OfMember};
 ghost use Rattle.walk_pieces.specs.Piece.{Listed};
 
 use file::kinds::STRUCT;
-use layout_values::value::{Row, Value, value_at};
+use layout_values::value::{Value, value_at};
 use numbers::wide::wide;
 use runs::{write_few, write_parts};
 use walk_pieces::{MOST, Pieces, pieces_of};
@@ -23,7 +23,7 @@ use words_pieces::writing::write_each;
 #[cycle(write_entry_write_many_write_member_write_struct)]
 pub fn write_entry(
     members: &[u8],
-    table: &[Row],
+    table: &[Value],
     e: usize,
     at: usize,
     words: &[u32],
@@ -47,7 +47,7 @@ pub fn write_entry(
 #[cycle(write_entry_write_many_write_member_write_struct)]
 pub fn write_many(
     members: &[u8],
-    table: &[Row],
+    table: &[Value],
     r: Value,
     at: usize,
     words: &[u32],
@@ -102,7 +102,7 @@ pub fn write_many(
 #[cycle(write_entry_write_many_write_member_write_struct)]
 fn write_struct(
     members: &[u8],
-    table: &[Row],
+    table: &[Value],
     e: usize,
     r: Value,
     at: usize,
@@ -133,7 +133,7 @@ fn write_struct(
 #[cycle(write_entry_write_many_write_member_write_struct)]
 fn write_member(
     members: &[u8],
-    table: &[Row],
+    table: &[Value],
     m: usize,
     end: usize,
     at: usize,

@@ -25,7 +25,7 @@ free_3 : (c : goal.In_default) → let e = c.args.e in unused (e.columns ∷ e.r
 free_3 c = granted (unused_two _ _ c.zeros.ensures) (ap not c.if-not-zeros.false)
 
 -- the fields that the kind doesn't use are zero
-free_4 : (c : goal.After-words_of) → let e = c.args.e in unused (e.columns ∷ e.rows ∷ []) ≡ true
+free_4 : (c : goal.After-words) → let e = c.args.e in unused (e.columns ∷ e.rows ∷ []) ≡ true
 free_4 c = granted (unused_two _ _ c.zeros.ensures) (ap not c.if-not-zeros.false)
 
 -- the element is not open
@@ -37,7 +37,7 @@ closed_2 : (c : goal.In-Is) (t : Ty) → let l = c.args.l in l ≡ value_of l.st
 closed_2 c t is w = sym (c.opens.ensures t is w) ∙ c.if-opens.false
 
 -- the element is not open
-closed_3 : (c : goal.After-words_of) (t : Ty) → let l = c.args.l in l ≡ value_of l.stride l.reference t → everywhere is_well_formed t ≡ true → is_open t ≡ false
+closed_3 : (c : goal.After-words) (t : Ty) → let l = c.args.l in l ≡ value_of l.stride l.reference t → everywhere is_well_formed t ≡ true → is_open t ≡ false
 closed_3 c t is w = sym (c.opens.ensures t is w) ∙ c.if-opens.false
 
 pub returns-then-not-zeros : goal.returns-then-not-zeros
@@ -58,10 +58,10 @@ returns-in_default c long t is w =
     let s = p in
     let o = s in
     sym (array_large _ t long (free_3 o) (omega arith) _ is w (closed o t is w) _
-    (s.stride_of-stride.ensures t is w) (sym p.product.ensures ∙ c.in_default.is))
+    (s.own_stride-stride.ensures t is w) (sym p.product.ensures ∙ c.in_default.is))
 
-pub words_of-requires : goal.words_of-requires
-words_of-requires c =
+pub words-requires : goal.words-requires
+words-requires c =
     let o = c in
     let k = o.requires in
     array_words k.type _ k.is k.well_formed (closed_2 o k.type k.is k.well_formed)
@@ -72,6 +72,6 @@ returns c long t is w =
     let p = m in
     let s = p in
     let o = s in
-    rw c.words_of.ensures
+    rw c.words.ensures
     (sym (array_laid _ t long (free_4 o) (omega arith) _ is w (closed_3 o t is w) _
-    (s.stride_of-stride.ensures t is w) _ (sym p.product.ensures ∙ m.in-Is.is)))
+    (s.own_stride-stride.ensures t is w) _ (sym p.product.ensures ∙ m.in-Is.is)))

@@ -48,13 +48,13 @@ pub returns-then-align-eq0 : goal.returns-then-align-eq0
 returns-then-align-eq0 c long t is w =
     sym (runtime_unaligned _ t long (free_2 c) (unaligned t _ is w c.if-align-eq0.true))
 
-pub words_of-requires : goal.words_of-requires
-words_of-requires c =
+pub words-requires : goal.words-requires
+words-requires c =
     let k = c.requires in
     words_within k.type _ (known c k.type k.is k.well_formed)
 
 pub returns : goal.returns
 returns c long t is w =
     let r = c in
-    rw c.words_of.ensures
+    rw c.words.ensures
     (sym (runtime_laid _ t long (free_3 r) _ (known_2 r t is w) _ (c.stride_of.ensures t is w)))

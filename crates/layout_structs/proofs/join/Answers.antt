@@ -118,8 +118,8 @@ returns-in_default-sum c ms t j =
     (sym (o.opens.ensures t j.layout j.well_formed) ∙ e.if-opens.false) _ (size_is r)
     (sym e.sum.ensures ∙ c.in_default-sum.is))
 
-pub words_of-requires : goal.words_of-requires
-words_of-requires c = omega (arith, words c)
+pub words-requires : goal.words-requires
+words-requires c = omega (arith, words c)
 
 pub overflow_add-result : goal.overflow_add-result
 overflow_add-result c =

@@ -9,4 +9,4 @@ returns-then-l-eq0 c = rw (eq-eqb _ 0 c.if-l-eq0.true)
 
 pub returns : goal.returns
 unfolding packed_as
-returns c = rw (ne_eqb _ 0 c.if-l-eq0.false, ← c.words_of.ensures) c.touch.ensures
+returns c = rw (ne_eqb _ 0 c.if-l-eq0.false, ← c.words.ensures) c.touch.ensures

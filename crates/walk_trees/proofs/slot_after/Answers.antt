@@ -48,7 +48,7 @@ returns-then-e-eq0 c =
     let w = c in
     let at = w in
     let s = at in
-    placed_is (found_2 at) _ s.args.end _ _ _ c.put_after.ensures w.words_of-words.ensures
+    placed_is (found_2 at) _ s.args.end _ _ _ c.put_after.ensures w.words-words.ensures
     (own_align (found_2 at) (omega arith)) (own_size (found_2 at) (omega arith))
 
 pub returns : goal.returns
@@ -56,5 +56,5 @@ returns c =
     let w = c in
     let at = w in
     let s = at in
-    placed_is (found_3 at) _ s.args.end _ _ _ c.put_after-2.ensures w.words_of-words.ensures
+    placed_is (found_3 at) _ s.args.end _ _ _ c.put_after-2.ensures w.words-words.ensures
     (given_align_lem (found_3 at) c.given_align.ensures) (given_size_lem (found_3 at) c.given_size.ensures)

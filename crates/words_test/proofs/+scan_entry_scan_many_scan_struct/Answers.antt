@@ -170,7 +170,7 @@ step_is_lem_2 t c = rw c.requires.0.2 at c.wide-length.ensures.0
 words_are : (t : ℕ) (c : goal.scan_struct-After-wide-next t) →
     let after_wide4 = c in
     c.wide-next.result ≡ words_in (value_at after_wide4.args.table.now after_wide4.wide-ty.result)
-words_are t c = rw c.value_at-l.ensures at (c.wide-next.ensures.0 ∙ c.words_of.ensures)
+words_are t c = rw c.value_at-l.ensures at (c.wide-next.ensures.0 ∙ c.words.ensures)
 
 -- the member has passed t, or it holds no f16
 passed : (t : ℕ) (c : goal.scan_struct-After-wide-next t) →
@@ -317,8 +317,8 @@ scan_struct-returns-in-Bad t c =
       long = call.scan_entry.ensures.long;
     }
 
-pub scan_struct-words_of-requires : goal.scan_struct-words_of-requires
-scan_struct-words_of-requires t c =
+pub scan_struct-words-requires : goal.scan_struct-words-requires
+scan_struct-words-requires t c =
     let after_value_at = c in
     let after_wide4 = after_value_at in
     let in_loop = after_wide4 in

@@ -24,7 +24,7 @@ enough_2 : (c : goal.After-load-arg-1) →
 enough_2 c = rw c.wide.ensures.0 at c.if-buf-wide.false
 
 -- 15 is passed, and 14
-enough_3 : (c : goal.After-words_of-2) →
+enough_3 : (c : goal.After-words-2) →
     let a = c.args in
     a.l.size ≤ length a.buf.now
 enough_3 c = rw c.wide.ensures.0 at c.if-buf-wide.false
@@ -32,12 +32,12 @@ enough_3 c = rw c.wide.ensures.0 at c.if-buf-wide.false
 there : (c : goal.After-load-arg-1) →
     let a = c.args in
     words_in a.l ≤ length a.words.now
-there c = rw (c.wide-2.ensures.0, c.words_of.ensures) at c.if-words-wide.false
+there c = rw (c.wide-2.ensures.0, c.words.ensures) at c.if-words-wide.false
 
-there_2 : (c : goal.After-words_of-2) →
+there_2 : (c : goal.After-words-2) →
     let a = c.args in
     words_in a.l ≤ length a.words.now
-there_2 c = rw (c.wide-2.ensures.0, c.words_of.ensures) at c.if-words-wide.false
+there_2 c = rw (c.wide-2.ensures.0, c.words.ensures) at c.if-words-wide.false
 
 pub returns-then-buf-wide : goal.returns-then-buf-wide
 returns-then-buf-wide c =
@@ -71,5 +71,5 @@ returns c =
     let else2 = tail in
     let room = enough_3 else2 in
     λ t r o.
-    answered_done _ (all_read r o _ _ room (there_2 else2)) (c.words_of-2.ensures ∙ sym (ready_words r))
+    answered_done _ (all_read r o _ _ room (there_2 else2)) (c.words-2.ensures ∙ sym (ready_words r))
     (load.load.ensures t 0 (rw tail.closed_rest.ensures (closed_whole r)) (omega (arith, ready_words r, there_2 else2)))

@@ -9,19 +9,19 @@ use Rattle.words.proofs.writing.write_closed.Goals as goal
 
 -- the words that the code counts
 counted : (c : goal.Then-words-wide) → c.wide.result ≡ words_in c.args.l
-counted c = c.wide.ensures.0 ∙ c.words_of.ensures
+counted c = c.wide.ensures.0 ∙ c.words.ensures
 
 -- the words that the code counts
 counted_2 : (c : goal.Then-buf-wide) → c.wide.result ≡ words_in c.args.l
-counted_2 c = c.wide.ensures.0 ∙ c.words_of.ensures
+counted_2 c = c.wide.ensures.0 ∙ c.words.ensures
 
 -- the words that the code counts
 counted_3 : (c : goal.After-write_whole-arg-1) → c.wide.result ≡ words_in c.args.l
-counted_3 c = c.wide.ensures.0 ∙ c.words_of.ensures
+counted_3 c = c.wide.ensures.0 ∙ c.words.ensures
 
 -- the words that the code counts
 counted_4 : (c : goal.After-slice_known-2-1) → c.wide.result ≡ words_in c.args.l
-counted_4 c = c.wide.ensures.0 ∙ c.words_of.ensures
+counted_4 c = c.wide.ensures.0 ∙ c.words.ensures
 
 pub returns-then-words-wide : goal.returns-then-words-wide
 returns-then-words-wide c =
