@@ -2,6 +2,7 @@
 ghost use Rattle.std.specs.Prelude.{◌≤◌, length};
 ghost use Rattle.answers.specs.Count.{Counted};
 
+use said::refusal::Refusal;
 use crate::lines::{copy, numbers, same};
 use crate::say::{say, say_bytes, say_cleaned, say_layout, say_mask, say_moved, say_number, say_pattern, say_plain, say_shown, say_walked, say_words};
 use lepugaso::{align, check, check_order, clean, common, convert, extract_bits, extract_bits_u32, insert_bits, insert_bits_u32, layout, min_size, plan_order, rank, read, set, site_clear, site_fresh, site_inheriting, site_member, site_member_at, site_set, site_shows, size, to_form_1, to_form_2, uniform, view, view_at, view_mut, write};

@@ -1,4 +1,7 @@
 // Answers as text, put to a writer. An error is the writer's own.
+use said::answer::Sizes;
+use said::answer::Gaps;
+use said::target::Target;
 use crate::lines::spell;
 use said::refusal::{Refusal, number, place};
 use std::io::{self, Write};

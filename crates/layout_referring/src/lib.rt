@@ -12,7 +12,6 @@ use file::fields::TypeEntry;
 use file::kinds::{ABSTRACT_FLOAT, ARRAY, ATOMIC, F16, F32, I32, MATRIX, RUNTIME, U32, VECTOR, is_scalar};
 use layout_values::scalars::{scalar_size, scalar_words, unless_absent, vector_align, zeros};
 use layout_values::value::{Broken, Value};
-use numbers::limit::product;
 
 // "7 vector: rows 2-4, reference to a kind 0-6", or 13-15
 pub fn vector(e: TypeEntry, l: Value) -> Result<Value, Broken>
@@ -117,9 +116,7 @@ pub fn array(e: TypeEntry, l: Value) -> Result<Value, Broken>
         return Err(Broken::Rule);
     }
     let stride = l.own_stride();
-    let Some(size) = product(count, stride) else {
-        return Err(Broken::Large);
-    };
+    let size = count.checked_mul(stride).ok_or(Broken::Large)?;
     Ok(Value {
         kind: ARRAY,
         narrow: l.narrow,

@@ -14,8 +14,7 @@ use file::kinds::STRUCT;
 use layout_members::{align_fits, given_align, given_size, is_allowed, rest_is_zero, size_fits};
 use layout_values::scalars::zeros;
 use layout_values::value::{Broken, Value};
-use numbers::limit::{round_up, sum};
-use numbers::order::{larger, smaller};
+use numbers::limit::round_up;
 use numbers::wide::wide;
 
 // Where the members so far end, and what they hold.
@@ -31,6 +30,9 @@ pub struct Ends {
 
 
 
+// What the members so far come to, or why the struct has no value: "5 before 6 before 7", so that a member may still break 5 where one before it broke 6 or 7.
+pub type SoFar = Result<Ends, Broken>;
+
 // The members that a struct's entry names, by number.
 #[derive(Clone, Copy)]
 pub struct Span {
@@ -45,11 +47,9 @@ fn join(p: Ends, l: Value, m: MemberEntry) -> SoFar
 {
     let align = given_align(m, l.align);
     let size = given_size(m, l.size);
-    let Some(start) = round_up(align, p.end) else {
-        return Err(Broken::Large);
-    };
-    let most = larger(p.align, align);
-    let narrow = smaller(p.narrow, l.narrow);
+    let start = round_up(align, p.end).ok_or(Broken::Large)?;
+    let most = p.align.max(align);
+    let narrow = p.narrow.min(l.narrow);
     if l.opens() {
         return Ok(Ends {
             end: 0,
@@ -59,9 +59,7 @@ fn join(p: Ends, l: Value, m: MemberEntry) -> SoFar
             narrow,
         });
     }
-    let Some(end) = sum(start, size) else {
-        return Err(Broken::Large);
-    };
+    let end = start.checked_add(size).ok_or(Broken::Large)?;
     Ok(Ends {
         end,
         align: most,
@@ -103,8 +101,7 @@ pub fn step(past: SoFar, l: Value, m: MemberEntry, last: bool) -> Result<SoFar, 
     }
     match past {
         Ok(p) => Ok(join(p, l, m)),
-        Err(Broken::Given) => Ok(Err(Broken::Given)),
-        Err(Broken::Large) => Ok(Err(Broken::Large)),
+        Err(broken) => Ok(Err(broken)),
     }
 }
 
@@ -132,26 +129,21 @@ fn whole(e: TypeEntry, p: Ends, long: u32) -> Result<Value, Broken>
     if p.opens {
         return Ok(struct_of(e, p, 0, long));
     }
-    let Some(size) = round_up(p.align, p.end) else {
-        return Err(Broken::Large);
-    };
+    let size = round_up(p.align, p.end).ok_or(Broken::Large)?;
     Ok(struct_of(e, p, size, long))
 }
 
 // Past the last of `count` members, whose entries are so long: a struct has one at least.
 pub fn finish(e: TypeEntry, past: SoFar, count: usize, long: u32) -> Result<Value, Broken>
     requires { 1 ≤ count → (ms : Members) × Closes past ms }
-    ensures none { count ≡ 0 → result ≡ (Err Rule) }
+    ensures none { count ≡ 0 → result ≡ Err Rule }
     ensures all { 1 ≤ count → (k : ℕ) (ms : Members) → Closes past ms → count_of ms ≡ e.count → result ≡ verdict_on long e.reference (struct k ms) }
 {
     if count < 1 {
         return Err(Broken::Rule);
     }
-    match past {
-        Ok(p) => whole(e, p, long),
-        Err(Broken::Given) => Err(Broken::Given),
-        Err(Broken::Large) => Err(Broken::Large),
-    }
+    let p = past?;
+    whole(e, p, long)
 }
 
 // "12 struct: reference = first member, count = members, 1 to 1,024, all within M": those members; or none, where the

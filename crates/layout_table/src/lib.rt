@@ -15,7 +15,7 @@ use file::kinds::{ABSTRACT_FLOAT, STRUCT, is_scalar};
 use file::trailer::{Trailer, check_trailer};
 use layout_referring::over_entry;
 use layout_strays::lowest_stray;
-use layout_structs::{SoFar, finish, no_members, span_of, step};
+use layout_structs::{finish, no_members, span_of, step};
 use layout_values::scalars::{scalar_entry, zeros};
 use layout_values::value::{Broken, Value, blank, value_at};
 use numbers::wide::wide;
@@ -40,22 +40,13 @@ fn struct_entry(
     let length = wide(long);
     let at = base + length * s.first;
     let mut past = no_members();
-    let mut i: usize = 0;
-    while i < count {
+    for i in 0..count {
         let m = member_at(f, at + length * i);
         let ty = wide(m.ty);
         if k <= ty {
             return Err(Broken::Rule);
         }
-        match step(past, value_at(table, ty), m, i + 1 == count) {
-            Ok(r) => {
-                past = r;
-            }
-            Err(Broken::Rule) => {
-                return Err(Broken::Rule);
-            }
-        }
-        i += 1;
+        past = step(past, value_at(table, ty), m, i + 1 == count)?;
     }
     finish(e, past, count, long)
 }
@@ -104,24 +95,9 @@ pub fn fill(f: &[u8], t: Trailer, table: &mut [Value]) -> Result<Trailer, Refusa
     let start = wide(t.start);
     let base = start + TYPE_ENTRY_LENGTH * types;
     let long = member_length(t.form);
-    let mut k: usize = 0;
-    while k < types {
+    for k in 0..types {
         let e = entry_at(f, start + TYPE_ENTRY_LENGTH * k);
-        match entry_made(f, e, k, base, members, long, table) {
-            Ok(l) => {
-                table[k] = row_of(l);
-            }
-            Err(Broken::Rule) => {
-                return Err(Refusal::Rule(k));
-            }
-            Err(Broken::Given) => {
-                return Err(Refusal::Given(k));
-            }
-            Err(Broken::Large) => {
-                return Err(Refusal::Large(k));
-            }
-        }
-        k += 1;
+        table[k] = entry_made(f, e, k, base, members, long, table).map_err(|broken| broken.at(k))?;
     }
     let stray = lowest_stray(f, start, types, members);
     if stray < members {

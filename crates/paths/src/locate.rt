@@ -8,6 +8,7 @@ ghost use Rattle.said.specs.Target.{reached};
 ghost use Rattle.paths.specs.Locate.{held_of, Viewable, Opening};
 ghost use Rattle.said.specs.Answer.{said};
 
+use said::target::Target;
 use file::trailer::check_trailer;
 use layout_table::{Ground, find};
 use layout_values::value::{Value, blank};
@@ -17,14 +18,24 @@ use walk_decide::{Rest, allow, elements_in, rest_of};
 use walk_path::enter::Stand;
 use walk_path::walk::walk;
 
+// What a buffer holds of an entry: the elements of its runtime array, 0 if it has none, and where the entry ends.
+#[derive(Clone, Copy, Debug, PartialEq, Eq)]
+pub struct Held {
+    pub elements: usize,
+    pub size: usize,
+}
+
 
 // 15 for an open type with the tail `x`: a buffer with no whole element.
 fn held_open(x: Rest, bytes: usize) -> Option<Held>
     requires { (t : Ty) × Opening t x × (bytes ≤ limit) }
     ensures { (t : Ty) (b : List ℕ) → Opening t x → length b ≡ bytes → result ≡ held_of t b }
 {
-    let n = elements_in(bytes, x.offset, x.value.stride)?;
-    Some(Held(n, x.offset + n * wide(x.value.stride)))
+    let elements = elements_in(bytes, x.offset, x.value.stride)?;
+    Some(Held {
+        elements,
+        size: x.offset + elements * wide(x.value.stride),
+    })
 }
 
 // 15: for an entry of the value `l` and a buffer of so many bytes.
@@ -39,7 +50,7 @@ fn held_of(members: &[u8], table: &[Value], l: Value, bytes: usize) -> Option<He
     if bytes < size {
         return None;
     }
-    Some(Held(0, size))
+    Some(Held { elements: 0, size })
 }
 
 // What lies under a path: 15, and then the first bad step.
@@ -54,8 +65,8 @@ fn target_in(
     requires { (f : List ℕ) × (t : Ty) × Viewable f members.now table.now e l t × (bytes ≤ limit) }
     ensures { (f : List ℕ) (t : Ty) (b : List ℕ) → Viewable f members.now table.now e l t → length b ≡ bytes → said result ≡ reached (target_in t path.now b) }
 {
-    let Held(n, size) = held_of(members, table, l, bytes).ok_or(Refusal::Buffer)?;
-    walk(members, table, n, Stand::Entry(e), size, path, 0, 0)
+    let held = held_of(members, table, l, bytes).ok_or(Refusal::Buffer)?;
+    walk(members, table, held.elements, Stand::Entry(e), held.size, path, 0, 0)
 }
 
 // 17, 9, 10, and then the rest.

@@ -5,6 +5,8 @@ ghost use Rattle.said.specs.Target.{reached, after};
 ghost use Rattle.paths.specs.View.{PartIs};
 ghost use Rattle.said.specs.Answer.{said};
 
+use said::target::Target;
+use said::refusal::Refusal;
 use crate::locate::locate;
 
 // What `path` leads to from entry `entry`: its offset, its bytes and its scalar.

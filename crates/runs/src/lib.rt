@@ -10,6 +10,7 @@ ghost use Rattle.runs.specs.Ask.{PartsRoom};
 ghost use Rattle.said.specs.Answer.{said};
 
 use numbers::bytes::{store_u16, store_u32, u16_at, u32_at};
+use said::refusal::Refusal;
 
 // `count` runs of `unit` words of `width` bytes, each a `stride` after the one before.
 #[derive(Clone, Copy)]
@@ -19,7 +20,6 @@ pub struct Parts {
     pub width: usize,
     pub stride: usize,
 }
-
 
 // Two, three and four numbers of four bytes, one after the other. They are handed on as numbers, so that all are read before the first is
 // stored: the compiler, which cannot know that a store changes no word, then moves them together.

@@ -8,6 +8,7 @@ ghost use Rattle.layout_table.specs.Table.{said_ground};
 ghost use Rattle.site.specs.Block.{block_allowed, block_ground};
 ghost use Rattle.said.specs.Answer.{said};
 
+use layout_table::Ground;
 use file::kinds::STRUCT;
 use file::trailer::check_trailer;
 use layout_table::find;

@@ -5,6 +5,8 @@ ghost use Rattle.wgsl.specs.Site.{member_call, handed_from};
 ghost use Rattle.said.specs.Target.{reached, after};
 ghost use Rattle.said.specs.Answer.{said};
 
+use said::target::Target;
+use said::refusal::Refusal;
 use crate::mask::bit;
 use crate::spot::locate_in;
 

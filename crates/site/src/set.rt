@@ -8,6 +8,7 @@ ghost use Rattle.said.specs.Answer.{said, Answered};
 ghost use Rattle.paths.specs.Set.{InBuffer};
 ghost use Rattle.site.specs.Set.{brought_in};
 
+use said::refusal::Refusal;
 use crate::mask::{bit, with_bit};
 use crate::spot::{Spot, locate_in};
 use paths::set::{fit_scalar, set_scalar};

@@ -15,6 +15,7 @@ ghost use Rattle.wgsl.specs.Clean.{clean_call, changed_of, first_after, clean_af
 ghost use Rattle.said.specs.Answer.{said, maybe_of};
 ghost use Rattle.surface.specs.Crossing.{crossed, crossed_maybe, told, laid_out, size_out, site_out};
 
+use said::refusal::Refusal;
 use said::refusal::{number, place};
 
 // An answer as it crosses to C: 0 or document 01's number, its place, the value (0 when refused).

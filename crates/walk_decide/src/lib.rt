@@ -40,17 +40,6 @@ pub fn allow(l: Value, bytes: usize, stored: bool) -> Result<(), Refusal>
     Ok(())
 }
 
-// 16: what a scan of the words says.
-pub fn fit(s: Result<(), Refusal>) -> Result<(), Refusal>
-    ensures { said result ≡ said s }
-{
-    match s {
-        Ok(()) => Ok(()),
-        Err(Refusal::Word(k)) => Err(Refusal::Word(k)),
-    }
-}
-
-
 // How many elements so many words fill, after the fixed part.
 pub fn elements_for(words: usize, first: usize, unit: u32) -> Option<usize>
     requires { (0 < unit) × (first ≤ limit) }

@@ -6,7 +6,7 @@ ghost use Rattle.wgsl.specs.Place.{Shape};
 ghost use Rattle.wgsl.specs.Path.{index, member};
 ghost use Rattle.layout_values.specs.Value.{value_at};
 ghost use Rattle.walk_path.specs.declared.enter.Stand.TheVariants.{Entry, Column};
-ghost use Rattle.walk_path.specs.Step.{step_is};
+ghost use Rattle.walk_path.specs.Step.{step_is, refusal_at};
 ghost use Rattle.walk_path.specs.Way.{size_at, parts_at, Standing, Parted, Enters};
 ghost use Rattle.said.specs.Target.{kind_in};
 
@@ -14,6 +14,7 @@ use crate::step::Step;
 use file::kinds::{ATOMIC, MATRIX, RUNTIME, STRUCT, VECTOR, is_scalar};
 use layout_values::value::{value_at, Value};
 use numbers::wide::wide;
+use said::refusal::Refusal;
 use said::target::NO_SCALAR;
 use walk_trees::member_in;
 
@@ -30,6 +31,27 @@ pub struct Inner {
     pub offset: usize,
     pub size: usize,
     pub stand: Stand,
+}
+
+// Why a step leads nowhere: no such member (11), an index not below the count (12), an index where there are no parts (13).
+#[derive(Clone, Copy, Debug, PartialEq, Eq)]
+pub enum NoStep {
+    NoMember,
+    PastEnd,
+    NoIndex,
+}
+
+impl NoStep {
+    // The refusal of the step at `position`.
+    pub fn at(self, position: usize) -> Refusal
+        ensures { result ≡ refusal_at self position }
+    {
+        match self {
+            NoStep::NoMember => Refusal::NoMember(position),
+            NoStep::PastEnd => Refusal::PastEnd(position),
+            NoStep::NoIndex => Refusal::NoIndex(position),
+        }
+    }
 }
 
 
@@ -142,20 +164,11 @@ pub fn enter(members: &[u8], table: &[Value], n: usize, p: Stand, s: Step) -> Re
     requires { (f : List ℕ) × (ts : List Ty) × (x : Shape) × Standing f ts members.now table.now n p x }
     ensures { (f : List ℕ) (ts : List Ty) (x : Shape) → Standing f ts members.now table.now n p x → Enters ts n result x (step_is s) }
 {
-    let number = s.number;
-    match p {
-        Stand::Entry(e) => {
-            if s.member {
-                return enter_member(members, table, n, e, number);
-            }
-            enter_index(table, n, e, number)
-        }
-        Stand::Column(count, e) => {
-            if s.member {
-                return Err(NoStep::NoMember);
-            }
-            enter_column(table, count, e, number)
-        }
+    match (p, s) {
+        (Stand::Entry(e), Step::Member(number)) => enter_member(members, table, n, e, number),
+        (Stand::Entry(e), Step::Index(number)) => enter_index(table, n, e, number),
+        (Stand::Column(_, _), Step::Member(_)) => Err(NoStep::NoMember),
+        (Stand::Column(count, e), Step::Index(number)) => enter_column(table, count, e, number),
     }
 }
 

@@ -6,7 +6,7 @@ ghost use Rattle.wgsl.specs.Place.{Shape, span_of};
 ghost use Rattle.walk_path.specs.Way.{Standing, Walks};
 
 use crate::enter::{Stand, enter, kind_in};
-use crate::step::step_of;
+use crate::step::Step;
 use layout_values::value::Value;
 use said::refusal::Refusal;
 use said::target::Target;
@@ -32,20 +32,15 @@ pub fn walk(
             scalar: kind_in(table, p),
         });
     }
-    match enter(members, table, n, p, step_of(path[k])) {
-        Ok(i) => {
-            let next = i.stand;
-            walk(
-                members,
-                table,
-                n,
-                next,
-                i.size,
-                path,
-                k + 1,
-                offset + i.offset,
-            )
-        }
-        Err(step) => Err(step.at(k)),
-    }
+    let inner = enter(members, table, n, p, Step::from(path[k])).map_err(|step| step.at(k))?;
+    walk(
+        members,
+        table,
+        n,
+        inner.stand,
+        inner.size,
+        path,
+        k + 1,
+        offset + inner.offset,
+    )
 }

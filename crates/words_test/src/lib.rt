@@ -13,6 +13,7 @@ ghost use Rattle.walk_trees.specs.Tree.{Many, Tree, EachRoom, WordRoom};
 ghost use Rattle.walk_pieces.specs.Piece.{Listed};
 ghost use Rattle.said.specs.Answer.{said};
 
+use said::refusal::Refusal;
 use file::fields::half;
 use file::kinds::STRUCT;
 use layout_values::value::{Value, value_at};
