@@ -79,9 +79,7 @@ fn clean_entry_at(file: &[u8], e: usize, g: Ground, table: &[Value], buf: &mut [
 {
     let l = g.value;
     allow(l, buf.len(), true)?;
-    let start = g.start;
-    let end = g.end;
-    let members = &file[start..end];
+    let members = &file[g.start..g.end];
     if l.opens() {
         return clean_open(members, table, e, l, buf);
     }

@@ -39,9 +39,7 @@ fn check_struct(members: &[u8], table: &[Value], l: Value, order: &[u32]) -> Res
     if !all_once(order, count) {
         return Err(Refusal::NoOrder);
     }
-    let Some(end) = end_in(members, table, l, order) else {
-        return Err(Refusal::NoOrder);
-    };
+    let end = end_in(members, table, l, order).ok_or(Refusal::NoOrder)?;
     if wide(end) < end_now(members, table, l) {
         return Ok(end);
     }
@@ -57,9 +55,7 @@ fn check_entry_at(file: &[u8], e: usize, g: Ground, table: &[Value], order: &[u3
     if l.kind != STRUCT {
         return Err(Refusal::Absent);
     }
-    let start = g.start;
-    let end = g.end;
-    check_struct(&file[start..end], table, l, order)
+    check_struct(&file[g.start..g.end], table, l, order)
 }
 
 // Whether the members of entry `entry`, a struct, may stand in this order, given as their positions: every one once, a runtime array still

@@ -37,9 +37,7 @@ fn plan_entry_at(file: &[u8], e: usize, g: Ground, table: &[Value], order: &mut 
     if l.kind != STRUCT {
         return Err(Refusal::Absent);
     }
-    let start = g.start;
-    let end = g.end;
-    plan_struct(&file[start..end], table, l, order)
+    plan_struct(&file[g.start..g.end], table, l, order)
 }
 
 // The positions of the members of entry `entry`, a struct, by falling alignment, ties as they stand, a runtime array last, into the front of

@@ -84,9 +84,7 @@ fn target_at(
 {
     let l = g.value;
     allow(l, bytes, stored)?;
-    let start = g.start;
-    let end = g.end;
-    target_in(&file[start..end], table, e, l, path, bytes)
+    target_in(&file[g.start..g.end], table, e, l, path, bytes)
 }
 
 // What `path` leads to from entry `entry` in a buffer of so many bytes; `stored` says that the entry must be storable.

@@ -23,14 +23,8 @@ fn member_there(members: &[u8], table: &[Value], e: usize, k: u32) -> Result<(),
     requires { (f : List ℕ) × (ts : List Ty) × (x : Shape) × Standing f ts members.now table.now 0 (Entry e) x }
     ensures { (f : List ℕ) (ts : List Ty) (x : Shape) → Standing f ts members.now table.now 0 (Entry e) x → said result ≡ there_in x k }
 {
-    let step = Step {
-        member: true,
-        number: k,
-    };
-    match enter(members, table, 0, Stand::Entry(e), step) {
-        Ok(_) => Ok(()),
-        Err(step) => Err(step.at(0)),
-    }
+    enter(members, table, 0, Stand::Entry(e), Step::Member(k)).map_err(|step| step.at(0))?;
+    Ok(())
 }
 
 // The same in the block that was found.
@@ -38,9 +32,7 @@ fn there_in(file: &[u8], e: usize, g: Ground, table: &[Value], k: u32) -> Result
     requires { (t : Ty) × (mask : ℕ) × (bytes : ℕ) × BlockAt file.now e g table.now mask bytes t }
     ensures { (t : Ty) (mask bytes : ℕ) → BlockAt file.now e g table.now mask bytes t → said result ≡ there_in (shape_of 0 t) k }
 {
-    let start = g.start;
-    let end = g.end;
-    member_there(&file[start..end], table, e, k)
+    member_there(&file[g.start..g.end], table, e, k)
 }
 
 // Whether member `k` of a block can be cleared.

@@ -116,9 +116,7 @@ fn uniform_at(file: &[u8], e: usize, g: Ground, table: &[Value]) -> Result<u32, 
     ensures { (t : Ty) → Meant file.now e g table.now t → said result ≡ uniform_call file.now e }
 {
     may_live(g.value)?;
-    let start = g.start;
-    let end = g.end;
-    verdict(lowest_broken(&file[start..end], table, e))
+    verdict(lowest_broken(&file[g.start..g.end], table, e))
 }
 
 // Whether entry `entry` may live in a uniform buffer: 0, or what is in the way.

@@ -111,9 +111,7 @@ fn read_entry_at(
 {
     let l = g.value;
     allow(l, buf.len(), true)?;
-    let start = g.start;
-    let end = g.end;
-    let members = &file[start..end];
+    let members = &file[g.start..g.end];
     if l.opens() {
         return read_open(members, table, e, l, buf, words);
     }

@@ -28,11 +28,7 @@ fn zero(buf: &mut [u8], n: usize)
     requires { n ≤ length buf.old }
     ensures { buf.new ≡ replicate n 0 ++ drop n buf.old }
 {
-    let mut i: usize = 0;
-    while i < n {
-        buf[i] = 0;
-        i += 1;
-    }
+    buf[..n].fill(0);
 }
 
 // Tests the words of an entry: the fixed part, then the tail.
@@ -48,10 +44,8 @@ fn scan(
     ensures said { Tested members.now table.now e x words.now (said result) }
     ensures long { Listed pieces.new }
 {
-    match scan_entry(members, table, e, words, 0, pieces) {
-        Err(Refusal::Word(k)) => Err(Refusal::Word(k)),
-        Ok(()) => scan_many(members, table, x.value, words, x.fixed, pieces),
-    }
+    scan_entry(members, table, e, words, 0, pieces)?;
+    scan_many(members, table, x.value, words, x.fixed, pieces)
 }
 
 // Stores the words of an entry of so many bytes: at once where they cover it; else over zeros, the fixed part, then the tail.
@@ -94,7 +88,7 @@ fn write_whole(
     ensures { WholeWritten members.now table.now e x extent words.now result buf.old buf.new }
 {
     let mut pieces = no_pieces();
-    fit(scan(members, table, e, x, words, &mut pieces))?;
+    scan(members, table, e, x, words, &mut pieces)?;
     store(members, table, e, x, wide(extent), words, buf, &mut pieces);
     Ok(extent)
 }
@@ -176,9 +170,7 @@ fn write_entry_at(
 {
     let l = g.value;
     allow(l, buf.len(), true)?;
-    let start = g.start;
-    let end = g.end;
-    let members = &file[start..end];
+    let members = &file[g.start..g.end];
     if l.opens() {
         return write_open(members, table, e, l, words, buf);
     }
