@@ -17,7 +17,6 @@ use layout_members::given_align;
 use layout_structs::{SoFar, no_members, step};
 use layout_values::value::{Broken, Value, value_at};
 use numbers::limit::round_up;
-use numbers::wide::wide;
 
 // Whether every number of the list is below `n`, at most 1,024, and no two are the same.
 pub fn all_once(order: &[u32], n: usize) -> bool
@@ -27,7 +26,7 @@ pub fn all_once(order: &[u32], n: usize) -> bool
     let mut seen = [false; 1024];
     let mut i: usize = 0;
     while i < order.len() {
-        let p = wide(order[i]);
+        let p = order[i] as usize;
         if n <= p {
             return false;
         }
@@ -67,14 +66,14 @@ pub fn end_in(members: &[u8], table: &[Value], l: Value, order: &[u32]) -> Optio
     requires { (ms : Members) × Struct members.now table.now l ms × (length order.now ≡ count_of ms) × (all_below (count_of ms) order.now ≡ true) }
     ensures { (k : ℕ) (ms new : Members) → Struct members.now table.now l ms → reordered ms order.now ≡ some new → maybe_of result ≡ laid_end k new }
 {
-    let first = wide(l.reference);
-    let length = wide(l.stride);
-    let last = wide(l.count) - 1;
+    let first = l.reference as usize;
+    let length = l.stride as usize;
+    let last = l.count as usize - 1;
     let mut past = no_members();
     let mut i: usize = 0;
     while i < last {
-        let m = member_at(members, (first + wide(order[i])) * length);
-        match step(past, value_at(table, wide(m.ty)), m, false) {
+        let m = member_at(members, (first + order[i] as usize) * length);
+        match step(past, value_at(table, m.ty as usize), m, false) {
             Ok(r) => {
                 past = r;
             }
@@ -84,6 +83,6 @@ pub fn end_in(members: &[u8], table: &[Value], l: Value, order: &[u32]) -> Optio
         }
         i += 1;
     }
-    let m = member_at(members, (first + wide(order[last])) * length);
-    end_after(past, value_at(table, wide(m.ty)), m)
+    let m = member_at(members, (first + order[last] as usize) * length);
+    end_after(past, value_at(table, m.ty as usize), m)
 }

@@ -10,7 +10,6 @@ ghost use Rattle.orders_members.specs.Entries.{Struct};
 ghost use Rattle.orders_plan.specs.Keyed.{keyed_at};
 
 use layout_values::value::Value;
-use numbers::wide::wide;
 use orders_members::member_key;
 
 // The largest alignment.
@@ -30,8 +29,8 @@ fn put_keyed(
     ensures list { (ms : Members) → Struct members.now table.now l ms → order.new ≡ sets order.old k (keyed_at key 0 ms) }
 {
     let count = l.count;
-    let length = wide(l.stride);
-    let mut m = wide(l.reference) * length;
+    let length = l.stride as usize;
+    let mut m = l.reference as usize * length;
     let mut next = k;
     let mut i: u32 = 0;
     while i < count {

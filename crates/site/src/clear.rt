@@ -13,7 +13,6 @@ use crate::block::find_block;
 use crate::mask::without_bit;
 use layout_table::Ground;
 use layout_values::value::{blank, Value};
-use numbers::wide::wide;
 use said::refusal::Refusal;
 use walk_path::enter::{Stand, enter};
 use walk_path::step::Step;
@@ -42,7 +41,7 @@ fn can_clear(file: &[u8], entry: u32, k: u32, mask: u64) -> Result<(), Refusal>
 {
     let mut table = blank();
     let found = find_block(file, entry, mask, 0, &mut table)?;
-    there_in(file, wide(entry), found, &table, k)
+    there_in(file, entry as usize, found, &table, k)
 }
 
 // Drops the bit of member `k`, which shows the factory's bytes again; the answer is 0.

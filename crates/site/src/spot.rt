@@ -13,7 +13,6 @@ use crate::block::find_block;
 use crate::buffers::both_have;
 use layout_table::Ground;
 use layout_values::value::{blank, Value};
-use numbers::wide::wide;
 use said::refusal::Refusal;
 use said::target::Target;
 use walk_path::enter::{Inner, Stand, enter};
@@ -64,7 +63,7 @@ fn spot_in(
     requires { (t : Ty) × (mask : ℕ) × BlockAt file.now e g table.now mask (max factory site) t }
     ensures { (t : Ty) (mask : ℕ) (a b : List ℕ) → BlockAt file.now e g table.now mask (max factory site) t → length a ≡ factory → length b ≡ site → said result ≡ spot_call file.now e k path.now mask a b }
 {
-    if !both_have(wide(g.value.size), factory, site) {
+    if !both_have(g.value.size as usize, factory, site) {
         return Err(Refusal::Buffer);
     }
     spot_at(&file[g.start..g.end], table, e, k, path)
@@ -85,5 +84,5 @@ pub fn locate_in(
 {
     let mut table = blank();
     let found = find_block(file, entry, mask, factory.max(site), &mut table)?;
-    spot_in(file, wide(entry), found, &table, k, path, factory, site)
+    spot_in(file, entry as usize, found, &table, k, path, factory, site)
 }

@@ -7,7 +7,6 @@ use crate::block::find_block;
 use crate::buffers::both_have;
 use crate::mask::mark_all;
 use layout_values::value::blank;
-use numbers::wide::wide;
 use puts::put;
 use said::refusal::Refusal;
 
@@ -42,7 +41,7 @@ pub fn fresh(file: &[u8], entry: u32, factory: &[u8], site: &mut [u8], mask: &mu
     let mut table = blank();
     let bytes = factory.len().max(site.len());
     let found = find_block(file, entry, 0, bytes, &mut table)?;
-    let size = wide(found.value.size);
+    let size = found.value.size as usize;
     if !both_have(size, factory.len(), site.len()) {
         return Err(Refusal::Buffer);
     }

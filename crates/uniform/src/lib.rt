@@ -18,7 +18,6 @@ use file::trailer::check_trailer;
 use layout_table::{Ground, find};
 use layout_values::value::{Value, blank, value_at};
 use numbers::order::smaller;
-use numbers::wide::wide;
 use said::refusal::Refusal;
 use uniform_rules::keeps;
 use walk_decide::allow;
@@ -31,12 +30,12 @@ fn lowest_member(members: &[u8], told: &[u32], l: Value) -> u32
     requires { TypesInside members.now (length told.now) l.stride l.count (l.reference * l.stride) }
     ensures { result ≡ lowest_among told.now (types_at members.now l.stride l.count (l.reference * l.stride)) }
 {
-    let length = wide(l.stride);
-    let mut m = wide(l.reference) * length;
+    let length = l.stride as usize;
+    let mut m = l.reference as usize * length;
     let mut low = NO_ENTRY;
-    let mut left = wide(l.count);
+    let mut left = l.count as usize;
     while 0 < left {
-        let ty = wide(member_at(members, m).ty);
+        let ty = member_at(members, m).ty as usize;
         low = smaller(low, told[ty]);
         m += length;
         left -= 1;
@@ -55,7 +54,7 @@ fn lowest_below(members: &[u8], told: &[u32], l: Value) -> u32
     if l.kind == STRUCT {
         return lowest_member(members, told, l);
     }
-    let below = wide(l.reference);
+    let below = l.reference as usize;
     smaller(NO_ENTRY, told[below])
 }
 
@@ -107,7 +106,7 @@ fn verdict(low: u32) -> Result<u32, Refusal>
     if low == NO_ENTRY {
         return Ok(0);
     }
-    Err(Refusal::NotUniform(wide(low)))
+    Err(Refusal::NotUniform(low as usize))
 }
 
 // 9, 10 and 19, of entry `e`, which is found in the table.
@@ -127,5 +126,5 @@ pub fn uniform(file: &[u8], entry: u32) -> Result<u32, Refusal>
     let trailer = check_trailer(file)?;
     let mut table = blank();
     let found = find(file, trailer, entry, &mut table)?;
-    uniform_at(file, wide(entry), found, &table)
+    uniform_at(file, entry as usize, found, &table)
 }

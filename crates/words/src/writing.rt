@@ -14,7 +14,6 @@ ghost use Rattle.said.specs.Answer.{said};
 use file::trailer::check_trailer;
 use layout_table::{Ground, find};
 use layout_values::value::{Value, blank};
-use numbers::wide::wide;
 use runs::write_run;
 use said::refusal::Refusal;
 use walk_decide::{Rest, allow, closed_rest, elements_for, extent_for, fit, open_rest, rest_of};
@@ -64,7 +63,7 @@ fn store(
 {
     let width = run_at(table, e);
     if width != 0 {
-        write_run(words, 0, words.len(), wide(width), buf, 0);
+        write_run(words, 0, words.len(), width as usize, buf, 0);
         return;
     }
     zero(buf, extent);
@@ -89,7 +88,7 @@ fn write_whole(
 {
     let mut pieces = no_pieces();
     scan(members, table, e, x, words, &mut pieces)?;
-    store(members, table, e, x, wide(extent), words, buf, &mut pieces);
+    store(members, table, e, x, extent as usize, words, buf, &mut pieces);
     Ok(extent)
 }
 
@@ -105,10 +104,10 @@ fn write_closed(
     requires { (t : Ty) × Ready members.now table.now e l t × (is_open t ≡ false) }
     ensures { ClosedWritten members.now table.now e l words.now result buf.old buf.new }
 {
-    if words.len() != wide(l.words()) {
+    if words.len() != l.words() as usize {
         return Err(Refusal::Count);
     }
-    if buf.len() < wide(l.size) {
+    if buf.len() < l.size as usize {
         return Err(Refusal::Buffer);
     }
     write_whole(members, table, e, closed_rest(l), l.size, words, buf)
@@ -186,5 +185,5 @@ pub fn write(file: &[u8], entry: u32, words: &[u32], buf: &mut [u8]) -> Result<u
     let trailer = check_trailer(file)?;
     let mut table = blank();
     let found = find(file, trailer, entry, &mut table)?;
-    write_entry_at(file, wide(entry), found, &table, words, buf)
+    write_entry_at(file, entry as usize, found, &table, words, buf)
 }
