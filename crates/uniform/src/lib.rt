@@ -17,7 +17,6 @@ use file::kinds::{STRUCT, is_scalar};
 use file::trailer::check_trailer;
 use layout_table::{Ground, find};
 use layout_values::value::{Value, blank, value_at};
-use numbers::order::smaller;
 use said::refusal::Refusal;
 use uniform_rules::keeps;
 use walk_decide::allow;
@@ -36,7 +35,7 @@ fn lowest_member(members: &[u8], told: &[u32], l: Value) -> u32
     let mut left = l.count as usize;
     while 0 < left {
         let ty = member_at(members, m).ty as usize;
-        low = smaller(low, told[ty]);
+        low = low.min(told[ty]);
         m += length;
         left -= 1;
     }
@@ -55,7 +54,7 @@ fn lowest_below(members: &[u8], told: &[u32], l: Value) -> u32
         return lowest_member(members, told, l);
     }
     let below = l.reference as usize;
-    smaller(NO_ENTRY, told[below])
+    NO_ENTRY.min(told[below])
 }
 
 // The lowest broken one among entry `k` and those that it reaches, which are lower.
@@ -80,11 +79,8 @@ fn lowest_broken(members: &[u8], table: &[Value], e: usize) -> u32
     ensures { (f : List ℕ) (ts : List Ty) → Basis f ts members.now table.now → e < length ts → IsLowest f ts e result }
 {
     let mut told = [NO_ENTRY; 256];
-    let mut k: usize = 0;
-    while k <= e {
-        let low = lowest_at(members, table, &told, k);
-        told[k] = low;
-        k += 1;
+    for k in 0..e + 1 {
+        told[k] = lowest_at(members, table, &told, k);
     }
     told[e]
 }
