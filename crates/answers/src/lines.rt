@@ -6,14 +6,6 @@ use std::alloc::{AllocError, Global};
 // A line has at most so many numbers.
 const MOST_NUMBERS: usize = 1_024;
 
-// What the questions after a line of bytes are about.
-#[derive(Drop)]
-pub struct Held {
-    pub file: Vec<u8>,
-    pub buffer: Vec<u8>,
-    pub factory: Vec<u8>,
-}
-
 // The word of a line, and what comes after it: nothing, or a space and more.
 pub fn split_word(line: &[u8]) -> (&[u8], &[u8]) {
     let end = line.iter().position(|c| *c == b' ').unwrap_or(line.len());

@@ -1,4 +1,11 @@
 // The questions, and the lines that ask them (oracle/README.md).
+use crate::change::Change;
+use crate::held::Held;
+use crate::number::Number;
+use crate::say::{Bytes, Cleaned, Four, Place, Said, Words};
+use crate::site::Site;
+use std::alloc::Global;
+use std::io::{self, Write};
 
 // A bit field as it is asked for.
 #[derive(Clone, Copy)]
@@ -8,125 +15,113 @@ pub struct Field {
 }
 
 impl Field {
-    fn of(offset: u32, count: u32) -> Field {
+    pub fn of(offset: u32, count: u32) -> Field {
         Field { offset, count }
     }
 }
 
-// What is asked of a site block.
-#[derive(Clone, Copy)]
-pub enum Site<'a> {
-    Inheriting,
-    Fresh,
-    // a member
-    Clear(u32),
-    Member(u32),
-    // a member, the words and the steps
-    Set(u32, &'a [u32], &'a [u32]),
+// A number of 64 bits by its low and its high 32.
+pub fn joined(low: u32, high: u32) -> u64 {
+    u64::from(high) << 32 | u64::from(low)
 }
 
 #[derive(Clone, Copy)]
 pub enum Question<'a> {
-    Check,
-    Size(u32),
-    Align(u32),
-    MinSize(u32),
+    Number(Number<'a>),
+    Change(Change<'a>),
+    Site(Site<'a>),
     Layout(u32),
-    Uniform(u32),
-    Rank(u32, u32),
-    Common(&'a [u32]),
-    // an entry and the words
-    Write(u32, &'a [u32]),
-    // an entry and what the words are before
-    Read(u32, &'a [u32]),
+    Clean(u32),
     // an entry and the steps
     View(u32, &'a [u32]),
-    // an entry, the words and the steps
-    Set(u32, &'a [u32], &'a [u32]),
-    Clean(u32),
+    // an entry and what the words are before
+    Read(u32, &'a [u32]),
     // an entry and what the list is before
     PlanOrder(u32, &'a [u32]),
-    // an entry and the order
-    CheckOrder(u32, &'a [u32]),
-    // an entry, the field and the steps
-    Extract(u32, Field, &'a [u32]),
-    // an entry, the new value, the field and the steps
-    Insert(u32, u32, Field, &'a [u32]),
-    // a word and the field
-    ExtractU32(u32, Field),
-    // a word, the new value and the field
-    InsertU32(u32, u32, Field),
-    // a literal's kind and its pattern, and the kind to convert it to
-    Convert(u32, u64, u32),
-    ToForm1,
-    ToForm2,
-    // an entry, the block's mask, and what is asked of the block
-    Site(u32, u64, Site<'a>),
-}
-
-// A number of 64 bits by its low and its high 32.
-fn long(low: u32, high: u32) -> u64 {
-    u64::from(high) << 32 | u64::from(low)
 }
 
 impl<'a> Question<'a> {
     // The question of a word and the numbers after it; `None` where it is none.
     pub fn parse(word: &[u8], numbers: &'a [u32]) -> Option<Question<'a>> {
         let question = match (word, numbers) {
-            (b"check", []) => Question::Check,
-            (b"size", [entry]) => Question::Size(*entry),
-            (b"align", [entry]) => Question::Align(*entry),
-            (b"min_size", [entry]) => Question::MinSize(*entry),
             (b"layout", [entry]) => Question::Layout(*entry),
-            (b"uniform", [entry]) => Question::Uniform(*entry),
-            (b"rank", [from, to]) => Question::Rank(*from, *to),
-            (b"common", list) => Question::Common(list),
-            (b"write", [entry, words @ ..]) => Question::Write(*entry, words),
-            (b"read", [entry, words @ ..]) => Question::Read(*entry, words),
-            (b"view", [entry, path @ ..]) => Question::View(*entry, path),
-            (b"set", [entry, count, rest @ ..]) => {
-                let (words, path) = rest.split_at_checked(*count as usize)?;
-                Question::Set(*entry, words, path)
-            }
             (b"clean", [entry]) => Question::Clean(*entry),
+            (b"view", [entry, path @ ..]) => Question::View(*entry, path),
+            (b"read", [entry, words @ ..]) => Question::Read(*entry, words),
             (b"plan_order", [entry, list @ ..]) => Question::PlanOrder(*entry, list),
-            (b"check_order", [entry, order @ ..]) => Question::CheckOrder(*entry, order),
-            (b"extract", [entry, offset, count, path @ ..]) => {
-                Question::Extract(*entry, Field::of(*offset, *count), path)
+            _ => {
+                return Number::parse(word, numbers)
+                    .map(Question::Number)
+                    .or_else(|| Change::parse(word, numbers).map(Question::Change))
+                    .or_else(|| Site::parse(word, numbers).map(Question::Site));
             }
-            (b"insert", [entry, new, offset, count, path @ ..]) => {
-                Question::Insert(*entry, *new, Field::of(*offset, *count), path)
-            }
-            (b"extract_u32", [word, offset, count]) => {
-                Question::ExtractU32(*word, Field::of(*offset, *count))
-            }
-            (b"insert_u32", [word, new, offset, count]) => {
-                Question::InsertU32(*word, *new, Field::of(*offset, *count))
-            }
-            (b"convert", [from, low, high, to]) => {
-                Question::Convert(*from, long(*low, *high), *to)
-            }
-            (b"to_form_1", []) => Question::ToForm1,
-            (b"to_form_2", []) => Question::ToForm2,
-            (b"site_inheriting", [entry, low, high]) => {
-                Question::Site(*entry, long(*low, *high), Site::Inheriting)
-            }
-            (b"site_fresh", [entry, low, high]) => {
-                Question::Site(*entry, long(*low, *high), Site::Fresh)
-            }
-            (b"site_clear", [entry, member, low, high]) => {
-                Question::Site(*entry, long(*low, *high), Site::Clear(*member))
-            }
-            (b"site_member", [entry, member, low, high]) => {
-                Question::Site(*entry, long(*low, *high), Site::Member(*member))
-            }
-            (b"site_set", [entry, member, low, high, count, rest @ ..]) => {
-                let (words, path) = rest.split_at_checked(*count as usize)?;
-                let asked = Site::Set(*member, words, path);
-                Question::Site(*entry, long(*low, *high), asked)
-            }
-            _ => return None,
         };
         Some(question)
     }
+
+    // Says the answer. What a question changes, a buffer, words or a list, it changes in a copy: what is held is as it was for the others.
+    pub fn answer<W: Write>(self, out: &mut W, alloc: Global, held: &Held) -> io::Result<()> {
+        let file = held.file.as_slice();
+        let buffer = held.buffer.as_slice();
+        match self {
+            Question::Number(asked) => {
+                let answer = Said(asked.ask(file, buffer));
+                writeln!(out, "{answer}")
+            }
+            Question::Change(asked) => {
+                let mut copy = buffer.to_vec(alloc)?;
+                let answer = Said(asked.ask(file, copy.as_mut_slice()));
+                let bytes = Bytes(copy.as_slice());
+                writeln!(out, "{answer}{bytes}")
+            }
+            Question::Site(asked) => asked.answer(out, alloc, held),
+            Question::Layout(entry) => {
+                let answer = Said(lepugaso::layout(file, entry).map(Four));
+                writeln!(out, "{answer}")
+            }
+            Question::Clean(entry) => {
+                let mut copy = buffer.to_vec(alloc)?;
+                let answer = Said(lepugaso::clean(file, entry, copy.as_mut_slice()).map(Cleaned));
+                let bytes = Bytes(copy.as_slice());
+                writeln!(out, "{answer}{bytes}")
+            }
+            Question::View(entry, path) => answer_view(out, alloc, file, entry, path, buffer),
+            Question::Read(entry, words) => {
+                let mut copy = words.to_vec(alloc)?;
+                let answer = Said(lepugaso::read(file, entry, buffer, copy.as_mut_slice()));
+                let words = Words(copy.as_slice());
+                writeln!(out, "{answer}{words}")
+            }
+            Question::PlanOrder(entry, list) => {
+                let mut copy = list.to_vec(alloc)?;
+                let answer = Said(lepugaso::plan_order(file, entry, copy.as_mut_slice()));
+                let words = Words(copy.as_slice());
+                writeln!(out, "{answer}{words}")
+            }
+        }
+    }
+}
+
+// Says where a path leads, and the bytes that a view hands back; and puts the question to `view_mut` on a copy of the buffer, which is to
+// hand back the same bytes and to leave the copy as it is.
+fn answer_view<W: Write>(
+    out: &mut W,
+    alloc: Global,
+    file: &[u8],
+    entry: u32,
+    path: &[u32],
+    buffer: &[u8],
+) -> io::Result<()> {
+    let answer = Said(lepugaso::view_at(file, entry, path, buffer).map(Place));
+    let part = lepugaso::view(file, entry, path, buffer);
+    let mut copy = buffer.to_vec(alloc)?;
+    let handed = lepugaso::view_mut(file, entry, path, copy.as_mut_slice());
+    let alike = part == &handed[..];
+    let changed = if alike && copy.as_slice() == buffer {
+        ""
+    } else {
+        " changed"
+    };
+    let bytes = Bytes(part);
+    writeln!(out, "{answer}{bytes}{changed}")
 }

@@ -31,3 +31,5 @@ pub first_stays : {number place : ℕ} (said : Said CleanDone) (before : ℕ) �
 unfolding first_after
 first_stays (good d) before e = good_not_refused refl (sym e)
 first_stays (refused n p) before e = refl
+
+pub ruleset gaps = (changed, first_changed, not_cleaned, first_stays)

@@ -43,3 +43,5 @@ size_stays (refused n p) before e = refl
 pub site_stays : {number place : ℕ} (said : Said path.Target) (mask member before : ℕ) → refused number place ≡ reached said → site_out said mask member before ≡ before
 site_stays (good u) mask member before e = good_not_refused refl (sym e)
 site_stays (refused n p) mask member before e = refl
+
+pub ruleset targets = (offset_found, size_found, site_found, none_found, size_stays, site_stays)

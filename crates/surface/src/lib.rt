@@ -140,7 +140,7 @@ pub extern "C" fn lepugaso_surface_read(
 }
 
 // A good answer is the offset, and `size` the bytes there.
-#[tactic(auto, using(crate::proofs::Viewed::offset_found, crate::proofs::Viewed::size_found, crate::proofs::Viewed::none_found, crate::proofs::Viewed::size_stays))]
+#[tactic(auto, using(crate::proofs::Viewed::targets))]
 #[unsafe(no_mangle)]
 pub extern "C" fn lepugaso_surface_view(
     file: &[u8],
@@ -307,7 +307,7 @@ pub extern "C" fn lepugaso_surface_site_clear(
 }
 
 // A good answer is the offset; `size` is the bytes there, and `shown` 1 if they are the site buffer's, else 0.
-#[tactic(auto, using(crate::proofs::Viewed::offset_found, crate::proofs::Viewed::size_found, crate::proofs::Viewed::site_found, crate::proofs::Viewed::none_found, crate::proofs::Viewed::size_stays, crate::proofs::Viewed::site_stays))]
+#[tactic(auto, using(crate::proofs::Viewed::targets))]
 #[unsafe(no_mangle)]
 pub extern "C" fn lepugaso_surface_site_member(
     file: &[u8],
@@ -352,7 +352,7 @@ pub extern "C" fn lepugaso_surface_site_set(
 }
 
 // A good answer is how many bytes changed, and `first` the offset of the first.
-#[tactic(auto, using(crate::proofs::Cleaned::changed, crate::proofs::Cleaned::first_changed, crate::proofs::Cleaned::not_cleaned, crate::proofs::Cleaned::first_stays))]
+#[tactic(auto, using(crate::proofs::Cleaned::gaps))]
 #[unsafe(no_mangle)]
 pub extern "C" fn lepugaso_surface_clean(
     file: &[u8],
