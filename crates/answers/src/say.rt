@@ -1,132 +1,103 @@
-// Answers as text, put to a writer. An error is the writer's own.
-use said::answer::Sizes;
-use said::answer::Gaps;
+// Answers as text.
+use said::answer::{Gaps, Sizes};
+use said::refusal::Refusal;
 use said::target::Target;
-use crate::lines::spell;
-use said::refusal::{Refusal, number, place};
-use std::io::{self, Write};
+use std::fmt::{self, Display};
 
-pub fn say<W: Write>(out: &mut W, text: &[u8]) -> io::Result<()> {
-    out.write_all(text)
-}
+// An answer: what it gives, or its refusal.
+#[derive(Drop)]
+pub struct Said<T>(pub Result<T, Refusal>);
 
-fn say_refused<W: Write>(out: &mut W, r: Refusal) -> io::Result<()> {
-    let n = number(r);
-    let at = place(r);
-    write!(out, "refused {n} at {at}")
-}
-
-// An answer, without the end of its line.
-pub fn say_plain<W: Write>(out: &mut W, n: Result<u32, Refusal>) -> io::Result<()> {
-    match n {
-        Ok(v) => write!(out, "{v}"),
-        Err(r) => say_refused(out, r),
-    }
-}
-
-// The answer of a move, without the end of its line.
-pub fn say_moved<W: Write>(out: &mut W, m: Result<usize, Refusal>) -> io::Result<()> {
-    match m {
-        Ok(v) => write!(out, "{v}"),
-        Err(r) => say_refused(out, r),
-    }
-}
-
-// What cleaning changed, how many bytes and the offset of the first, without the end of its line.
-pub fn say_cleaned<W: Write>(out: &mut W, c: Result<Gaps, Refusal>) -> io::Result<()> {
-    match c {
-        Ok(g) => {
-            let changed = g.changed;
-            let first = g.first;
-            write!(out, "{changed} {first}")
+impl<T: Display> Display for Said<T> {
+    fn fmt<W: fmt::Write>(&self, f: &mut fmt::Formatter<W>) -> fmt::Result {
+        match &self.0 {
+            Ok(given) => write!(f, "{given}"),
+            Err(refusal) => {
+                let number = refusal.number();
+                let place = refusal.place();
+                write!(f, "refused {number} at {place}")
+            }
         }
-        Err(r) => say_refused(out, r),
     }
 }
 
-// The pattern of a literal.
-pub fn say_pattern<W: Write>(out: &mut W, p: Result<u64, Refusal>) -> io::Result<()> {
-    match p {
-        Ok(bits) => write!(out, "{bits}")?,
-        Err(r) => say_refused(out, r)?,
-    }
-    say(out, b"\n")
-}
+// A number that may be absent.
+#[derive(Drop)]
+struct Maybe(Option<u32>);
 
-pub fn say_number<W: Write>(out: &mut W, n: Result<u32, Refusal>) -> io::Result<()> {
-    say_plain(out, n)?;
-    say(out, b"\n")
-}
-
-fn say_maybe<W: Write>(out: &mut W, m: Option<u32>, end: &[u8]) -> io::Result<()> {
-    match m {
-        Some(v) => write!(out, "{v}")?,
-        None => say(out, b"-")?,
-    }
-    say(out, end)
-}
-
-pub fn say_layout<W: Write>(out: &mut W, a: Result<Sizes, Refusal>) -> io::Result<()> {
-    match a {
-        Ok(s) => {
-            say_maybe(out, s.size, b" ")?;
-            say_maybe(out, s.align, b" ")?;
-            say_maybe(out, s.min, b" ")?;
-            say_maybe(out, s.stride, b"\n")
+impl Display for Maybe {
+    fn fmt<W: fmt::Write>(&self, f: &mut fmt::Formatter<W>) -> fmt::Result {
+        match self.0 {
+            Some(number) => write!(f, "{number}"),
+            None => write!(f, "-"),
         }
-        Err(r) => {
-            say_refused(out, r)?;
-            say(out, b"\n")
+    }
+}
+
+// The four numbers of a layout.
+#[derive(Clone, Copy)]
+pub struct Four(pub Sizes);
+
+impl Display for Four {
+    fn fmt<W: fmt::Write>(&self, f: &mut fmt::Formatter<W>) -> fmt::Result {
+        let size = Maybe(self.0.size);
+        let align = Maybe(self.0.align);
+        let min = Maybe(self.0.min);
+        let stride = Maybe(self.0.stride);
+        write!(f, "{size} {align} {min} {stride}")
+    }
+}
+
+// What cleaning changed: how many bytes, and the offset of the first.
+#[derive(Clone, Copy)]
+pub struct Cleaned(pub Gaps);
+
+impl Display for Cleaned {
+    fn fmt<W: fmt::Write>(&self, f: &mut fmt::Formatter<W>) -> fmt::Result {
+        let changed = self.0.changed;
+        let first = self.0.first;
+        write!(f, "{changed} {first}")
+    }
+}
+
+// Where a path leads: its offset, and how many bytes it has.
+#[derive(Clone, Copy)]
+pub struct Place(pub Target);
+
+impl Display for Place {
+    fn fmt<W: fmt::Write>(&self, f: &mut fmt::Formatter<W>) -> fmt::Result {
+        let offset = self.0.offset;
+        let size = self.0.size;
+        write!(f, "{offset} {size}")
+    }
+}
+
+// Words, a space before each.
+#[derive(Clone, Copy)]
+pub struct Words<'a>(pub &'a [u32]);
+
+impl Display for Words<'_> {
+    fn fmt<W: fmt::Write>(&self, f: &mut fmt::Formatter<W>) -> fmt::Result {
+        for word in self.0 {
+            write!(f, " {word}")?;
         }
+        Ok(())
     }
 }
 
 // What a buffer holds, after a space, if it holds anything.
-pub fn say_bytes<W: Write>(out: &mut W, b: &[u8]) -> io::Result<()> {
-    if b.len() == 0 {
-        return Ok(());
-    }
-    let mut text = [0u8; 8192];
-    let p = spell(b, &mut text);
-    let n = p.count;
-    say(out, b" ")?;
-    say(out, &text[..n])
-}
+#[derive(Clone, Copy)]
+pub struct Bytes<'a>(pub &'a [u8]);
 
-// Words, a space before each.
-pub fn say_words<W: Write>(out: &mut W, words: &[u32]) -> io::Result<()> {
-    for word in words {
-        write!(out, " {word}")?;
-    }
-    Ok(())
-}
-
-// Where a path leads: its offset and how many bytes it has, or a refusal.
-pub fn say_walked<W: Write>(out: &mut W, w: Result<Target, Refusal>) -> io::Result<()> {
-    match w {
-        Ok(t) => {
-            let offset = t.offset;
-            let size = t.size;
-            write!(out, "{offset} {size}")
+impl Display for Bytes<'_> {
+    fn fmt<W: fmt::Write>(&self, f: &mut fmt::Formatter<W>) -> fmt::Result {
+        if self.0.is_empty() {
+            return Ok(());
         }
-        Err(r) => say_refused(out, r),
-    }
-}
-
-// A mask, after a space.
-pub fn say_mask<W: Write>(out: &mut W, mask: u64) -> io::Result<()> {
-    write!(out, " {mask}")
-}
-
-// Where a member lies: its offset, how many bytes it has and which buffer shows it, or a refusal.
-pub fn say_shown<W: Write>(out: &mut W, w: Result<Target, Refusal>, on: bool) -> io::Result<()> {
-    match w {
-        Ok(t) => {
-            let offset = t.offset;
-            let size = t.size;
-            let whose = if on { "site" } else { "factory" };
-            write!(out, "{offset} {size} {whose}")
+        write!(f, " ")?;
+        for byte in self.0 {
+            write!(f, "{byte:02x}")?;
         }
-        Err(r) => say_refused(out, r),
+        Ok(())
     }
 }

@@ -1,8 +1,9 @@
-// The public calls, in one place. None has a `requires`: any bytes of any length and any numbers are answered. Each answers a number or a
-// refusal (`said::answer::Number`), but for `layout`, which answers all four numbers of an entry (`said::answer::Answer`), `view_at`, which
-// answers a target (`said::target::Walked`), the two views, which hand back a part of the buffer that they were lent, the four calls on
-// numbers alone, which answer a number, the two moves, which answer a length (`said::answer::Moved`), `convert`, which answers a pattern (`said::answer::Pattern`), and `clean`, which answers what it
-// changed (`said::answer::Cleaned`). The refusals of each stand over it; whatever takes a file gives 24 besides, after 1 to 7.
+// The public calls, in one place. None has a `requires`: any bytes of any length and any numbers are answered. Most answer a number or a
+// refusal, `Result<u32, Refusal>`; but `layout` all four numbers of an entry (`Result<Sizes, Refusal>`), `view_at` and `site_member_at` a
+// target (`Result<Target, Refusal>`), the two moves a length (`Result<usize, Refusal>`), `convert` a pattern (`Result<u64, Refusal>`) and
+// `clean` what it changed (`Result<Gaps, Refusal>`). The views and `site_member` hand back a part of a buffer that they were lent,
+// `site_shows` says yes or no, and the four calls on numbers alone answer a number. The refusals of each stand over it; whatever takes a
+// file gives 24 besides, after 1 to 7.
 #![tactic(auto)]
 
 // How many entries an accepted file has; else 1 to 7.

@@ -2,7 +2,7 @@
 // Rust (shim/src/surface.rs); a test holds it to this file.
 #![tactic(auto)]
 
-ghost use Rattle.std.specs.Prelude.{◌≡◌, cond};
+ghost use Rattle.std.specs.Prelude.{◌≡◌};
 ghost use Rattle.wgsl.specs.Call.{check_of, size_call, align_call, min_size_call, layout_call, rank_call, common_call, answer_of, contents_of, read_call, write_call, offset_of, view_call, set_call};
 ghost use Rattle.wgsl.specs.BitField.{extracted_u32, extracted_i32, inserted, pattern_of, signed_of};
 ghost use Rattle.wgsl.specs.BitFieldCall.{extract_call, insert_call};
@@ -16,7 +16,6 @@ ghost use Rattle.said.specs.Answer.{said, maybe_of};
 ghost use Rattle.surface.specs.Crossing.{crossed, crossed_maybe, told, laid_out, size_out, site_out};
 
 use said::refusal::Refusal;
-use said::refusal::{number, place};
 
 // An answer as it crosses to C: 0 or document 01's number, its place, the value (0 when refused).
 #[repr(C)]
@@ -27,88 +26,57 @@ pub struct Crossing {
     pub value: u64,
 }
 
-// A number or a refusal, as it crosses.
-fn cross(n: Result<u32, Refusal>) -> Crossing
-    ensures { result ≡ crossed (said n) }
+// A number, a length or a pattern, or a refusal, as it crosses.
+fn cross(answer: Result<u64, Refusal>) -> Crossing
+    ensures { result ≡ crossed (said answer) }
 {
-    match n {
+    match answer {
         Ok(value) => Crossing {
             refusal: 0,
             place: 0,
-            value: value as u64,
+            value,
         },
-        Err(r) => Crossing {
-            refusal: number(r),
-            place: place(r),
+        Err(refusal) => Crossing {
+            refusal: refusal.number(),
+            place: refusal.place(),
             value: 0,
         },
     }
 }
 
-// A length or a refusal, as it crosses.
-fn cross_moved(m: Result<usize, Refusal>) -> Crossing
-    ensures { result ≡ crossed (said m) }
-{
-    match m {
-        Ok(length) => Crossing {
-            refusal: 0,
-            place: 0,
-            value: length as u64,
-        },
-        Err(r) => cross(Err(r)),
-    }
-}
-
-// A pattern or a refusal, as it crosses.
-fn cross_pattern(p: Result<u64, Refusal>) -> Crossing
-    ensures { result ≡ crossed (said p) }
-{
-    match p {
-        Ok(bits) => Crossing {
-            refusal: 0,
-            place: 0,
-            value: bits,
-        },
-        Err(r) => cross(Err(r)),
-    }
-}
-
 // A number that may be absent, as it crosses.
-fn cross_maybe(m: Option<u32>) -> u64
-    ensures { result ≡ crossed_maybe (maybe_of m) }
+fn cross_maybe(number: Option<u32>) -> u64
+    ensures { result ≡ crossed_maybe (maybe_of number) }
 {
-    match m {
-        Some(n) => n as u64,
-        None => 0xffff_ffff_ffff_ffff,
-    }
+    number.map_or(u64::MAX, u64::from)
 }
 
 #[unsafe(no_mangle)]
 pub extern "C" fn lepugaso_surface_check(file: &[u8]) -> Crossing
     ensures { result ≡ crossed (check_of file.now) }
 {
-    cross(lepugaso::check(file))
+    cross(lepugaso::check(file).map(u64::from))
 }
 
 #[unsafe(no_mangle)]
 pub extern "C" fn lepugaso_surface_size(file: &[u8], entry: u32) -> Crossing
     ensures { result ≡ crossed (size_call file.now entry) }
 {
-    cross(lepugaso::size(file, entry))
+    cross(lepugaso::size(file, entry).map(u64::from))
 }
 
 #[unsafe(no_mangle)]
 pub extern "C" fn lepugaso_surface_align(file: &[u8], entry: u32) -> Crossing
     ensures { result ≡ crossed (align_call file.now entry) }
 {
-    cross(lepugaso::align(file, entry))
+    cross(lepugaso::align(file, entry).map(u64::from))
 }
 
 #[unsafe(no_mangle)]
 pub extern "C" fn lepugaso_surface_min_size(file: &[u8], entry: u32) -> Crossing
     ensures { result ≡ crossed (min_size_call file.now entry) }
 {
-    cross(lepugaso::min_size(file, entry))
+    cross(lepugaso::min_size(file, entry).map(u64::from))
 }
 
 // A good answer is in `out`: the size, the alignment, the minimum size, the stride.
@@ -119,15 +87,11 @@ pub extern "C" fn lepugaso_surface_layout(file: &[u8], entry: u32, out: &mut [u6
 {
     match lepugaso::layout(file, entry) {
         Ok(s) => {
-            let size = s.size;
-            let align = s.align;
-            let min = s.min;
-            let stride = s.stride;
             *out = [
-                cross_maybe(size),
-                cross_maybe(align),
-                cross_maybe(min),
-                cross_maybe(stride),
+                cross_maybe(s.size),
+                cross_maybe(s.align),
+                cross_maybe(s.min),
+                cross_maybe(s.stride),
             ];
             cross(Ok(0))
         }
@@ -139,14 +103,14 @@ pub extern "C" fn lepugaso_surface_layout(file: &[u8], entry: u32, out: &mut [u6
 pub extern "C" fn lepugaso_surface_rank(file: &[u8], from: u32, to: u32) -> Crossing
     ensures { result ≡ crossed (rank_call file.now from to) }
 {
-    cross(lepugaso::rank(file, from, to))
+    cross(lepugaso::rank(file, from, to).map(u64::from))
 }
 
 #[unsafe(no_mangle)]
 pub extern "C" fn lepugaso_surface_common(file: &[u8], entries: &[u32]) -> Crossing
     ensures { result ≡ crossed (common_call file.now entries.now) }
 {
-    cross(lepugaso::common(file, entries))
+    cross(lepugaso::common(file, entries).map(u64::from))
 }
 
 #[unsafe(no_mangle)]
@@ -159,7 +123,7 @@ pub extern "C" fn lepugaso_surface_write(
     ensures answer { result ≡ crossed (answer_of (write_call file.now entry words.now buf.old)) }
     ensures buffer { buf.new ≡ contents_of buf.old (write_call file.now entry words.now buf.old) }
 {
-    cross(lepugaso::write(file, entry, words, buf))
+    cross(lepugaso::write(file, entry, words, buf).map(u64::from))
 }
 
 #[unsafe(no_mangle)]
@@ -172,10 +136,11 @@ pub extern "C" fn lepugaso_surface_read(
     ensures answer { result ≡ crossed (answer_of (read_call file.now entry buf.now words.old)) }
     ensures words { words.new ≡ contents_of words.old (read_call file.now entry buf.now words.old) }
 {
-    cross(lepugaso::read(file, entry, buf, words))
+    cross(lepugaso::read(file, entry, buf, words).map(u64::from))
 }
 
 // A good answer is the offset, and `size` the bytes there.
+#[tactic(auto, using(crate::proofs::Viewed::targets))]
 #[unsafe(no_mangle)]
 pub extern "C" fn lepugaso_surface_view(
     file: &[u8],
@@ -190,11 +155,7 @@ pub extern "C" fn lepugaso_surface_view(
     match lepugaso::view_at(file, entry, path, buf) {
         Ok(t) => {
             *size = t.size as u64;
-            Crossing {
-                refusal: 0,
-                place: 0,
-                value: t.offset as u64,
-            }
+            cross(Ok(t.offset as u64))
         }
         Err(r) => cross(Err(r)),
     }
@@ -211,7 +172,7 @@ pub extern "C" fn lepugaso_surface_set(
     ensures answer { result ≡ crossed (answer_of (set_call file.now entry path.now words.now buf.old)) }
     ensures buffer { buf.new ≡ contents_of buf.old (set_call file.now entry path.now words.now buf.old) }
 {
-    cross(lepugaso::set(file, entry, path, words, buf))
+    cross(lepugaso::set(file, entry, path, words, buf).map(u64::from))
 }
 
 #[unsafe(no_mangle)]
@@ -263,7 +224,7 @@ pub extern "C" fn lepugaso_surface_extract_bits(
 ) -> Crossing
     ensures { result ≡ crossed (extract_call file.now entry path.now buf.now offset count) }
 {
-    cross(lepugaso::extract_bits(file, entry, path, buf, offset, count))
+    cross(lepugaso::extract_bits(file, entry, path, buf, offset, count).map(u64::from))
 }
 
 #[unsafe(no_mangle)]
@@ -279,14 +240,14 @@ pub extern "C" fn lepugaso_surface_insert_bits(
     ensures answer { result ≡ crossed (answer_of (insert_call file.now entry path.now newbits offset count buf.old)) }
     ensures buffer { buf.new ≡ contents_of buf.old (insert_call file.now entry path.now newbits offset count buf.old) }
 {
-    cross(lepugaso::insert_bits(file, entry, path, newbits, offset, count, buf))
+    cross(lepugaso::insert_bits(file, entry, path, newbits, offset, count, buf).map(u64::from))
 }
 
 #[unsafe(no_mangle)]
 pub extern "C" fn lepugaso_surface_uniform(file: &[u8], entry: u32) -> Crossing
     ensures { result ≡ crossed (uniform_call file.now entry) }
 {
-    cross(lepugaso::uniform(file, entry))
+    cross(lepugaso::uniform(file, entry).map(u64::from))
 }
 
 #[unsafe(no_mangle)]
@@ -294,7 +255,7 @@ pub extern "C" fn lepugaso_surface_to_form_2(file: &[u8], out: &mut [u8]) -> Cro
     ensures answer { result ≡ crossed (answer_of (move_on_call file.now out.old)) }
     ensures out { out.new ≡ contents_of out.old (move_on_call file.now out.old) }
 {
-    cross_moved(lepugaso::to_form_2(file, out))
+    cross(lepugaso::to_form_2(file, out).map(|length| length as u64))
 }
 
 #[unsafe(no_mangle)]
@@ -302,14 +263,7 @@ pub extern "C" fn lepugaso_surface_to_form_1(file: &[u8], out: &mut [u8]) -> Cro
     ensures answer { result ≡ crossed (answer_of (move_back_call file.now out.old)) }
     ensures out { out.new ≡ contents_of out.old (move_back_call file.now out.old) }
 {
-    cross_moved(lepugaso::to_form_1(file, out))
-}
-
-// Yes or no, as it crosses.
-fn cross_bool(b: bool) -> u64
-    ensures { result ≡ cond b 1 0 }
-{
-    if b { 1 } else { 0 }
+    cross(lepugaso::to_form_1(file, out).map(|length| length as u64))
 }
 
 #[unsafe(no_mangle)]
@@ -321,7 +275,7 @@ pub extern "C" fn lepugaso_surface_site_inheriting(
     ensures answer { result ≡ crossed (zero_of (inheriting_call file.now entry)) }
     ensures mask { mask.new ≡ mask_after mask.old (inheriting_call file.now entry) }
 {
-    cross(lepugaso::site_inheriting(file, entry, mask))
+    cross(lepugaso::site_inheriting(file, entry, mask).map(u64::from))
 }
 
 #[unsafe(no_mangle)]
@@ -336,7 +290,7 @@ pub extern "C" fn lepugaso_surface_site_fresh(
     ensures site { site.new ≡ site_after site.old (fresh_call file.now entry factory.now site.old) }
     ensures mask { mask.new ≡ mask_set mask.old (fresh_call file.now entry factory.now site.old) }
 {
-    cross(lepugaso::site_fresh(file, entry, factory, site, mask))
+    cross(lepugaso::site_fresh(file, entry, factory, site, mask).map(u64::from))
 }
 
 #[unsafe(no_mangle)]
@@ -349,10 +303,11 @@ pub extern "C" fn lepugaso_surface_site_clear(
     ensures answer { result ≡ crossed (zero_of (clear_call file.now entry member mask.old)) }
     ensures mask { mask.new ≡ mask_after mask.old (clear_call file.now entry member mask.old) }
 {
-    cross(lepugaso::site_clear(file, entry, member, mask))
+    cross(lepugaso::site_clear(file, entry, member, mask).map(u64::from))
 }
 
 // A good answer is the offset; `size` is the bytes there, and `shown` 1 if they are the site buffer's, else 0.
+#[tactic(auto, using(crate::proofs::Viewed::targets))]
 #[unsafe(no_mangle)]
 pub extern "C" fn lepugaso_surface_site_member(
     file: &[u8],
@@ -371,12 +326,8 @@ pub extern "C" fn lepugaso_surface_site_member(
     match lepugaso::site_member_at(file, entry, member, mask, factory, site) {
         Ok(t) => {
             *size = t.size as u64;
-            *shown = cross_bool(lepugaso::site_shows(mask, member));
-            Crossing {
-                refusal: 0,
-                place: 0,
-                value: t.offset as u64,
-            }
+            *shown = u64::from(lepugaso::site_shows(mask, member));
+            cross(Ok(t.offset as u64))
         }
         Err(r) => cross(Err(r)),
     }
@@ -397,10 +348,11 @@ pub extern "C" fn lepugaso_surface_site_set(
     ensures site { site.new ≡ site_after site.old (site_set_call file.now entry member path.now words.now mask.old factory.now site.old) }
     ensures mask { mask.new ≡ mask_set mask.old (site_set_call file.now entry member path.now words.now mask.old factory.now site.old) }
 {
-    cross(lepugaso::site_set(file, entry, member, path, words, factory, site, mask))
+    cross(lepugaso::site_set(file, entry, member, path, words, factory, site, mask).map(u64::from))
 }
 
 // A good answer is how many bytes changed, and `first` the offset of the first.
+#[tactic(auto, using(crate::proofs::Cleaned::gaps))]
 #[unsafe(no_mangle)]
 pub extern "C" fn lepugaso_surface_clean(
     file: &[u8],
@@ -414,8 +366,8 @@ pub extern "C" fn lepugaso_surface_clean(
 {
     match lepugaso::clean(file, entry, buf) {
         Ok(g) => {
-            *first = g.first as u64;
-            cross(Ok(g.changed))
+            *first = u64::from(g.first);
+            cross(Ok(u64::from(g.changed)))
         }
         Err(r) => cross(Err(r)),
     }
@@ -430,19 +382,19 @@ pub extern "C" fn lepugaso_surface_plan_order(
     ensures answer { result ≡ crossed (answer_of (plan_call file.now entry order.old)) }
     ensures list { order.new ≡ contents_of order.old (plan_call file.now entry order.old) }
 {
-    cross(lepugaso::plan_order(file, entry, order))
+    cross(lepugaso::plan_order(file, entry, order).map(u64::from))
 }
 
 #[unsafe(no_mangle)]
 pub extern "C" fn lepugaso_surface_check_order(file: &[u8], entry: u32, order: &[u32]) -> Crossing
     ensures { result ≡ crossed (order_call file.now entry order.now) }
 {
-    cross(lepugaso::check_order(file, entry, order))
+    cross(lepugaso::check_order(file, entry, order).map(u64::from))
 }
 
 #[unsafe(no_mangle)]
 pub extern "C" fn lepugaso_surface_convert(from: u32, bits: u64, to: u32) -> Crossing
     ensures { result ≡ crossed (convert_call from bits to) }
 {
-    cross_pattern(lepugaso::convert(from, bits, to))
+    cross(lepugaso::convert(from, bits, to))
 }

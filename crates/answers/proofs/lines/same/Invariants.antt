@@ -1,9 +1,0 @@
--- A plain loop; both texts have the length that it counts to.
-use Rattle.std.proofs.Common.{◌-◌, ◌≤◌}
-use Rattle.answers.proofs.lines.same.Given as goal
-
-abbrev pub invariant-loop-i : goal.invariant-loop-i
-invariant-loop-i l = l.i ≤ l.n
-
-abbrev pub decreases-loop-i : goal.decreases-loop-i
-decreases-loop-i l = l.n - l.i
