@@ -1,5 +1,5 @@
 // A line of questions: its word, its numbers, its bytes.
-ghost use Rattle.std.specs.Prelude.{◌<◌, IfSome};
+ghost use Rattle.std.specs.Prelude.{◌≡◌, ◌<◌, ◌≤◌, ◌++◌, IfOk, IfSome, vec_len};
 
 use std::alloc::{AllocError, Global};
 
@@ -7,7 +7,9 @@ use std::alloc::{AllocError, Global};
 const MOST_NUMBERS: usize = 1_024;
 
 // The word of a line, and what comes after it: nothing, or a space and more.
-pub fn split_word(line: &[u8]) -> (&[u8], &[u8]) {
+pub fn split_word(line: &[u8]) -> (&[u8], &[u8])
+    ensures { result.0.now ++ result.1.now ≡ line.now }
+{
     let end = line.iter().position(|c| *c == b' ').unwrap_or(line.len());
     line.split_at(end)
 }
@@ -40,11 +42,13 @@ fn number(part: &[u8]) -> Option<u32> {
 }
 
 // The numbers after a word, one space before each; `None` where one is none, or they are too many.
-pub fn numbers(alloc: Global, rest: &[u8]) -> Result<Option<Vec<u32>>, AllocError> {
+pub fn numbers(alloc: Global, rest: &[u8]) -> Result<Option<Vec<u32>>, AllocError>
+    ensures { IfOk result (λ all. IfSome all (λ ns. vec_len ns ≤ 1024)) }
+{
     let all: Option<Vec<u32>> = rest
         .split(|c| *c == b' ')
         .skip(1)
-        .map(|part| number(part))
+        .map(number)
         .collect(alloc)?;
     Ok(all.filter(|ns| ns.len() <= MOST_NUMBERS))
 }

@@ -18,17 +18,14 @@ use std::io::{self, BufWriter, Read, Write};
 // A run takes at most so many bytes.
 const MOST_TEXT: u64 = 1_048_576;
 
-// Takes the bytes of a line, or answers its question.
-fn answer_line<W: Write>(
+// Answers the question of a line.
+fn answer<W: Write>(
     out: &mut W,
     alloc: Global,
-    held: &mut Held,
-    line: &[u8],
+    held: &Held,
+    word: &[u8],
+    rest: &[u8],
 ) -> io::Result<()> {
-    let (word, rest) = split_word(line);
-    if let Some(taken) = held.take(out, word, rest) {
-        return taken;
-    }
     let numbers = numbers(alloc, rest)?;
     let question = numbers
         .as_ref()
@@ -36,6 +33,17 @@ fn answer_line<W: Write>(
     match question {
         Some(question) => question.answer(out, alloc, held),
         None => writeln!(out, "not a question"),
+    }
+}
+
+// Takes the bytes of a line, or answers its question.
+fn go_on<W: Write>(out: &mut W, alloc: Global, held: &mut Held, line: &[u8]) -> io::Result<()> {
+    let (word, rest) = split_word(line);
+    match word {
+        b"file" => held.file.take(out, "file", rest),
+        b"buffer" => held.buffer.take(out, "buffer", rest),
+        b"factory" => held.factory.take(out, "factory", rest),
+        _ => answer(out, alloc, held, word, rest),
     }
 }
 
@@ -51,7 +59,7 @@ fn answer_all<W: Write>(out: &mut W, alloc: Global, text: &[u8]) -> io::Result<(
         let Some(line) = line.strip_suffix(b"\n") else {
             return writeln!(out, "not a line");
         };
-        answer_line(out, alloc, &mut held, line)?;
+        go_on(out, alloc, &mut held, line)?;
     }
     Ok(())
 }

@@ -61,8 +61,8 @@ impl<'a> Question<'a> {
 
     // Says the answer. What a question changes, a buffer, words or a list, it changes in a copy: what is held is as it was for the others.
     pub fn answer<W: Write>(self, out: &mut W, alloc: Global, held: &Held) -> io::Result<()> {
-        let file = held.file.as_slice();
-        let buffer = held.buffer.as_slice();
+        let file = held.file.bytes();
+        let buffer = held.buffer.bytes();
         match self {
             Question::Number(asked) => {
                 let answer = Said(asked.ask(file, buffer));

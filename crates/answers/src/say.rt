@@ -23,9 +23,9 @@ impl<T: Display> Display for Said<T> {
 
 // A number that may be absent.
 #[derive(Drop)]
-struct Maybe(Option<u32>);
+struct OrDash(Option<u32>);
 
-impl Display for Maybe {
+impl Display for OrDash {
     fn fmt<W: fmt::Write>(&self, f: &mut fmt::Formatter<W>) -> fmt::Result {
         match self.0 {
             Some(number) => write!(f, "{number}"),
@@ -40,10 +40,10 @@ pub struct Four(pub Sizes);
 
 impl Display for Four {
     fn fmt<W: fmt::Write>(&self, f: &mut fmt::Formatter<W>) -> fmt::Result {
-        let size = Maybe(self.0.size);
-        let align = Maybe(self.0.align);
-        let min = Maybe(self.0.min);
-        let stride = Maybe(self.0.stride);
+        let size = OrDash(self.0.size);
+        let align = OrDash(self.0.align);
+        let min = OrDash(self.0.min);
+        let stride = OrDash(self.0.stride);
         write!(f, "{size} {align} {min} {stride}")
     }
 }

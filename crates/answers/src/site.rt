@@ -58,9 +58,9 @@ impl<'a> Site<'a> {
     fn answer_member<W: Write>(self, out: &mut W, held: &Held, member: u32) -> io::Result<()> {
         let entry = self.entry;
         let mask = self.mask;
-        let file = held.file.as_slice();
-        let factory = held.factory.as_slice();
-        let site = held.buffer.as_slice();
+        let file = held.file.bytes();
+        let factory = held.factory.bytes();
+        let site = held.buffer.bytes();
         let target = lepugaso::site_member_at(file, entry, member, mask, factory, site);
         let whose = match target {
             Ok(_) if lepugaso::site_shows(mask, member) => " site",
@@ -76,8 +76,8 @@ impl<'a> Site<'a> {
     // The mask and the site buffer change in copies, and are said after the answer; the buffer is where it may change.
     pub fn answer<W: Write>(self, out: &mut W, alloc: Global, held: &Held) -> io::Result<()> {
         let entry = self.entry;
-        let file = held.file.as_slice();
-        let factory = held.factory.as_slice();
+        let file = held.file.bytes();
+        let factory = held.factory.bytes();
         let mut mask = self.mask;
         match self.asked {
             Asked::Member(member) => self.answer_member(out, held, member),
@@ -90,13 +90,13 @@ impl<'a> Site<'a> {
                 say_block(out, answer, mask, b"")
             }
             Asked::Fresh => {
-                let mut site = held.buffer.as_slice().to_vec(alloc)?;
+                let mut site = held.buffer.bytes().to_vec(alloc)?;
                 let buffer = site.as_mut_slice();
                 let answer = lepugaso::site_fresh(file, entry, factory, buffer, &mut mask);
                 say_block(out, answer, mask, site.as_slice())
             }
             Asked::Set(member, words, path) => {
-                let mut site = held.buffer.as_slice().to_vec(alloc)?;
+                let mut site = held.buffer.bytes().to_vec(alloc)?;
                 let buffer = site.as_mut_slice();
                 let answer = lepugaso::site_set(
                     file, entry, member, path, words, factory, buffer, &mut mask,
