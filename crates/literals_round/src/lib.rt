@@ -5,21 +5,13 @@ ghost use Rattle.std.specs.Prelude.{◌≡◌, ◌+◌, ◌-◌, ◌*◌, ◌/�
 ghost use Rattle.std.specs.Float.Ieee.{size};
 ghost use Rattle.wgsl.specs.Literal.{stepped, rounded};
 
+use std::cmp::Ordering;
+
 // How many binary digits a number has.
 fn digits(n: u64) -> u32
     ensures { result ≡ size n }
 {
-    64 - u64::leading_zeros(n)
-}
-
-// `a` less `b`, or 0.
-fn past(a: u32, b: u32) -> u32
-    ensures { result ≡ a - b }
-{
-    if b <= a {
-        return a - b;
-    }
-    0
+    u64::BITS - n.leading_zeros()
 }
 
 // A number without its lowest `drop` bits, rounded by them.
@@ -30,13 +22,11 @@ fn dropped(number: u64, drop: u32) -> u64
     let q = number >> drop;
     let rest = number & ((1u64 << drop) - 1);
     let half = 1u64 << (drop - 1);
-    if rest < half {
-        return q;
+    match rest.cmp(&half) {
+        Ordering::Less => q,
+        Ordering::Greater => q + 1,
+        Ordering::Equal => q + (q & 1),
     }
-    if half < rest {
-        return q + 1;
-    }
-    q + (q & 1)
 }
 
 // How often 2 ^ unit goes into number * 2 ^ power, rounded by what is left.
@@ -61,6 +51,6 @@ pub fn round_to(number: u64, power: u32, d: u32, unit: u32) -> u64
     if number == 0 {
         return 0;
     }
-    let k = past(digits(number) + power, unit + d + 1);
-    ((k as u64) << d) + kept(number, power, unit + k)
+    let k = (digits(number) + power).saturating_sub(unit + d + 1);
+    (u64::from(k) << d) + kept(number, power, unit + k)
 }
