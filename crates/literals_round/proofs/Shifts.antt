@@ -10,9 +10,6 @@ use lib.Count.{count_leading_zeros, leading_top, leading_of_zero}
 use lib.Pow.{pow-lt, shl_exact}
 use lib.Ieee.{size}
 use lib.Ieee.Digits.{size-lt, size-le}
-use Rattle.std.specs.Cmp.{ranked}
-use Rattle.std.specs.Ordering.{nat_cmp}
-use Rattle.std.specs.declared.cmp.Ordering.{Ordering}
 use Rattle.wgsl.specs.Literal.{stepped}
 
 -- 1 shifted left
@@ -26,24 +23,17 @@ two_halves : (k : ℕ) → 0 < k → 2 ^ (k - 1) + 2 ^ (k - 1) ≡ 2 ^ k
 two_halves zero h = absurd (omega arith)
 two_halves (suc k) h = let e : suc k - 1 ≡ k = omega arith in rw e (omega arith)
 
--- How what is left compares with half of the divisor says which way it is rounded.
-pub stepped_low : (q rest k : ℕ) → 0 < k → Ordering.Less ≡ nat_cmp rest (2 ^ (k - 1)) → stepped q rest (2 ^ k) ≡ q
+pub stepped_low : (q rest k : ℕ) → 0 < k → rest < 2 ^ (k - 1) → stepped q rest (2 ^ k) ≡ q
 unfolding stepped
-stepped_low q rest k p e =
-    let h = ranked rest (2 ^ (k - 1)) Ordering.Less e in
-    rw (lt-ltb (2 * rest) (2 ^ k) (omega (arith, two_halves k p)))
+stepped_low q rest k p h = rw (lt-ltb (2 * rest) (2 ^ k) (omega (arith, two_halves k p)))
 
-pub stepped_high : (q rest k : ℕ) → 0 < k → Ordering.Greater ≡ nat_cmp rest (2 ^ (k - 1)) → stepped q rest (2 ^ k) ≡ suc q
+pub stepped_high : (q rest k : ℕ) → 0 < k → 2 ^ (k - 1) < rest → stepped q rest (2 ^ k) ≡ suc q
 unfolding stepped
-stepped_high q rest k p e =
-    let h = ranked rest (2 ^ (k - 1)) Ordering.Greater e in
-    rw (le-ltb (2 * rest) (2 ^ k) (omega (arith, two_halves k p)), lt-ltb (2 ^ k) (2 * rest) (omega (arith, two_halves k p)))
+stepped_high q rest k p h = rw (le-ltb (2 * rest) (2 ^ k) (omega (arith, two_halves k p)), lt-ltb (2 ^ k) (2 * rest) (omega (arith, two_halves k p)))
 
-pub stepped_tie : (q rest k : ℕ) → 0 < k → Ordering.Equal ≡ nat_cmp rest (2 ^ (k - 1)) → stepped q rest (2 ^ k) ≡ q + q % 2
+pub stepped_tie : (q rest k : ℕ) → 0 < k → rest ≡ 2 ^ (k - 1) → stepped q rest (2 ^ k) ≡ q + q % 2
 unfolding stepped
-stepped_tie q rest k p e =
-    let h = ranked rest (2 ^ (k - 1)) Ordering.Equal e in
-    rw (le-ltb (2 * rest) (2 ^ k) (omega (arith, two_halves k p)), le-ltb (2 ^ k) (2 * rest) (omega (arith, two_halves k p)))
+stepped_tie q rest k p h = rw (le-ltb (2 * rest) (2 ^ k) (omega (arith, two_halves k p)), le-ltb (2 ^ k) (2 * rest) (omega (arith, two_halves k p)))
 
 -- 64 less the leading zeros is the number of digits
 pub digits_are : (n : ℕ) → n < 2 ^ 64 → (count_leading_zeros 64 n ≤ 64) × (64 - count_leading_zeros 64 n ≡ size n)
