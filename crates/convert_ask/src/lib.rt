@@ -13,7 +13,7 @@ use said::refusal::Refusal;
 
 // The rank of entry `a`'s type to entry `b`'s.
 // Refuses 1 to 7, 24 (file), 8 (either number), 18 (no rank).
-#[tactic(auto, using(layout_table::proofs::SaidTable::told, crate::proofs::Calls::rank_refused, crate::proofs::Calls::rank_past, crate::proofs::Calls::rank_past_second, crate::proofs::Calls::pair_there, crate::proofs::Calls::rank_is_lem), unfolding(wgsl::specs::Said::or_refuse))]
+#[tactic(auto, using(crate::proofs::Calls::rank_refused))]
 pub fn rank(file: &[u8], a: u32, b: u32) -> Result<u32, Refusal>
     ensures { said result ≡ rank_call file.now a b }
 {
@@ -30,7 +30,7 @@ pub fn rank(file: &[u8], a: u32, b: u32) -> Result<u32, Refusal>
 
 // The common type of the listed entries, as one of their numbers.
 // Refuses 1 to 7, 24 (file), 8 (any number), 18 (no common type, or an empty list).
-#[tactic(auto, using(layout_table::proofs::SaidTable::told, crate::proofs::Calls::common_refused, crate::proofs::Calls::common_past, crate::proofs::Calls::list_there, crate::proofs::Calls::common_is), unfolding(wgsl::specs::Said::or_refuse))]
+#[tactic(auto, using(crate::proofs::Calls::common_refused))]
 pub fn common(file: &[u8], list: &[u32]) -> Result<u32, Refusal>
     ensures { said result ≡ common_call file.now list.now }
 {
