@@ -25,8 +25,7 @@ pub fn rank(file: &[u8], a: u32, b: u32) -> Result<u32, Refusal>
         return Err(Refusal::Missing);
     }
     let start = wide(trailer.start);
-    let n = entry_rank(file, start, wide(a), wide(b)).ok_or(Refusal::NoRank)?;
-    Ok(n)
+    entry_rank(file, start, wide(a), wide(b)).ok_or(Refusal::NoRank)
 }
 
 // The common type of the listed entries, as one of their numbers.
@@ -42,6 +41,5 @@ pub fn common(file: &[u8], list: &[u32]) -> Result<u32, Refusal>
         return Err(Refusal::NoRank);
     }
     let start = wide(trailer.start);
-    let e = common_of_all(file, start, list).ok_or(Refusal::NoRank)?;
-    Ok(e)
+    common_of_all(file, start, list).ok_or(Refusal::NoRank)
 }

@@ -5,7 +5,6 @@ ghost use Rattle.wgsl.specs.File.{member_entry_length, type_entry_length, type_e
 ghost use Rattle.file.specs.Fields.{entry_is, member_is};
 
 use numbers::bytes::{u16_at, u32_at};
-use numbers::wide::{wide8, wide16};
 
 // How long a type entry is.
 pub const TYPE_ENTRY_LENGTH: usize = 12;
@@ -21,7 +20,7 @@ pub fn member_length(form: u32) -> u32
 }
 
 // A type entry.
-#[derive(Clone, Copy)]
+#[derive(Clone, Copy, Debug, PartialEq, Eq)]
 pub struct TypeEntry {
     pub kind: u32,
     pub columns: u32,
@@ -33,7 +32,7 @@ pub struct TypeEntry {
 }
 
 // A member entry.
-#[derive(Clone, Copy)]
+#[derive(Clone, Copy, Debug, PartialEq, Eq)]
 pub struct MemberEntry {
     pub ty: u32,
     pub flags: u32,
@@ -46,14 +45,14 @@ pub fn byte(f: &[u8], at: usize) -> u32
     requires { at + 1 ≤ length f.now }
     ensures { (result ≡ load 1 f.now at) × (result < 256) }
 {
-    wide8(f[at])
+    u32::from(f[at])
 }
 
 pub fn half(f: &[u8], at: usize) -> u32
     requires { at + 2 ≤ length f.now }
     ensures { (result ≡ load 2 f.now at) × (result < 65536) }
 {
-    wide16(u16_at(f, at))
+    u32::from(u16_at(f, at))
 }
 
 // The type entry that begins at `at`.

@@ -5,7 +5,6 @@ ghost use Rattle.file.specs.Fields.{trailer_is, trailer_over, said_trailer};
 
 use crate::fields::{TYPE_ENTRY_LENGTH, half, member_length};
 use numbers::bytes::u32_at;
-use numbers::wide::wide;
 use said::refusal::Refusal;
 
 // How long the trailer is, the forms, and the most types and members that a file may have.
@@ -19,14 +18,13 @@ const MOST_TYPES: u32 = 256;
 
 const MOST_MEMBERS: u32 = 1024;
 
-#[derive(Clone, Copy)]
+#[derive(Clone, Copy, Debug, PartialEq, Eq)]
 pub struct Trailer {
     pub types: u32,
     pub members: u32,
     pub start: u32,
     pub form: u32,
 }
-
 
 // The fields of the trailer, where the file has one.
 pub fn trailer_fields(f: &[u8]) -> Trailer
@@ -70,8 +68,10 @@ pub fn length_by(types: u32, members: u32, start: u32, form: u32) -> usize
     requires { (types ≤ most_types) × (members ≤ most_members) }
     ensures { result ≡ length_by (trailer_over types members start form) }
 {
-    let length = wide(member_length(form));
-    wide(start) + (TYPE_ENTRY_LENGTH * wide(types) + length * wide(members)) + TRAILER_LENGTH
+    let length = member_length(form) as usize;
+    start as usize
+        + (TYPE_ENTRY_LENGTH * types as usize + length * members as usize)
+        + TRAILER_LENGTH
 }
 
 // The trailer, or the first of the refusals 1 to 4.

@@ -16,7 +16,6 @@ use gaps_sweep::gap::{Sweep, sweep_to};
 use gaps_walk::{sweep_entry, sweep_many};
 use layout_table::{Ground, find};
 use layout_values::value::{Value, blank};
-use numbers::wide::wide;
 use said::answer::Gaps;
 use said::refusal::Refusal;
 use walk_decide::{Rest, allow, closed_rest, elements_in, open_rest, rest_of};
@@ -54,7 +53,7 @@ fn clean_closed(members: &[u8], table: &[Value], e: usize, l: Value, buf: &mut [
     requires { ((t : Ty) × Ready members.now table.now e l t × (is_open t ≡ false)) × (length buf.old ≤ limit) }
     ensures { ClosedCleaned members.now table.now e l result buf.old buf.new }
 {
-    let extent = wide(l.size);
+    let extent = l.size as usize;
     if buf.len() < extent {
         return Err(Refusal::Buffer);
     }
@@ -68,7 +67,7 @@ fn clean_open(members: &[u8], table: &[Value], e: usize, l: Value, buf: &mut [u8
 {
     let x = rest_of(members, table, l);
     let n = elements_in(buf.len(), x.offset, x.value.stride).ok_or(Refusal::Buffer)?;
-    let extent = x.offset + n * wide(x.value.stride);
+    let extent = x.offset + n * x.value.stride as usize;
     Ok(clean_whole(members, table, e, open_rest(x, n as u32), extent, buf))
 }
 
@@ -79,9 +78,7 @@ fn clean_entry_at(file: &[u8], e: usize, g: Ground, table: &[Value], buf: &mut [
 {
     let l = g.value;
     allow(l, buf.len(), true)?;
-    let start = g.start;
-    let end = g.end;
-    let members = &file[start..end];
+    let members = &file[g.start..g.end];
     if l.opens() {
         return clean_open(members, table, e, l, buf);
     }
@@ -98,5 +95,5 @@ pub fn clean(file: &[u8], entry: u32, buf: &mut [u8]) -> Result<Gaps, Refusal>
     let trailer = check_trailer(file)?;
     let mut table = blank();
     let found = find(file, trailer, entry, &mut table)?;
-    clean_entry_at(file, wide(entry), found, &table, buf)
+    clean_entry_at(file, entry as usize, found, &table, buf)
 }

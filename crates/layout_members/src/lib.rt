@@ -90,21 +90,17 @@ pub fn align_fits(m: MemberEntry, l: Value) -> bool
 }
 
 // The align that a member has: the one given, or else its type's own.
+#[tactic(auto, unfolding(crate::specs::Given::or_own, wgsl::specs::Size::given_or, wgsl::specs::Size::present, wgsl::specs::File::given_align))]
 pub fn given_align(m: MemberEntry, own: u32) -> u32
     ensures { result ≡ or_own (given_align (member_is m)) own }
 {
-    if align_given(m) {
-        return m.align;
-    }
-    own
+    if align_given(m) { m.align } else { own }
 }
 
 // The size that it has, likewise.
+#[tactic(auto, unfolding(crate::specs::Given::or_own, wgsl::specs::Size::given_or, wgsl::specs::Size::present, wgsl::specs::File::given_size))]
 pub fn given_size(m: MemberEntry, own: u32) -> u32
     ensures { result ≡ or_own (given_size (member_is m)) own }
 {
-    if size_given(m) {
-        return m.size;
-    }
-    own
+    if size_given(m) { m.size } else { own }
 }

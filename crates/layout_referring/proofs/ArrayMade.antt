@@ -35,40 +35,40 @@ array_words t l is w o = go l.align refl
     go zero q = omega (arith, no_words t l is w q)
     go (suc a) q = words_within t l (element t l is w o (omega arith))
 
-module _ (e : TypeEntry) (t : Ty) (long : ℕ) where
+module _ (e : TypeEntry) (t : Ty) (long r : ℕ) where
   -- ---- the fields
 
   -- "Fields a kind doesn't use are zero."
-  pub array_used : unused (e.columns ∷ e.rows ∷ []) ≡ false → made_of long e.reference (array_made (some t) e) ≡ Err Rule
+  pub array_used : unused (e.columns ∷ e.rows ∷ []) ≡ false → made_of long r (array_made (some t) e) ≡ Err Rule
   unfolding made_of array_made when
   array_used h = rw h
 
   module _ (free : unused (e.columns ∷ e.rows ∷ []) ≡ true) where
-    array_made_here : made_of long e.reference (array_made (some t) e) ≡ verdict_on long e.reference (array e.count t)
+    array_made_here : made_of long r (array_made (some t) e) ≡ verdict_on long r (array e.count t)
     unfolding made_of array_made when and_then
     array_made_here = rw free
 
     -- ---- the rules
 
     -- "count at least 1"
-    pub array_empty : e.count < 1 → made_of long e.reference (array_made (some t) e) ≡ Err Rule
+    pub array_empty : e.count < 1 → made_of long r (array_made (some t) e) ≡ Err Rule
     unfolding verdict_on is_allowed
     array_empty h = array_made_here ∙ rw (lt-leb 1 e.count h)
 
     module _ (full : 1 ≤ e.count) where
       -- "An array's element isn't open"
-      pub array_open : is_open t ≡ true → made_of long e.reference (array_made (some t) e) ≡ Err Rule
+      pub array_open : is_open t ≡ true → made_of long r (array_made (some t) e) ≡ Err Rule
       unfolding verdict_on is_allowed
       array_open h = array_made_here ∙ rw (le-leb 1 e.count full, h)
 
-      array_allowed : is_open t ≡ false → made_of long e.reference (array_made (some t) e) ≡ cond (fits_limit (array e.count t)) (Ok (value_of long e.reference (array e.count t))) (Err Large)
+      array_allowed : is_open t ≡ false → made_of long r (array_made (some t) e) ≡ cond (fits_limit (array e.count t)) (Ok (value_of long r (array e.count t))) (Err Large)
       unfolding verdict_on is_allowed given_fits
       array_allowed h = array_made_here ∙ rw (le-leb 1 e.count full, h)
 
       -- ---- an element with no alignment
 
       -- "A number made from an absent one is absent": such an array has neither size nor layout.
-      none_laid : (l : Value) → l ≡ value_of l.stride l.reference t → is_open t ≡ false → align_of t ≡ none → made_of long e.reference (array_made (some t) e) ≡ Ok (record { kind = 9; narrow = l.narrow; reference = e.reference; count = e.count; unit = 0; stride = 0; size = 0; align = 0 })
+      none_laid : (l : Value) → l ≡ value_of l.stride l.reference t → is_open t ≡ false → align_of t ≡ none → made_of long r (array_made (some t) e) ≡ Ok (record { kind = 9; narrow = l.narrow; reference = r; count = e.count; unit = 0; stride = 0; size = 0; align = 0 })
       unfolding fits_limit within_limits numbers_of min_size_of inner_numbers_of stride_of size_of align_of both value_of kind_of narrow_of parts_of stride_in present has_layout is_present
       none_laid l is h q =
           let narrow : narrow_of t ≡ l.narrow = sym (ap (λ (x : Value). x.narrow) is) in
@@ -85,7 +85,7 @@ module _ (e : TypeEntry) (t : Ty) (long : ℕ) where
         size_is = rw (x.align_is, x.size_is, number.0)
 
         -- "Array: count x stride", past the limit
-        large : limited (e.count * stride) ≡ None → made_of long e.reference (array_made (some t) e) ≡ Err Large
+        large : limited (e.count * stride) ≡ None → made_of long r (array_made (some t) e) ≡ Err Large
         unfolding fits_limit within_limits numbers_of within_limit
         large h = array_allowed x.closed ∙ rw (size_is, lt-leb _ _ (limited_large _ h))
 
@@ -102,7 +102,7 @@ module _ (e : TypeEntry) (t : Ty) (long : ℕ) where
                 le-leb _ _ (align_within t l x),
               )
 
-          laid : made_of long e.reference (array_made (some t) e) ≡ Ok (record { kind = 9; narrow = l.narrow; reference = e.reference; count = e.count; unit = words_in l; stride = stride; size = size; align = l.align })
+          laid : made_of long r (array_made (some t) e) ≡ Ok (record { kind = 9; narrow = l.narrow; reference = r; count = e.count; unit = words_in l; stride = stride; size = size; align = l.align })
           unfolding value_of kind_of narrow_of parts_of stride_in present fixed_words has_layout is_present is_open size_of align_of stride_of both
           laid =
               array_allowed x.closed
@@ -124,20 +124,20 @@ module _ (e : TypeEntry) (t : Ty) (long : ℕ) where
         no_stride q = unaligned_stride t stride closed (unaligned t l is w q) own
 
         -- "Array: count x stride", past the limit
-        pub array_large : limited (e.count * stride) ≡ None → made_of long e.reference (array_made (some t) e) ≡ Err Large
+        pub array_large : limited (e.count * stride) ≡ None → made_of long r (array_made (some t) e) ≡ Err Large
         array_large h = go l.align refl
           where
-            go : (a : ℕ) → l.align ≡ a → made_of long e.reference (array_made (some t) e) ≡ Err Large
+            go : (a : ℕ) → l.align ≡ a → made_of long r (array_made (some t) e) ≡ Err Large
             go zero q =
                 let none_there : e.count * stride ≡ 0 = rw (no_stride q) (mul-zero e.count) in
                 absurd (omega (arith, limited_large _ h, none_there))
             go (suc a) q = large l (element t l is w closed (omega arith)) stride own h
 
         -- The layout of an array.
-        pub array_laid : (size : ℕ) → limited (e.count * stride) ≡ Some size → made_of long e.reference (array_made (some t) e) ≡ Ok (record { kind = 9; narrow = l.narrow; reference = e.reference; count = e.count; unit = words_in l; stride = stride; size = size; align = l.align })
+        pub array_laid : (size : ℕ) → limited (e.count * stride) ≡ Some size → made_of long r (array_made (some t) e) ≡ Ok (record { kind = 9; narrow = l.narrow; reference = r; count = e.count; unit = words_in l; stride = stride; size = size; align = l.align })
         array_laid size h = go l.align refl
           where
-            go : (a : ℕ) → l.align ≡ a → made_of long e.reference (array_made (some t) e) ≡ Ok (record { kind = 9; narrow = l.narrow; reference = e.reference; count = e.count; unit = words_in l; stride = stride; size = size; align = l.align })
+            go : (a : ℕ) → l.align ≡ a → made_of long r (array_made (some t) e) ≡ Ok (record { kind = 9; narrow = l.narrow; reference = r; count = e.count; unit = words_in l; stride = stride; size = size; align = l.align })
             go zero q =
                 let none_there : e.count * stride ≡ 0 = rw (no_stride q) (mul-zero e.count) in
                 let none_long : size ≡ 0 = sym (limited_is _ size h).0 ∙ none_there in

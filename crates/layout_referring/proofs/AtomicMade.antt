@@ -65,23 +65,23 @@ scalar_atomic f64 h k = absurd (omega arith)
 
 -- ---- the entry
 
-module _ (t : Ty) (l : Value) (is : l ≡ value_of l.stride l.reference t) (e : TypeEntry) (long : ℕ) where
-  pub atomic_used : unused (e.columns ∷ e.rows ∷ e.count ∷ []) ≡ false → made_of long e.reference (atomic_made (some t) e) ≡ Err Rule
+module _ (t : Ty) (l : Value) (is : l ≡ value_of l.stride l.reference t) (e : TypeEntry) (long r : ℕ) where
+  pub atomic_used : unused (e.columns ∷ e.rows ∷ e.count ∷ []) ≡ false → made_of long r (atomic_made (some t) e) ≡ Err Rule
   unfolding atomic_made
   atomic_used h = made_used _ _ _ h
 
-  other_scalar : ((s : Scalar) → scalar_kind s ≡ l.kind → is_atomic_scalar s ≡ false) → made_of long e.reference (atomic_made (some t) e) ≡ Err Rule
+  other_scalar : ((s : Scalar) → scalar_kind s ≡ l.kind → is_atomic_scalar s ≡ false) → made_of long r (atomic_made (some t) e) ≡ Err Rule
   unfolding atomic_made and_then is_allowed
   other_scalar h = made_rule _ _ _ (scalar_in t) atomic (λ s f. h s (scalar_kind_lem t l s is f).0)
 
   -- "reference to i32 or u32"
-  pub atomic_low : l.kind < 1 → made_of long e.reference (atomic_made (some t) e) ≡ Err Rule
+  pub atomic_low : l.kind < 1 → made_of long r (atomic_made (some t) e) ≡ Err Rule
   atomic_low h = other_scalar (λ s k. scalar_low s (omega arith))
 
-  pub atomic_high : 2 < l.kind → made_of long e.reference (atomic_made (some t) e) ≡ Err Rule
+  pub atomic_high : 2 < l.kind → made_of long r (atomic_made (some t) e) ≡ Err Rule
   atomic_high h = other_scalar (λ s k. scalar_high s (omega arith))
 
-  pub atomic_laid : unused (e.columns ∷ e.rows ∷ e.count ∷ []) ≡ true → 1 ≤ l.kind → l.kind ≤ 2 → made_of long e.reference (atomic_made (some t) e) ≡ Ok (record { kind = 11; narrow = 4; reference = e.reference; count = 1; unit = 1; stride = 4; size = 4; align = 4 })
+  pub atomic_laid : unused (e.columns ∷ e.rows ∷ e.count ∷ []) ≡ true → 1 ≤ l.kind → l.kind ≤ 2 → made_of long r (atomic_made (some t) e) ≡ Ok (record { kind = 11; narrow = 4; reference = r; count = 1; unit = 1; stride = 4; size = 4; align = 4 })
   unfolding atomic_made and_then is_allowed given_fits size_of align_of min_size_of inner_numbers_of kind_of narrow_of parts_of stride_in present is_present is_open words_for up
   atomic_laid zeros low high =
       let x = scalar_known t l is (low_scalar _ (omega arith)) in

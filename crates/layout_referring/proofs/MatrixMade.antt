@@ -60,25 +60,25 @@ times_there n none h = h
 
 -- ---- the entry
 
-module _ (t : Ty) (l : Value) (is : l ≡ value_of l.stride l.reference t) (e : TypeEntry) (long : ℕ) where
-  pub matrix_used : unused (e.count ∷ []) ≡ false → made_of long e.reference (matrix_made (some t) e) ≡ Err Rule
+module _ (t : Ty) (l : Value) (is : l ≡ value_of l.stride l.reference t) (e : TypeEntry) (long r : ℕ) where
+  pub matrix_used : unused (e.count ∷ []) ≡ false → made_of long r (matrix_made (some t) e) ≡ Err Rule
   unfolding matrix_made
   matrix_used h = made_used _ _ _ h
 
   -- "reference to f32, f16 or abstract float"
-  pub matrix_over : ((s : Scalar) → scalar_kind s ≡ l.kind → is_matrix_scalar s ≡ false) → made_of long e.reference (matrix_made (some t) e) ≡ Err Rule
+  pub matrix_over : ((s : Scalar) → scalar_kind s ≡ l.kind → is_matrix_scalar s ≡ false) → made_of long r (matrix_made (some t) e) ≡ Err Rule
   unfolding matrix_made and_then is_allowed
   matrix_over h =
       made_rule _ _ _ (scalar_in t) (matrix e.columns e.rows)
       (λ s f. rw (h s (scalar_kind_lem t l s is f).0) (and-false (between 2 4 e.columns && between 2 4 e.rows)))
 
   -- "columns 2-4"
-  pub columns_low : e.columns < 2 → made_of long e.reference (matrix_made (some t) e) ≡ Err Rule
+  pub columns_low : e.columns < 2 → made_of long r (matrix_made (some t) e) ≡ Err Rule
   unfolding matrix_made and_then is_allowed between
   columns_low h =
       made_rule _ _ _ (scalar_in t) (matrix e.columns e.rows) (λ s f. rw (lt-leb 2 e.columns h))
 
-  pub columns_high : 4 < e.columns → made_of long e.reference (matrix_made (some t) e) ≡ Err Rule
+  pub columns_high : 4 < e.columns → made_of long r (matrix_made (some t) e) ≡ Err Rule
   unfolding matrix_made and_then is_allowed between
   columns_high h =
       made_rule _ _ _ (scalar_in t) (matrix e.columns e.rows)
@@ -86,13 +86,13 @@ module _ (t : Ty) (l : Value) (is : l ≡ value_of l.stride l.reference t) (e : 
 
   module _ (left : 2 ≤ e.columns) (right : e.columns ≤ 4) where
     -- "rows 2-4"
-    pub rows_low : e.rows < 2 → made_of long e.reference (matrix_made (some t) e) ≡ Err Rule
+    pub rows_low : e.rows < 2 → made_of long r (matrix_made (some t) e) ≡ Err Rule
     unfolding matrix_made and_then is_allowed between
     rows_low h =
         made_rule _ _ _ (scalar_in t) (matrix e.columns e.rows)
         (λ s f. rw (le-leb 2 e.columns left, le-leb e.columns 4 right, lt-leb 2 e.rows h))
 
-    pub rows_high : 4 < e.rows → made_of long e.reference (matrix_made (some t) e) ≡ Err Rule
+    pub rows_high : 4 < e.rows → made_of long r (matrix_made (some t) e) ≡ Err Rule
     unfolding matrix_made and_then is_allowed between
     rows_high h =
         made_rule _ _ _ (scalar_in t) (matrix e.columns e.rows)
@@ -108,7 +108,7 @@ module _ (t : Ty) (l : Value) (is : l ≡ value_of l.stride l.reference t) (e : 
       size_is : (s : Scalar) → scalar_kind s ≡ l.kind → present (both ◌*◌ (some e.columns) (vector_align e.rows s)) ≡ e.columns * a
       size_is s k = rw (align s k) (times_present e.columns (vector_align e.rows s))
 
-      matrix_verdict : (v : Value) → v.reference ≡ e.reference → ((s : Scalar) → scalar_kind s ≡ l.kind → l.narrow ≡ stored_width s → v ≡ value_of long v.reference (matrix e.columns e.rows s)) → made_of long e.reference (matrix_made (some t) e) ≡ Ok v
+      matrix_verdict : (v : Value) → v.reference ≡ r → ((s : Scalar) → scalar_kind s ≡ l.kind → l.narrow ≡ stored_width s → v ≡ value_of long v.reference (matrix e.columns e.rows s)) → made_of long r (matrix_made (some t) e) ≡ Ok v
       unfolding matrix_made and_then is_allowed between given_fits size_of align_of min_size_of inner_numbers_of
       matrix_verdict v q h =
           let x = scalar_known t l is scalars in
@@ -125,7 +125,7 @@ module _ (t : Ty) (l : Value) (is : l ≡ value_of l.stride l.reference t) (e : 
           (h s k x.narrow_is))
 
       -- The layout of a matrix: one with no alignment has no words.
-      pub matrix_laid : (u : ℕ) → u ≡ cond (eqb a 0) 0 e.rows → made_of long e.reference (matrix_made (some t) e) ≡ Ok (record { kind = 8; narrow = l.narrow; reference = e.reference; count = e.columns; unit = u; stride = a; size = e.columns * a; align = a })
+      pub matrix_laid : (u : ℕ) → u ≡ cond (eqb a 0) 0 e.rows → made_of long r (matrix_made (some t) e) ≡ Ok (record { kind = 8; narrow = l.narrow; reference = r; count = e.columns; unit = u; stride = a; size = e.columns * a; align = a })
       unfolding kind_of narrow_of parts_of stride_in size_of align_of is_open
       matrix_laid u unit =
           matrix_verdict _ refl

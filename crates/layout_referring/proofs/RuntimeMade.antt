@@ -20,35 +20,35 @@ use Rattle.layout_values.specs.Value.{narrow_of, parts_of, fixed_words, words_in
 use Rattle.layout_values.specs.declared.value.Value.{Value}
 use Rattle.layout_values.specs.declared.value.Broken.TheVariants.{Large, Rule}
 
-module _ (e : TypeEntry) (t : Ty) (long : ℕ) where
+module _ (e : TypeEntry) (t : Ty) (long r : ℕ) where
   -- ---- the fields
 
   -- "Fields a kind doesn't use are zero."
-  pub runtime_used : unused (e.columns ∷ e.rows ∷ e.count ∷ []) ≡ false → made_of long e.reference (runtime_made (some t) e) ≡ Err Rule
+  pub runtime_used : unused (e.columns ∷ e.rows ∷ e.count ∷ []) ≡ false → made_of long r (runtime_made (some t) e) ≡ Err Rule
   unfolding made_of runtime_made when
   runtime_used h = rw h
 
   module _ (free : unused (e.columns ∷ e.rows ∷ e.count ∷ []) ≡ true) where
-    runtime_made_here : made_of long e.reference (runtime_made (some t) e) ≡ verdict_on long e.reference (runtime t)
+    runtime_made_here : made_of long r (runtime_made (some t) e) ≡ verdict_on long r (runtime t)
     unfolding made_of runtime_made when and_then
     runtime_made_here = rw free
 
     -- ---- the rules
 
     -- "An array's element isn't open"
-    pub runtime_open : is_open t ≡ true → made_of long e.reference (runtime_made (some t) e) ≡ Err Rule
+    pub runtime_open : is_open t ≡ true → made_of long r (runtime_made (some t) e) ≡ Err Rule
     unfolding verdict_on is_allowed
     runtime_open h = runtime_made_here ∙ rw h
 
     -- "a runtime array's element also has size and alignment"
-    pub runtime_unaligned : align_of t ≡ none → made_of long e.reference (runtime_made (some t) e) ≡ Err Rule
+    pub runtime_unaligned : align_of t ≡ none → made_of long r (runtime_made (some t) e) ≡ Err Rule
     unfolding verdict_on is_allowed is_present
     runtime_unaligned h = runtime_made_here ∙ rw (h, and-false)
 
     -- ---- an element that has an alignment
 
     module _ (l : Value) (x : Element t l) where
-      runtime_allowed : made_of long e.reference (runtime_made (some t) e) ≡ cond (fits_limit (runtime t)) (Ok (value_of long e.reference (runtime t))) (Err Large)
+      runtime_allowed : made_of long r (runtime_made (some t) e) ≡ cond (fits_limit (runtime t)) (Ok (value_of long r (runtime t))) (Err Large)
       unfolding verdict_on is_allowed given_fits is_present
       runtime_allowed = runtime_made_here ∙ rw (x.closed, x.align_is, x.size_is)
 
@@ -62,7 +62,7 @@ module _ (e : TypeEntry) (t : Ty) (long : ℕ) where
         fits =
             simp (x.align_is, x.size_is, number.0, le-leb _ _ number.1, le-leb _ _ (align_within t l x))
 
-        pub runtime_laid : made_of long e.reference (runtime_made (some t) e) ≡ Ok (record { kind = 10; narrow = l.narrow; reference = e.reference; count = 0; unit = words_in l; stride = stride; size = 0; align = l.align })
+        pub runtime_laid : made_of long r (runtime_made (some t) e) ≡ Ok (record { kind = 10; narrow = l.narrow; reference = r; count = 0; unit = words_in l; stride = stride; size = 0; align = l.align })
         unfolding value_of kind_of narrow_of parts_of stride_in present fixed_words has_layout is_present is_open size_of align_of stride_of both
         runtime_laid =
             runtime_allowed

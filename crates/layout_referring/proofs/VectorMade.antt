@@ -24,23 +24,23 @@ use Rattle.layout_values.specs.Value.{stored_width, scalar_words, narrow_of, par
 use Rattle.layout_values.specs.declared.value.Value.{Value}
 use Rattle.layout_values.specs.declared.value.Broken.TheVariants.{Rule}
 
-module _ (t : Ty) (l : Value) (is : l ≡ value_of l.stride l.reference t) (e : TypeEntry) (long : ℕ) where
-  pub vector_used : unused (e.columns ∷ e.count ∷ []) ≡ false → made_of long e.reference (vector_made (some t) e) ≡ Err Rule
+module _ (t : Ty) (l : Value) (is : l ≡ value_of l.stride l.reference t) (e : TypeEntry) (long r : ℕ) where
+  pub vector_used : unused (e.columns ∷ e.count ∷ []) ≡ false → made_of long r (vector_made (some t) e) ≡ Err Rule
   unfolding vector_made
   vector_used h = made_used _ _ _ h
 
   -- "reference to a kind 0-6", or 13-15
-  pub vector_over : is_scalar_kind l.kind ≡ false → made_of long e.reference (vector_made (some t) e) ≡ Err Rule
+  pub vector_over : is_scalar_kind l.kind ≡ false → made_of long r (vector_made (some t) e) ≡ Err Rule
   unfolding vector_made and_then
   vector_over h =
       made_rule _ _ _ (scalar_in t) (vector e.rows) (λ s f. true_not_false (scalar_kind_lem t l s is f).1 h)
 
   -- "rows 2-4"
-  pub vector_low : e.rows < 2 → made_of long e.reference (vector_made (some t) e) ≡ Err Rule
+  pub vector_low : e.rows < 2 → made_of long r (vector_made (some t) e) ≡ Err Rule
   unfolding vector_made and_then is_allowed between
   vector_low h = made_rule _ _ _ (scalar_in t) (vector e.rows) (λ s f. rw (lt-leb 2 e.rows h))
 
-  pub vector_high : 4 < e.rows → made_of long e.reference (vector_made (some t) e) ≡ Err Rule
+  pub vector_high : 4 < e.rows → made_of long r (vector_made (some t) e) ≡ Err Rule
   unfolding vector_made and_then is_allowed between
   vector_high h =
       made_rule _ _ _ (scalar_in t) (vector e.rows) (λ s f. rw (le-leb 2 e.rows (omega arith), lt-leb e.rows 4 h))
@@ -49,7 +49,7 @@ module _ (t : Ty) (l : Value) (is : l ≡ value_of l.stride l.reference t) (e : 
     size_is : (s : Scalar) → scalar_kind s ≡ l.kind → e.rows * w ≡ present (vector_size e.rows s)
     size_is s k = rw (width s k) (sym (vector_size_lem e.rows s))
 
-    vector_verdict : (v : Value) → v.reference ≡ e.reference → ((s : Scalar) → scalar_kind s ≡ l.kind → l.narrow ≡ stored_width s → v ≡ value_of long v.reference (vector e.rows s)) → made_of long e.reference (vector_made (some t) e) ≡ Ok v
+    vector_verdict : (v : Value) → v.reference ≡ r → ((s : Scalar) → scalar_kind s ≡ l.kind → l.narrow ≡ stored_width s → v ≡ value_of long v.reference (vector e.rows s)) → made_of long r (vector_made (some t) e) ≡ Ok v
     unfolding vector_made and_then is_allowed between given_fits size_of align_of min_size_of inner_numbers_of
     vector_verdict v q h =
         let x = scalar_known t l is scalars in
@@ -63,7 +63,7 @@ module _ (t : Ty) (l : Value) (is : l ≡ value_of l.stride l.reference t) (e : 
         (fits_small (vector e.rows s) refl size (omega (arith, align s k)) refl) (h s k x.narrow_is))
 
     -- The layout of a vector. Over abstract scalars, and of three scalars of 64 bits, it has no alignment: then it has no words.
-    pub vector_laid : (u : ℕ) → u ≡ cond (eqb a 0) 0 (words_for w) → made_of long e.reference (vector_made (some t) e) ≡ Ok (record { kind = 7; narrow = l.narrow; reference = e.reference; count = e.rows; unit = u; stride = w; size = e.rows * w; align = a })
+    pub vector_laid : (u : ℕ) → u ≡ cond (eqb a 0) 0 (words_for w) → made_of long r (vector_made (some t) e) ≡ Ok (record { kind = 7; narrow = l.narrow; reference = r; count = e.rows; unit = u; stride = w; size = e.rows * w; align = a })
     unfolding kind_of narrow_of parts_of stride_in size_of align_of is_open
     vector_laid u unit =
         vector_verdict _ refl

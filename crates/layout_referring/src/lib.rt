@@ -9,11 +9,14 @@ ghost use Rattle.file.specs.Fields.{entry_is};
 ghost use Rattle.layout_values.specs.Value.{made_of, Known, value_of};
 
 use file::fields::TypeEntry;
-use file::kinds::{ABSTRACT_FLOAT, ARRAY, ATOMIC, F16, F32, I32, MATRIX, RUNTIME, U32, VECTOR, is_scalar};
+use file::kinds::{
+    ABSTRACT_FLOAT, ARRAY, ATOMIC, F16, F32, I32, MATRIX, RUNTIME, U32, VECTOR, is_scalar,
+};
 use layout_values::scalars::{scalar_size, scalar_words, unless_absent, vector_align, zeros};
 use layout_values::value::{Broken, Value};
 
 // "7 vector: rows 2-4, reference to a kind 0-6", or 13-15
+#[tactic(auto, using(crate::proofs::VectorMade::vector_used, crate::proofs::VectorMade::vector_over, crate::proofs::VectorMade::vector_low, crate::proofs::VectorMade::vector_high, crate::proofs::VectorMade::vector_laid, layout_values::proofs::Unused::unused_two))]
 pub fn vector(e: TypeEntry, l: Value) -> Result<Value, Broken>
     requires { Known l }
     ensures { (long : ℕ) (t : Ty) → l ≡ value_of l.stride l.reference t → result ≡ made_of long e.reference (vector_made (some t) (entry_is e)) }
@@ -48,6 +51,7 @@ pub fn vector(e: TypeEntry, l: Value) -> Result<Value, Broken>
 }
 
 // Whether a kind is that of "f32, f16 or abstract float".
+#[tactic(auto, using(crate::proofs::MatrixMade::is_f32, crate::proofs::MatrixMade::is_f16, crate::proofs::MatrixMade::is_abstract, wgsl::proofs::ScalarKind::low_scalar))]
 fn suits_matrix(kind: u32) -> bool
     ensures { ((s : Scalar) → scalar_kind s ≡ kind → result ≡ is_matrix_scalar s) × (result ≡ true → is_scalar_kind kind ≡ true) }
 {
@@ -61,6 +65,7 @@ fn suits_matrix(kind: u32) -> bool
 }
 
 // "8 matrix: columns 2-4, rows 2-4, reference to f32, f16 or abstract float"
+#[tactic(auto, using(crate::proofs::MatrixMade::matrix_used, crate::proofs::MatrixMade::matrix_over, crate::proofs::MatrixMade::columns_low, crate::proofs::MatrixMade::columns_high, crate::proofs::MatrixMade::rows_low, crate::proofs::MatrixMade::rows_high, crate::proofs::MatrixMade::matrix_laid, layout_values::proofs::Unused::unused_one))]
 pub fn matrix(e: TypeEntry, l: Value) -> Result<Value, Broken>
     requires { Known l }
     ensures { (long : ℕ) (t : Ty) → l ≡ value_of l.stride l.reference t → result ≡ made_of long e.reference (matrix_made (some t) (entry_is e)) }
@@ -101,6 +106,7 @@ pub fn matrix(e: TypeEntry, l: Value) -> Result<Value, Broken>
 }
 
 // "9 array: reference, count at least 1"; an array's element isn't open. Where it has no stride, neither has the array a size.
+#[tactic(auto, using(crate::proofs::ArrayMade::array_used, crate::proofs::ArrayMade::array_empty, crate::proofs::ArrayMade::array_open, crate::proofs::ArrayMade::array_large, crate::proofs::ArrayMade::array_laid, crate::proofs::ArrayMade::array_words, layout_values::proofs::Unused::unused_two, numbers::proofs::Limited::limited_some))]
 pub fn array(e: TypeEntry, l: Value) -> Result<Value, Broken>
     requires { Known l }
     ensures { (long : ℕ) (t : Ty) → l ≡ value_of l.stride l.reference t → everywhere is_well_formed t ≡ true → result ≡ made_of long e.reference (array_made (some t) (entry_is e)) }
@@ -130,6 +136,7 @@ pub fn array(e: TypeEntry, l: Value) -> Result<Value, Broken>
 }
 
 // "10 runtime array: reference"; its element isn't open, and has size and alignment.
+#[tactic(auto, using(crate::proofs::RuntimeMade::runtime_used, crate::proofs::RuntimeMade::runtime_open, crate::proofs::RuntimeMade::runtime_unaligned, crate::proofs::RuntimeMade::runtime_laid, layout_values::proofs::Unused::unused_three, layout_values::proofs::ValueOf::unaligned, layout_values::proofs::ValueOf::element, layout_values::proofs::ValueOf::words_within))]
 pub fn runtime(e: TypeEntry, l: Value) -> Result<Value, Broken>
     requires { Known l }
     ensures { (long : ℕ) (t : Ty) → l ≡ value_of l.stride l.reference t → everywhere is_well_formed t ≡ true → result ≡ made_of long e.reference (runtime_made (some t) (entry_is e)) }
@@ -157,6 +164,7 @@ pub fn runtime(e: TypeEntry, l: Value) -> Result<Value, Broken>
 }
 
 // "11 atomic: reference to i32 or u32"
+#[tactic(auto, using(crate::proofs::AtomicMade::atomic_used, crate::proofs::AtomicMade::atomic_low, crate::proofs::AtomicMade::atomic_high, crate::proofs::AtomicMade::atomic_laid, layout_values::proofs::Unused::unused_three))]
 pub fn atomic(e: TypeEntry, l: Value) -> Result<Value, Broken>
     requires { Known l }
     ensures { (long : ℕ) (t : Ty) → l ≡ value_of l.stride l.reference t → result ≡ made_of long e.reference (atomic_made (some t) (entry_is e)) }
@@ -184,6 +192,7 @@ pub fn atomic(e: TypeEntry, l: Value) -> Result<Value, Broken>
 }
 
 // An entry of a kind 7 to 11.
+#[tactic(auto, using(crate::proofs::OverMade::over_vector, crate::proofs::OverMade::over_matrix, crate::proofs::OverMade::over_array, crate::proofs::OverMade::over_runtime, crate::proofs::OverMade::over_atomic, crate::proofs::OverMade::over_none))]
 pub fn over_entry(e: TypeEntry, l: Value) -> Result<Value, Broken>
     requires { Known l }
     ensures { (long : ℕ) (t : Ty) → l ≡ value_of l.stride l.reference t → everywhere is_well_formed t ≡ true → result ≡ made_of long e.reference (over_made (some t) (entry_is e)) }

@@ -157,25 +157,21 @@ verdicts {A} r ms e placed past unfit = go (members_given_fit ms) (members_fit m
 no_verdict : {A : Type 0} → ◌≡◌ {A = ℕ} 0 1 → A
 no_verdict e = absurd (omega arith)
 
-pub closes_placed : (p : Ends) (ms : Members) → Closes (Ok p) ms → Ended p ms
-closes_placed p ms c =
-    verdicts (Ok p) ms c.verdict (λ h g f. record { ends = cc; complete = c.complete; given = g; fits = f })
+pub closes_placed : (run : Result Ends Broken) (p : Ends) (ms : Members) → Closes run ms → run ≡ Ok p → Ended p ms
+closes_placed run p ms c e =
+    verdicts run ms c.verdict (λ h g f. record { ends = cc; complete = c.complete; given = g; fits = f })
     (λ h g f. no_verdict cc) (λ h g. no_verdict cc)
 
--- Where a given size or align does not fit, that is refusal 6.
-pub closes_unfit : (n r k : ℕ) (ms : Members) → Closes (Err Given) ms → verdict_on n r (struct k ms) ≡ Err Given
-closes_unfit n r k ms c =
-    verdicts (Err Given) ms c.verdict (λ h g f. no_verdict cc) (λ h g f. no_verdict cc) (λ h g. judged n r k ms c.complete ∙ rw g)
-
--- Where an offset or the end of the members is past the limit, that is refusal 7.
-pub closes_past : (n r k : ℕ) (ms : Members) → Closes (Err Large) ms → verdict_on n r (struct k ms) ≡ Err Large
+-- Where a given size or align does not fit, that is refusal 6; where an offset or the end of the members is past the limit, 7.
+pub closes_past : (n r k : ℕ) (run : Result Ends Broken) (b : Broken) (ms : Members) → Closes run ms → run ≡ Err b → verdict_on n r (struct k ms) ≡ Err b
 unfolding members_fit
-closes_past n r k ms c =
-    verdicts (Err Large) ms c.verdict (λ h g f. no_verdict cc)
+closes_past n r k run b ms c e =
+    verdicts run ms c.verdict (λ h g f. no_verdict cc)
     (λ h g f.
     let w = c.complete.well_formed in
     let a = members_aligned ms w c.complete.allowed g in
     large n r k ms c.complete g
     (struct_fits k ms a.align (members_end (some 0) ms) a.is refl
-    ∙ past_members a.align (members_end (some 0) ms) (offsets_of (some 0) ms) (aligned_positive ms a.align w g a.is) f))
-    (λ h g. no_verdict cc)
+    ∙ past_members a.align (members_end (some 0) ms) (offsets_of (some 0) ms) (aligned_positive ms a.align w g a.is) f)
+    ∙ cc)
+    (λ h g. judged n r k ms c.complete ∙ rw g (cc))

@@ -17,7 +17,7 @@ use Rattle.layout_values.specs.declared.value.Value.{Value}
 use Rattle.layout_structs.specs.declared.Ends.{Ends}
 use Rattle.layout_structs.specs.SoFar.{followed, so_far, stepped_to, Joins, Meets}
 use Rattle.layout_structs.proofs.Going.{member_power, going_end}
-use Rattle.layout_structs.proofs.SoFarOf.{placed_before, unfit_size, unfit_align, unfit_before, large_before}
+use Rattle.layout_structs.proofs.SoFarOf.{placed_before, unfit_size, unfit_align, unfit_before, large_before, not_rule}
 use Rattle.layout_values.specs.declared.value.Broken.{Broken}
 use Rattle.layout_values.specs.declared.value.Broken.TheVariants.{Given, Large, Rule}
 
@@ -60,11 +60,6 @@ module _ (last : Bool) (ms : Members) (t : Ty) (m : MemberEntry) where
     steps_align h = steps_next (Err Given) (unfit_align ms t (given_size m) (given_align m) h)
 
     module _ (run : Result Ends Broken) (l : Value) (j : Meets run l ms t) where
-      -- ---- one after members that break 6
-
-      pub steps_unfit : run ≡ Err Given → stepped_to last ms t m ≡ Ok (Err Given)
-      steps_unfit e = steps_next (Err Given) (unfit_before ms t (given_size m) (given_align m) (sym j.verdict ∙ e))
-
       module _ (size_fits : given_size_fits t (given_size m) ≡ true) (align_fits : given_align_fits t (given_align m) ≡ true) where
         -- ---- one that joins
 
@@ -83,10 +78,12 @@ module _ (last : Bool) (ms : Members) (t : Ty) (m : MemberEntry) where
               align_fits = align_fits;
             }
 
-        -- ---- one after members that are too large
+        -- ---- one after members that break 6 or 7
 
-        pub steps_large : run ≡ Err Large → stepped_to last ms t m ≡ Ok (Err Large)
-        steps_large e =
+        pub steps_past : (b : Broken) → run ≡ Err b → stepped_to last ms t m ≡ Ok (Err b)
+        steps_past Rule e = not_rule ms (sym j.verdict ∙ e)
+        steps_past Given e = steps_next (Err Given) (unfit_before ms t (given_size m) (given_align m) (sym j.verdict ∙ e))
+        steps_past Large e =
             let z = going_end 0 ms j.going.sized in
             let a = given_present (given_align m) (align_of t) (aligned last t allowed) in
             let power = member_power t (given_align m) a.0 j.well_formed align_fits a.1 in

@@ -22,7 +22,7 @@ use Rattle.layout_structs.specs.declared.Ends.{Ends}
 use Rattle.layout_structs.specs.SoFar.{appended, ends_of, members_fit, so_far}
 use Rattle.layout_structs.proofs.Appended.{after_end, after_offsets, after_given, limits_append}
 use Rattle.layout_structs.proofs.Going.{next_start, next_end}
-use Rattle.layout_values.specs.declared.value.Broken.TheVariants.{Given, Large}
+use Rattle.layout_values.specs.declared.value.Broken.TheVariants.{Given, Large, Rule}
 
 -- ---- the limit
 
@@ -66,6 +66,16 @@ placed_before ms p e = go (members_given_fit ms) (members_fit ms) refl refl e
     go true true q r h = (q, r, cc)
     go true false q r h = let z : ◌≡◌ {A = ℕ} 0 1 = cc in absurd (omega arith)
     go false c q r h = let z : ◌≡◌ {A = ℕ} 0 1 = cc in absurd (omega arith)
+
+-- It is no rule but 6 and 7 that they may break.
+pub not_rule : {A : Type 0} (ms : Members) → so_far ms ≡ Err Rule → A
+unfolding so_far
+not_rule {A} ms e = go (members_given_fit ms) (members_fit ms) e
+  where
+    go : (b c : Bool) → cond b (cond c (Ok (ends_of ms)) (Err Large)) (Err Given) ≡ Err Rule → A
+    go true true h = let z : ◌≡◌ {A = ℕ} 0 1 = cc in absurd (omega arith)
+    go true false h = let z : ◌≡◌ {A = ℕ} 0 1 = cc in absurd (omega arith)
+    go false c h = let z : ◌≡◌ {A = ℕ} 0 1 = cc in absurd (omega arith)
 
 unfit_members : (ms : Members) → so_far ms ≡ Err Given → members_given_fit ms ≡ false
 unfolding so_far

@@ -18,7 +18,7 @@ use numbers::limit::round_up;
 use numbers::wide::wide;
 
 // Where the members so far end, and what they hold.
-#[derive(Clone, Copy)]
+#[derive(Clone, Copy, Debug, PartialEq, Eq)]
 pub struct Ends {
     // 0 past a runtime array, which has no end
     pub end: u32,
@@ -28,19 +28,18 @@ pub struct Ends {
     pub narrow: u32,
 }
 
-
-
 // What the members so far come to, or why the struct has no value: "5 before 6 before 7", so that a member may still break 5 where one before it broke 6 or 7.
 pub type SoFar = Result<Ends, Broken>;
 
 // The members that a struct's entry names, by number.
-#[derive(Clone, Copy)]
+#[derive(Clone, Copy, Debug, PartialEq, Eq)]
 pub struct Span {
     pub first: usize,
     pub count: usize,
 }
 
 // One more member, whose size and align fit, after those that end as `p` says.
+#[tactic(auto, using(crate::proofs::Joins::joins_power, crate::proofs::Joins::joins_past, crate::proofs::Joins::joins_open, crate::proofs::Joins::joins_end_past, crate::proofs::Joins::joins_closed, crate::proofs::Joins::joins_words, numbers::proofs::Limited::limited_some))]
 fn join(p: Ends, l: Value, m: MemberEntry) -> SoFar
     requires { (ms : Members) × (t : Ty) × Joins p l (member_is m) ms t }
     ensures { (ms : Members) (t : Ty) → Joins p l (member_is m) ms t → result ≡ so_far (followed ms t (member_is m)) }
@@ -70,6 +69,7 @@ fn join(p: Ends, l: Value, m: MemberEntry) -> SoFar
 }
 
 // Before the first member.
+#[tactic(auto, using(crate::proofs::Reached::no_members))]
 pub fn no_members() -> SoFar
     ensures { result ≡ so_far no_more }
 {
@@ -83,6 +83,7 @@ pub fn no_members() -> SoFar
 }
 
 // One more member.
+#[tactic(auto, using(crate::proofs::Meets::steps_rest, crate::proofs::Meets::steps_not_allowed, crate::proofs::Meets::steps_next, crate::proofs::Meets::steps_size, crate::proofs::Meets::steps_align, crate::proofs::Meets::steps_joins, crate::proofs::Meets::steps_past))]
 pub fn step(past: SoFar, l: Value, m: MemberEntry, last: bool) -> Result<SoFar, Broken>
     requires { (ms : Members) × (t : Ty) × Meets past l ms t }
     ensures { (ms : Members) (t : Ty) → Meets past l ms t → result ≡ stepped_to last ms t (member_is m) }
@@ -106,6 +107,7 @@ pub fn step(past: SoFar, l: Value, m: MemberEntry, last: bool) -> Result<SoFar, 
 }
 
 // A struct's value. Its stride is how long its member entries are.
+#[tactic(auto, unfolding(crate::specs::SoFar::struct_of))]
 fn struct_of(e: TypeEntry, p: Ends, size: u32, long: u32) -> Value
     ensures { result ≡ struct_of long (entry_is e) p size }
 {
@@ -121,6 +123,7 @@ fn struct_of(e: TypeEntry, p: Ends, size: u32, long: u32) -> Value
     }
 }
 
+#[tactic(auto, using(crate::proofs::Ended::ended_power, crate::proofs::Ended::ended_opens, crate::proofs::Ended::ended_closes, crate::proofs::Ended::ended_past))]
 // The struct with the entry `e` whose members end as `p` says.
 fn whole(e: TypeEntry, p: Ends, long: u32) -> Result<Value, Broken>
     requires { (ms : Members) × Ended p ms }
@@ -133,6 +136,7 @@ fn whole(e: TypeEntry, p: Ends, long: u32) -> Result<Value, Broken>
     Ok(struct_of(e, p, size, long))
 }
 
+#[tactic(auto, using(crate::proofs::Ended::closes_placed, crate::proofs::Ended::closes_past))]
 // Past the last of `count` members, whose entries are so long: a struct has one at least.
 pub fn finish(e: TypeEntry, past: SoFar, count: usize, long: u32) -> Result<Value, Broken>
     requires { 1 ≤ count → (ms : Members) × Closes past ms }
@@ -146,6 +150,7 @@ pub fn finish(e: TypeEntry, past: SoFar, count: usize, long: u32) -> Result<Valu
     whole(e, p, long)
 }
 
+#[tactic(auto, using(crate::proofs::StructMade::struct_used, crate::proofs::StructMade::struct_past, crate::proofs::StructMade::struct_empty, layout_values::proofs::Unused::denied, layout_values::proofs::Unused::granted))]
 // "12 struct: reference = first member, count = members, 1 to 1,024, all within M": those members; or none, where the
 // entry is no struct's or names others.
 pub fn span_of(e: TypeEntry, members: usize) -> Span

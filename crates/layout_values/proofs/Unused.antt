@@ -2,27 +2,10 @@
 -- Assumes nothing.
 use Prim.Native.Nat.{ℕ}
 use mathlib.Core.Path.{◌≡◌, sym, ◌∙◌}
-use mathlib.Core.Bool.{Bool, true, false, not, and-true}
+use mathlib.Core.Bool.{Bool, true, false, not}
 use mathlib.Core.List.{[], ◌∷◌}
-use borrow.Author.Tests.{eq-eqb, ne_eqb, not-true, not-false}
-use lib.Dec.{eqb}
+use borrow.Author.Tests.{not-true, not-false}
 use Rattle.wgsl.specs.Rule.{unused}
-
-pub unused_first : (a b c d : ℕ) → (a ≡ 0 → ⊥) → unused (a ∷ b ∷ c ∷ d ∷ []) ≡ false
-unfolding unused
-unused_first a b c d h = rw (ne_eqb a 0 h)
-
-pub unused_second : (a b c d : ℕ) → a ≡ 0 → (b ≡ 0 → ⊥) → unused (a ∷ b ∷ c ∷ d ∷ []) ≡ false
-unfolding unused
-unused_second a b c d e h = rw (eq-eqb a 0 e, ne_eqb b 0 h)
-
-pub unused_third : (a b c d : ℕ) → a ≡ 0 → b ≡ 0 → (c ≡ 0 → ⊥) → unused (a ∷ b ∷ c ∷ d ∷ []) ≡ false
-unfolding unused
-unused_third a b c d e f h = rw (eq-eqb a 0 e, eq-eqb b 0 f, ne_eqb c 0 h)
-
-pub unused_fourth : (a b c d : ℕ) → a ≡ 0 → b ≡ 0 → c ≡ 0 → unused (a ∷ b ∷ c ∷ d ∷ []) ≡ eqb d 0
-unfolding unused
-unused_fourth a b c d e f g = rw (eq-eqb a 0 e, eq-eqb b 0 f, eq-eqb c 0 g) (and-true (eqb d 0))
 
 -- Zeros that the code puts for the fields that a kind uses change nothing.
 pub unused_one : {r : Bool} (a : ℕ) → r ≡ unused (a ∷ 0 ∷ 0 ∷ 0 ∷ []) → r ≡ unused (a ∷ [])

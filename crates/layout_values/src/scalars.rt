@@ -12,19 +12,11 @@ use file::fields::TypeEntry;
 use file::kinds::{F16, F32, I32, I64};
 
 // Whether the fields are all zero.
+#[tactic(auto, unfolding(wgsl::specs::Rule::unused))]
 pub fn zeros(a: u32, b: u32, c: u32, d: u32) -> bool
     ensures { result ≡ unused (a ∷ b ∷ c ∷ d ∷ []) }
 {
-    if a != 0 {
-        return false;
-    }
-    if b != 0 {
-        return false;
-    }
-    if c != 0 {
-        return false;
-    }
-    d == 0
+    a == 0 && b == 0 && c == 0 && d == 0
 }
 
 // The size of a scalar, and its alignment: 0 where it has none.

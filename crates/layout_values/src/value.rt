@@ -57,6 +57,7 @@ pub fn blank() -> [Value; 256]
 }
 
 // The value of entry `e`.
+#[tactic(auto, unfolding(crate::specs::Value::value_at))]
 pub fn value_at(table: &[Value], e: usize) -> Value
     requires { e < length table.now }
     ensures { result ≡ value_at table.now e }
@@ -90,6 +91,7 @@ impl Value {
     }
 
     // The words of a type, with no element of a runtime array; 0 where it has no layout.
+    #[tactic(auto, unfolding(crate::specs::Value::words_in))]
     pub fn words(self) -> u32
         requires { words_in self ≤ limit }
         ensures { result ≡ words_in self }

@@ -2,11 +2,11 @@
 ghost use Rattle.std.specs.Prelude.{◌≡◌, ◌≤◌};
 ghost use Rattle.wgsl.specs.Round.{is_power, IsPower, up, limit};
 
-// Whether `a` is a power of two: it has just one bit that is set.
+// Whether `a` is a power of two.
 pub fn is_power(a: u32) -> bool
     ensures { result ≡ is_power a }
 {
-    u32::count_ones(a) == 1
+    a.is_power_of_two()
 }
 
 // The least multiple of `a` not below `n`, by a mask.

@@ -11,7 +11,6 @@ use file::kinds::STRUCT;
 use file::trailer::check_trailer;
 use layout_table::{Ground, find};
 use layout_values::value::{Value, blank};
-use numbers::wide::wide;
 use orders_check::{all_once, end_in};
 use said::refusal::Refusal;
 use walk_decide::rest_of;
@@ -24,7 +23,7 @@ fn end_now(members: &[u8], table: &[Value], l: Value) -> usize
     if l.opens() {
         return rest_of(members, table, l).offset;
     }
-    wide(l.size)
+    l.size as usize
 }
 
 // 23 for a struct of the value `l`: every position once, and a smaller end.
@@ -32,17 +31,15 @@ fn check_struct(members: &[u8], table: &[Value], l: Value, order: &[u32]) -> Res
     requires { (ms : Members) × StructMeant members.now table.now l ms }
     ensures { StructOrdered members.now table.now l order.now result }
 {
-    let count = wide(l.count);
+    let count = l.count as usize;
     if order.len() != count {
         return Err(Refusal::NoOrder);
     }
     if !all_once(order, count) {
         return Err(Refusal::NoOrder);
     }
-    let Some(end) = end_in(members, table, l, order) else {
-        return Err(Refusal::NoOrder);
-    };
-    if wide(end) < end_now(members, table, l) {
+    let end = end_in(members, table, l, order).ok_or(Refusal::NoOrder)?;
+    if (end as usize) < end_now(members, table, l) {
         return Ok(end);
     }
     Err(Refusal::NoOrder)
@@ -57,9 +54,7 @@ fn check_entry_at(file: &[u8], e: usize, g: Ground, table: &[Value], order: &[u3
     if l.kind != STRUCT {
         return Err(Refusal::Absent);
     }
-    let start = g.start;
-    let end = g.end;
-    check_struct(&file[start..end], table, l, order)
+    check_struct(&file[g.start..g.end], table, l, order)
 }
 
 // Whether the members of entry `entry`, a struct, may stand in this order, given as their positions: every one once, a runtime array still
@@ -71,5 +66,5 @@ pub fn check_order(file: &[u8], entry: u32, order: &[u32]) -> Result<u32, Refusa
     let trailer = check_trailer(file)?;
     let mut table = blank();
     let found = find(file, trailer, entry, &mut table)?;
-    check_entry_at(file, wide(entry), found, &table, order)
+    check_entry_at(file, entry as usize, found, &table, order)
 }

@@ -12,7 +12,6 @@ use file::kinds::STRUCT;
 use file::trailer::check_trailer;
 use layout_table::{Ground, find};
 use layout_values::value::{Value, blank};
-use numbers::wide::wide;
 use orders_plan::plan_members;
 use said::refusal::Refusal;
 
@@ -21,7 +20,7 @@ fn plan_struct(members: &[u8], table: &[Value], l: Value, order: &mut [u32]) -> 
     requires { (ms : Members) × Struct members.now table.now l ms }
     ensures { StructPlanned members.now table.now l result order.old order.new }
 {
-    if order.len() < wide(l.count) {
+    if order.len() < l.count as usize {
         return Err(Refusal::Count);
     }
     plan_members(members, table, l, order);
@@ -37,9 +36,7 @@ fn plan_entry_at(file: &[u8], e: usize, g: Ground, table: &[Value], order: &mut 
     if l.kind != STRUCT {
         return Err(Refusal::Absent);
     }
-    let start = g.start;
-    let end = g.end;
-    plan_struct(&file[start..end], table, l, order)
+    plan_struct(&file[g.start..g.end], table, l, order)
 }
 
 // The positions of the members of entry `entry`, a struct, by falling alignment, ties as they stand, a runtime array last, into the front of
@@ -52,5 +49,5 @@ pub fn plan_order(file: &[u8], entry: u32, order: &mut [u32]) -> Result<u32, Ref
     let trailer = check_trailer(file)?;
     let mut table = blank();
     let found = find(file, trailer, entry, &mut table)?;
-    plan_entry_at(file, wide(entry), found, &table, order)
+    plan_entry_at(file, entry as usize, found, &table, order)
 }

@@ -15,9 +15,8 @@ ghost use Rattle.said.specs.Answer.{maybe_of};
 use file::fields::{MemberEntry, member_at};
 use layout_members::given_align;
 use layout_structs::{SoFar, no_members, step};
-use layout_values::value::{Broken, Value, value_at};
+use layout_values::value::{Value, value_at};
 use numbers::limit::round_up;
-use numbers::wide::wide;
 
 // Whether every number of the list is below `n`, at most 1,024, and no two are the same.
 pub fn all_once(order: &[u32], n: usize) -> bool
@@ -25,9 +24,8 @@ pub fn all_once(order: &[u32], n: usize) -> bool
     ensures { result ≡ (all_below n order.now && all_differ order.now) }
 {
     let mut seen = [false; 1024];
-    let mut i: usize = 0;
-    while i < order.len() {
-        let p = wide(order[i]);
+    for &position in order {
+        let p = position as usize;
         if n <= p {
             return false;
         }
@@ -35,7 +33,6 @@ pub fn all_once(order: &[u32], n: usize) -> bool
             return false;
         }
         seen[p] = true;
-        i += 1;
     }
     true
 }
@@ -47,18 +44,10 @@ fn end_after(past: SoFar, l: Value, m: MemberEntry) -> Option<u32>
     ensures { (k : ℕ) (ms : Members) (t : Ty) → Last past l (member_is m) ms t → maybe_of result ≡ laid_end k (followed ms t (member_is m)) }
 {
     if l.opens() {
-        return match past {
-            Ok(p) => round_up(given_align(m, l.align), p.end),
-            _ => None,
-        };
+        return round_up(given_align(m, l.align), past.ok()?.end);
     }
-    let Ok(all) = step(past, l, m, true) else {
-        return None;
-    };
-    match all {
-        Ok(p) => round_up(p.align, p.end),
-        _ => None,
-    }
+    let all = step(past, l, m, true).ok()?.ok()?;
+    round_up(all.align, all.end)
 }
 
 // Where a struct of the value `l` ends with its members in this order: its size, or where its runtime array starts. None where a runtime
@@ -67,23 +56,14 @@ pub fn end_in(members: &[u8], table: &[Value], l: Value, order: &[u32]) -> Optio
     requires { (ms : Members) × Struct members.now table.now l ms × (length order.now ≡ count_of ms) × (all_below (count_of ms) order.now ≡ true) }
     ensures { (k : ℕ) (ms new : Members) → Struct members.now table.now l ms → reordered ms order.now ≡ some new → maybe_of result ≡ laid_end k new }
 {
-    let first = wide(l.reference);
-    let length = wide(l.stride);
-    let last = wide(l.count) - 1;
+    let first = l.reference as usize;
+    let length = l.stride as usize;
+    let last = l.count as usize - 1;
     let mut past = no_members();
-    let mut i: usize = 0;
-    while i < last {
-        let m = member_at(members, (first + wide(order[i])) * length);
-        match step(past, value_at(table, wide(m.ty)), m, false) {
-            Ok(r) => {
-                past = r;
-            }
-            Err(Broken::Rule) => {
-                return None;
-            }
-        }
-        i += 1;
+    for &position in &order[..last] {
+        let m = member_at(members, (first + position as usize) * length);
+        past = step(past, value_at(table, m.ty as usize), m, false).ok()?;
     }
-    let m = member_at(members, (first + wide(order[last])) * length);
-    end_after(past, value_at(table, wide(m.ty)), m)
+    let m = member_at(members, (first + order[last] as usize) * length);
+    end_after(past, value_at(table, m.ty as usize), m)
 }

@@ -10,11 +10,7 @@ ghost use Rattle.orders_members.specs.Entries.{Struct};
 ghost use Rattle.orders_plan.specs.Keyed.{keyed_at};
 
 use layout_values::value::Value;
-use numbers::wide::wide;
 use orders_members::member_key;
-
-// The largest alignment.
-const LARGEST: u32 = 0x8000_0000;
 
 // Puts the positions of the members with this key, as they stand, into the list from place `k` on; answers the place after them.
 fn put_keyed(
@@ -30,8 +26,8 @@ fn put_keyed(
     ensures list { (ms : Members) → Struct members.now table.now l ms → order.new ≡ sets order.old k (keyed_at key 0 ms) }
 {
     let count = l.count;
-    let length = wide(l.stride);
-    let mut m = wide(l.reference) * length;
+    let length = l.stride as usize;
+    let mut m = l.reference as usize * length;
     let mut next = k;
     let mut i: u32 = 0;
     while i < count {
@@ -50,13 +46,9 @@ pub fn plan_members(members: &[u8], table: &[Value], l: Value, order: &mut [u32]
     requires { (ms : Members) × Struct members.now table.now l ms × (count_of ms ≤ length order.old) }
     ensures { (ms : Members) → Struct members.now table.now l ms → order.new ≡ planned_order ms ++ drop (count_of ms) order.old }
 {
-    let mut next: usize = 0;
-    let mut key = LARGEST;
-    let mut left: u32 = 32;
-    while 0 < left {
-        next = put_keyed(members, table, l, key, order, next);
-        key /= 2;
-        left -= 1;
+    let mut next = 0;
+    for shift in (0..32).rev() {
+        next = put_keyed(members, table, l, 1 << shift, order, next);
     }
     put_keyed(members, table, l, 0, order, next);
 }

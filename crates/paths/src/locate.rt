@@ -12,7 +12,6 @@ use said::target::Target;
 use file::trailer::check_trailer;
 use layout_table::{Ground, find};
 use layout_values::value::{Value, blank};
-use numbers::wide::wide;
 use said::refusal::Refusal;
 use walk_decide::{Rest, allow, elements_in, rest_of};
 use walk_path::enter::Stand;
@@ -34,7 +33,7 @@ fn held_open(x: Rest, bytes: usize) -> Option<Held>
     let elements = elements_in(bytes, x.offset, x.value.stride)?;
     Some(Held {
         elements,
-        size: x.offset + elements * wide(x.value.stride),
+        size: x.offset + elements * x.value.stride as usize,
     })
 }
 
@@ -46,7 +45,7 @@ fn held_of(members: &[u8], table: &[Value], l: Value, bytes: usize) -> Option<He
     if l.opens() {
         return held_open(rest_of(members, table, l), bytes);
     }
-    let size = wide(l.size);
+    let size = l.size as usize;
     if bytes < size {
         return None;
     }
@@ -84,9 +83,7 @@ fn target_at(
 {
     let l = g.value;
     allow(l, bytes, stored)?;
-    let start = g.start;
-    let end = g.end;
-    target_in(&file[start..end], table, e, l, path, bytes)
+    target_in(&file[g.start..g.end], table, e, l, path, bytes)
 }
 
 // What `path` leads to from entry `entry` in a buffer of so many bytes; `stored` says that the entry must be storable.
@@ -97,5 +94,5 @@ pub fn locate(file: &[u8], entry: u32, path: &[u32], bytes: usize, stored: bool)
     let trailer = check_trailer(file)?;
     let mut table = blank();
     let found = find(file, trailer, entry, &mut table)?;
-    target_at(file, wide(entry), found, &table, path, bytes, stored)
+    target_at(file, entry as usize, found, &table, path, bytes, stored)
 }

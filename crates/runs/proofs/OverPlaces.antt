@@ -7,7 +7,7 @@
 -- Assumes nothing.
 use Prim.Native.Nat.{ℕ, zero, suc, ◌+◌, ◌-◌, ◌*◌, ◌<◌, ◌≤◌}
 use mathlib.Core.Bool.{Bool, true, false, not}
-use mathlib.Core.List.{List, [], ◌∷◌, ◌++◌, map, map-append, append_assoc}
+use mathlib.Core.List.{List, [], ◌∷◌, ◌++◌, map, map-append, append-nil, append_assoc}
 use mathlib.Core.Path.{◌≡◌, refl, sym, ◌∙◌}
 use native.Mathlib.Nat.{add-zero, zero-mul, suc-mul, mul-one}
 use native.Mathlib.Omega.{arith}
@@ -88,6 +88,13 @@ repeated_append (suc m) n stride g at =
     let e : suc m + n ≡ suc (m + n) = omega arith in
     let p : at + suc m * stride ≡ at + stride + m * stride = omega (arith, suc-mul m stride) in
     rw (e, p, repeated_append m n stride g (at + stride), append_assoc)
+
+-- What a pass makes over i repetitions, and then over the next one, is what it makes over i + 1.
+pub over_more : {S : Type 0} (f : Place → ℕ → S → S) (g : ℕ → List Place) (i unit stride at k : ℕ) (s : S) → ((p : ℕ) → length (g p) ≡ unit) → over_places f (g (at + i * stride)) (k + i * unit) (over_places f (repeated i stride g at) k s) ≡ over_places f (repeated (i + 1) stride g at) k s
+unfolding repeated
+over_more f g i unit stride at k s l =
+    let before = repeated_length i stride g at unit l in
+    rw (repeated_append i 1 stride g at, append-nil, over_append f (repeated i stride g at) (g (at + i * stride)) k s, before) refl
 
 -- Repetitions of what is repeated are one repetition, where they touch.
 pub repeated_touch : {A : Type 0} (n c stride : ℕ) (g : ℕ → List A) (at : ℕ) → repeated n (c * stride) (λ p. repeated c stride g p) at ≡ repeated (n * c) stride g at

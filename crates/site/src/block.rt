@@ -51,10 +51,10 @@ fn allow_block(l: Value, mask: u64, bytes: usize) -> Result<(), Refusal>
     ensures { (t : Ty) → l ≡ value_of l.stride l.reference t → everywhere is_well_formed t ≡ true → said result ≡ block_allowed mask t bytes }
 {
     allow(l, bytes, true)?;
-    if is_block(l, mask) {
-        return Ok(());
+    if !is_block(l, mask) {
+        return Err(Refusal::NoSite);
     }
-    Err(Refusal::NoSite)
+    Ok(())
 }
 
 // Fills the table, and finds in it the block that entry `entry` is with this mask. Refuses 1 to 7, 24, 8, 17, 9, 10, 21.
@@ -64,7 +64,6 @@ pub fn find_block(file: &[u8], entry: u32, mask: u64, bytes: usize, table: &mut 
 {
     let trailer = check_trailer(file)?;
     let found = find(file, trailer, entry, table)?;
-    let l = found.value;
-    allow_block(l, mask, bytes)?;
+    allow_block(found.value, mask, bytes)?;
     Ok(found)
 }

@@ -13,7 +13,6 @@ use crate::block::find_block;
 use crate::mask::without_bit;
 use layout_table::Ground;
 use layout_values::value::{blank, Value};
-use numbers::wide::wide;
 use said::refusal::Refusal;
 use walk_path::enter::{Stand, enter};
 use walk_path::step::Step;
@@ -23,14 +22,8 @@ fn member_there(members: &[u8], table: &[Value], e: usize, k: u32) -> Result<(),
     requires { (f : List ℕ) × (ts : List Ty) × (x : Shape) × Standing f ts members.now table.now 0 (Entry e) x }
     ensures { (f : List ℕ) (ts : List Ty) (x : Shape) → Standing f ts members.now table.now 0 (Entry e) x → said result ≡ there_in x k }
 {
-    let step = Step {
-        member: true,
-        number: k,
-    };
-    match enter(members, table, 0, Stand::Entry(e), step) {
-        Ok(_) => Ok(()),
-        Err(step) => Err(step.at(0)),
-    }
+    enter(members, table, 0, Stand::Entry(e), Step::Member(k)).map_err(|step| step.at(0))?;
+    Ok(())
 }
 
 // The same in the block that was found.
@@ -38,9 +31,7 @@ fn there_in(file: &[u8], e: usize, g: Ground, table: &[Value], k: u32) -> Result
     requires { (t : Ty) × (mask : ℕ) × (bytes : ℕ) × BlockAt file.now e g table.now mask bytes t }
     ensures { (t : Ty) (mask bytes : ℕ) → BlockAt file.now e g table.now mask bytes t → said result ≡ there_in (shape_of 0 t) k }
 {
-    let start = g.start;
-    let end = g.end;
-    member_there(&file[start..end], table, e, k)
+    member_there(&file[g.start..g.end], table, e, k)
 }
 
 // Whether member `k` of a block can be cleared.
@@ -50,7 +41,7 @@ fn can_clear(file: &[u8], entry: u32, k: u32, mask: u64) -> Result<(), Refusal>
 {
     let mut table = blank();
     let found = find_block(file, entry, mask, 0, &mut table)?;
-    there_in(file, wide(entry), found, &table, k)
+    there_in(file, entry as usize, found, &table, k)
 }
 
 // Drops the bit of member `k`, which shows the factory's bytes again; the answer is 0.

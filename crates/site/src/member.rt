@@ -14,10 +14,8 @@ use crate::spot::locate_in;
 fn member_in(file: &[u8], entry: u32, k: u32, mask: u64, factory: usize, site: usize) -> Result<Target, Refusal>
     ensures { (a b : List ℕ) → length a ≡ factory → length b ≡ site → said result ≡ reached (member_call file.now entry k mask a b) }
 {
-    let none = [0u32; 1];
-    let spot = locate_in(file, entry, k, &none[..0], mask, factory, site)?;
-    let t = spot.target;
-    Ok(t)
+    let spot = locate_in(file, entry, k, &[], mask, factory, site)?;
+    Ok(spot.target)
 }
 
 // Where member `k` lies in its block: its offset, its bytes and its scalar.

@@ -10,10 +10,9 @@ ghost use Rattle.site.specs.Spot.{spot_from, spot_at, spot_call};
 ghost use Rattle.said.specs.Answer.{said};
 
 use crate::block::find_block;
-use crate::buffers::{both_have, longer};
+use crate::buffers::both_have;
 use layout_table::Ground;
 use layout_values::value::{blank, Value};
-use numbers::wide::wide;
 use said::refusal::Refusal;
 use said::target::Target;
 use walk_path::enter::{Inner, Stand, enter};
@@ -21,7 +20,7 @@ use walk_path::step::Step;
 use walk_path::walk::walk;
 
 // A member of a block, where it begins and how many bytes it has, and what a path leads to in it.
-#[derive(Clone, Copy)]
+#[derive(Clone, Copy, Debug, PartialEq, Eq)]
 pub struct Spot {
     pub from: usize,
     pub size: usize,
@@ -46,14 +45,8 @@ fn spot_at(members: &[u8], table: &[Value], e: usize, k: u32, path: &[u32]) -> R
     requires { (f : List ℕ) × (ts : List Ty) × (x : Shape) × Standing f ts members.now table.now 0 (Entry e) x }
     ensures { (f : List ℕ) (ts : List Ty) (x : Shape) → Standing f ts members.now table.now 0 (Entry e) x → said result ≡ spot_at x k path.now }
 {
-    let step = Step {
-        member: true,
-        number: k,
-    };
-    match enter(members, table, 0, Stand::Entry(e), step) {
-        Ok(i) => spot_from(members, table, i, path),
-        Err(step) => Err(step.at(0)),
-    }
+    let inner = enter(members, table, 0, Stand::Entry(e), Step::Member(k)).map_err(|step| step.at(0))?;
+    spot_from(members, table, inner, path)
 }
 
 // The same in the block that was found: 15 for either buffer, of which there are so many bytes, and then the rest.
@@ -70,13 +63,10 @@ fn spot_in(
     requires { (t : Ty) × (mask : ℕ) × BlockAt file.now e g table.now mask (max factory site) t }
     ensures { (t : Ty) (mask : ℕ) (a b : List ℕ) → BlockAt file.now e g table.now mask (max factory site) t → length a ≡ factory → length b ≡ site → said result ≡ spot_call file.now e k path.now mask a b }
 {
-    let size = wide(g.value.size);
-    if both_have(size, factory, site) {
-        let start = g.start;
-        let end = g.end;
-        return spot_at(&file[start..end], table, e, k, path);
+    if !both_have(g.value.size as usize, factory, site) {
+        return Err(Refusal::Buffer);
     }
-    Err(Refusal::Buffer)
+    spot_at(&file[g.start..g.end], table, e, k, path)
 }
 
 // Member `k` of a block of entry `entry`, and what `path` leads to in it; the buffers have so many bytes.
@@ -93,6 +83,6 @@ pub fn locate_in(
     ensures { (a b : List ℕ) → length a ≡ factory → length b ≡ site → said result ≡ spot_call file.now entry k path.now mask a b }
 {
     let mut table = blank();
-    let found = find_block(file, entry, mask, longer(factory, site), &mut table)?;
-    spot_in(file, wide(entry), found, &table, k, path, factory, site)
+    let found = find_block(file, entry, mask, factory.max(site), &mut table)?;
+    spot_in(file, entry as usize, found, &table, k, path, factory, site)
 }

@@ -4,10 +4,9 @@ ghost use Rattle.wgsl.specs.Site.{inheriting_call, fresh_call, zero_of, mask_aft
 ghost use Rattle.said.specs.Answer.{said};
 
 use crate::block::find_block;
-use crate::buffers::{both_have, longer};
+use crate::buffers::both_have;
 use crate::mask::mark_all;
 use layout_values::value::blank;
-use numbers::wide::wide;
 use puts::put;
 use said::refusal::Refusal;
 
@@ -18,7 +17,7 @@ pub fn inheriting(file: &[u8], entry: u32, mask: &mut u64) -> Result<u32, Refusa
     ensures mask { mask.new ≡ mask_after mask.old (inheriting_call file.now entry) }
 {
     let mut table = blank();
-    let found = find_block(file, entry, 0, 0, &mut table)?;
+    find_block(file, entry, 0, 0, &mut table)?;
     *mask = 0;
     Ok(0)
 }
@@ -40,13 +39,13 @@ pub fn fresh(file: &[u8], entry: u32, factory: &[u8], site: &mut [u8], mask: &mu
     ensures mask { mask.new ≡ mask_set mask.old (fresh_call file.now entry factory.now site.old) }
 {
     let mut table = blank();
-    let bytes = longer(factory.len(), site.len());
+    let bytes = factory.len().max(site.len());
     let found = find_block(file, entry, 0, bytes, &mut table)?;
-    let size = wide(found.value.size);
-    if both_have(size, factory.len(), site.len()) {
-        copy_first(size, factory, site);
-        mark_all(mask, found.value.count);
-        return Ok(0);
+    let size = found.value.size as usize;
+    if !both_have(size, factory.len(), site.len()) {
+        return Err(Refusal::Buffer);
     }
-    Err(Refusal::Buffer)
+    copy_first(size, factory, site);
+    mark_all(mask, found.value.count);
+    Ok(0)
 }

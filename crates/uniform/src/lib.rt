@@ -17,8 +17,6 @@ use file::kinds::{STRUCT, is_scalar};
 use file::trailer::check_trailer;
 use layout_table::{Ground, find};
 use layout_values::value::{Value, blank, value_at};
-use numbers::order::smaller;
-use numbers::wide::wide;
 use said::refusal::Refusal;
 use uniform_rules::keeps;
 use walk_decide::allow;
@@ -31,13 +29,13 @@ fn lowest_member(members: &[u8], told: &[u32], l: Value) -> u32
     requires { TypesInside members.now (length told.now) l.stride l.count (l.reference * l.stride) }
     ensures { result ≡ lowest_among told.now (types_at members.now l.stride l.count (l.reference * l.stride)) }
 {
-    let length = wide(l.stride);
-    let mut m = wide(l.reference) * length;
+    let length = l.stride as usize;
+    let mut m = l.reference as usize * length;
     let mut low = NO_ENTRY;
-    let mut left = wide(l.count);
+    let mut left = l.count as usize;
     while 0 < left {
-        let ty = wide(member_at(members, m).ty);
-        low = smaller(low, told[ty]);
+        let ty = member_at(members, m).ty as usize;
+        low = low.min(told[ty]);
         m += length;
         left -= 1;
     }
@@ -55,8 +53,8 @@ fn lowest_below(members: &[u8], told: &[u32], l: Value) -> u32
     if l.kind == STRUCT {
         return lowest_member(members, told, l);
     }
-    let below = wide(l.reference);
-    smaller(NO_ENTRY, told[below])
+    let below = l.reference as usize;
+    NO_ENTRY.min(told[below])
 }
 
 // The lowest broken one among entry `k` and those that it reaches, which are lower.
@@ -81,11 +79,8 @@ fn lowest_broken(members: &[u8], table: &[Value], e: usize) -> u32
     ensures { (f : List ℕ) (ts : List Ty) → Basis f ts members.now table.now → e < length ts → IsLowest f ts e result }
 {
     let mut told = [NO_ENTRY; 256];
-    let mut k: usize = 0;
-    while k <= e {
-        let low = lowest_at(members, table, &told, k);
-        told[k] = low;
-        k += 1;
+    for k in 0..e + 1 {
+        told[k] = lowest_at(members, table, &told, k);
     }
     told[e]
 }
@@ -107,7 +102,7 @@ fn verdict(low: u32) -> Result<u32, Refusal>
     if low == NO_ENTRY {
         return Ok(0);
     }
-    Err(Refusal::NotUniform(wide(low)))
+    Err(Refusal::NotUniform(low as usize))
 }
 
 // 9, 10 and 19, of entry `e`, which is found in the table.
@@ -116,9 +111,7 @@ fn uniform_at(file: &[u8], e: usize, g: Ground, table: &[Value]) -> Result<u32, 
     ensures { (t : Ty) → Meant file.now e g table.now t → said result ≡ uniform_call file.now e }
 {
     may_live(g.value)?;
-    let start = g.start;
-    let end = g.end;
-    verdict(lowest_broken(&file[start..end], table, e))
+    verdict(lowest_broken(&file[g.start..g.end], table, e))
 }
 
 // Whether entry `entry` may live in a uniform buffer: 0, or what is in the way.
@@ -129,5 +122,5 @@ pub fn uniform(file: &[u8], entry: u32) -> Result<u32, Refusal>
     let trailer = check_trailer(file)?;
     let mut table = blank();
     let found = find(file, trailer, entry, &mut table)?;
-    uniform_at(file, wide(entry), found, &table)
+    uniform_at(file, entry as usize, found, &table)
 }

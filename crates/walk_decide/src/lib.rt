@@ -15,7 +15,6 @@ ghost use Rattle.said.specs.Answer.{said};
 use file::kinds::RUNTIME;
 use layout_values::value::{Value, value_at};
 use numbers::limit::LIMIT;
-use numbers::wide::wide;
 use said::refusal::Refusal;
 use walk_trees::member_in;
 
@@ -45,7 +44,7 @@ pub fn elements_for(words: usize, first: usize, unit: u32) -> Option<usize>
     requires { (0 < unit) × (first ≤ limit) }
     ensures { result ≡ elements_of words first unit }
 {
-    let each = wide(unit);
+    let each = unit as usize;
     if words < first + each {
         return None;
     }
@@ -61,7 +60,7 @@ pub fn extent_for(bytes: usize, first: usize, stride: u32, n: usize) -> Option<u
     requires { 0 < stride }
     ensures { result ≡ extent_for bytes first stride n }
 {
-    let each = wide(stride);
+    let each = stride as usize;
     if bytes < first {
         return None;
     }
@@ -79,7 +78,7 @@ pub fn elements_in(bytes: usize, first: usize, stride: u32) -> Option<usize>
     if bytes < first {
         return None;
     }
-    let n = (bytes - first) / wide(stride);
+    let n = (bytes - first) / stride as usize;
     if n == 0 {
         return None;
     }
@@ -110,7 +109,7 @@ pub fn rest_of(members: &[u8], table: &[Value], l: Value) -> Rest
     Rest {
         value: value_at(table, p.ty),
         offset: p.start,
-        fixed: wide(l.unit),
+        fixed: l.unit as usize,
     }
 }
 
@@ -132,7 +131,7 @@ pub fn closed_rest(l: Value) -> Rest
             align: 0,
         },
         offset: 0,
-        fixed: wide(l.words()),
+        fixed: l.words() as usize,
     }
 }
 

@@ -2,7 +2,7 @@
 --
 -- In order: the next place; the path's end; a step that leads on; a step that is refused.
 -- Assumes nothing.
-use Rattle.std.specs.Prelude.{Ok}
+use Rattle.std.specs.Prelude.{Err, Ok}
 use Prim.Native.Nat.{ℕ, ◌+◌, ◌<◌, ◌≤◌}
 use mathlib.Core.List.{List, map}
 use mathlib.Core.Path.{◌≡◌}
@@ -15,6 +15,11 @@ use Rattle.wgsl.specs.Said.{good, refused, ◌>>=◌}
 use Rattle.wgsl.specs.Place.{Shape, span_of}
 use Rattle.wgsl.specs.Path.{Step, step_of, enter, walk}
 use Rattle.wgsl.proofs.Path.{target}
+use Rattle.said.specs.Answer.{said}
+use Rattle.said.specs.Target.{reached}
+use Rattle.walk_path.specs.declared.enter.NoStep.{NoStep}
+use Rattle.walk_path.specs.declared.enter.NoStep.TheVariants.{NoMember, PastEnd, NoIndex}
+use Rattle.walk_path.specs.Step.{refusal_at}
 use Rattle.walk_path.specs.declared.enter.Stand.{Stand}
 use Rattle.walk_path.specs.declared.enter.Inner.{Inner}
 use Rattle.walk_path.specs.Way.{Standing, Enters}
@@ -58,6 +63,12 @@ module _ (path : List ℕ) (k offset : ℕ) (x : Shape) where
     walk_on a y e = rw (drop-cons path k 0 more, e, add-one k)
 
     -- a step that is refused
-    pub walk_refused : (number : ℕ) → enter k x (step_of (get_or path k 0)) ≡ refused number k → walk k offset x (map step_of (drop k path)) ≡ refused number k
+    walk_refused : (number : ℕ) → enter k x (step_of (get_or path k 0)) ≡ refused number k → walk k offset x (map step_of (drop k path)) ≡ refused number k
     unfolding walk ◌>>=◌
     walk_refused number e = rw (drop-cons path k 0 more, e)
+
+    pub walk_stops : (ts : List Ty) (n : ℕ) (why : NoStep) → Enters ts n (Err why) x (step_of (get_or path k 0)) → said (Err (refusal_at why k)) ≡ reached (walk k offset x (map step_of (drop k path)))
+    unfolding Enters
+    walk_stops ts n NoMember bad = rw (walk_refused 11 (bad k))
+    walk_stops ts n PastEnd bad = rw (walk_refused 12 (bad k))
+    walk_stops ts n NoIndex bad = rw (walk_refused 13 (bad k))

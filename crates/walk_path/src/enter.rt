@@ -1,5 +1,5 @@
 // Entering a place by a step.
-ghost use Rattle.std.specs.Prelude.{◌≡◌, List, ℕ, ◌*◌, ◌<◌, ◌≤◌, length, Ok};
+ghost use Rattle.std.specs.Prelude.{◌≡◌, List, ℕ, ◌*◌, ◌<◌, ◌≤◌, length};
 ghost use Rattle.wgsl.specs.Round.{limit};
 ghost use Rattle.wgsl.specs.Types.{Ty, runtime_kind};
 ghost use Rattle.wgsl.specs.Place.{Shape};
@@ -12,8 +12,7 @@ ghost use Rattle.said.specs.Target.{kind_in};
 
 use crate::step::Step;
 use file::kinds::{ATOMIC, MATRIX, RUNTIME, STRUCT, VECTOR, is_scalar};
-use layout_values::value::{value_at, Value};
-use numbers::wide::wide;
+use layout_values::value::{Value, value_at};
 use said::refusal::Refusal;
 use said::target::NO_SCALAR;
 use walk_trees::member_in;
@@ -54,33 +53,39 @@ impl NoStep {
     }
 }
 
-
 // The bytes of entry `e`, which is no open struct. A runtime array has `n` elements.
+#[tactic(auto, unfolding(crate::specs::Way::size_at))]
 fn size_at(table: &[Value], n: usize, e: usize) -> usize
     requires { (e < length table.now) × ((value_at table.now e).kind ≡ runtime_kind → n * (value_at table.now e).stride ≤ limit) }
     ensures { result ≡ size_at table.now n e }
 {
     let r = value_at(table, e);
     if r.kind == RUNTIME {
-        return n * wide(r.stride);
+        return n * r.stride as usize;
     }
-    wide(r.size)
+    r.size as usize
 }
 
 // Entry `e` as what a step leads to.
-fn into_entry(table: &[Value], n: usize, e: usize, offset: usize) -> Result<Inner, NoStep>
+fn into_entry(table: &[Value], n: usize, e: usize, offset: usize) -> Inner
     requires { (e < length table.now) × ((value_at table.now e).kind ≡ runtime_kind → n * (value_at table.now e).stride ≤ limit) }
-    ensures { result ≡ Ok (record { offset = offset; size = size_at table.now n e; stand = Entry e }) }
+    ensures { result ≡ record { offset = offset; size = size_at table.now n e; stand = Entry e } }
 {
-    Ok(Inner {
+    Inner {
         offset,
         size: size_at(table, n, e),
         stand: Stand::Entry(e),
-    })
+    }
 }
 
 // A member step at entry `e`.
-fn enter_member(members: &[u8], table: &[Value], n: usize, e: usize, number: u32) -> Result<Inner, NoStep>
+fn enter_member(
+    members: &[u8],
+    table: &[Value],
+    n: usize,
+    e: usize,
+    number: u32,
+) -> Result<Inner, NoStep>
     requires { (f : List ℕ) × (ts : List Ty) × (x : Shape) × Standing f ts members.now table.now n (Entry e) x }
     ensures { (f : List ℕ) (ts : List Ty) (x : Shape) → Standing f ts members.now table.now n (Entry e) x → Enters ts n result x (member number) }
 {
@@ -92,10 +97,11 @@ fn enter_member(members: &[u8], table: &[Value], n: usize, e: usize, number: u32
         return Err(NoStep::NoMember);
     }
     let p = member_in(members, table, r, number);
-    into_entry(table, n, p.ty, p.start)
+    Ok(into_entry(table, n, p.ty, p.start))
 }
 
 // How many parts entry `e` has. A runtime array has `n` elements.
+#[tactic(auto, unfolding(crate::specs::Way::parts_at))]
 fn parts_at(table: &[Value], n: usize, e: usize) -> usize
     requires { e < length table.now }
     ensures { result ≡ parts_at table.now n e }
@@ -104,7 +110,7 @@ fn parts_at(table: &[Value], n: usize, e: usize) -> usize
     if r.kind == RUNTIME {
         return n;
     }
-    wide(r.count)
+    r.count as usize
 }
 
 // A part that is there: a vector's scalar, a matrix's column, an array's element.
@@ -113,16 +119,16 @@ fn enter_part(table: &[Value], n: usize, e: usize, number: u32) -> Result<Inner,
     ensures { (f : List ℕ) (ts : List Ty) (ms : List ℕ) (x : Shape) → Standing f ts ms table.now n (Entry e) x → Parted table.now n e number → Enters ts n result x (index number) }
 {
     let r = value_at(table, e);
-    let offset = wide(number) * wide(r.stride);
-    let below = wide(r.reference);
+    let offset = number as usize * r.stride as usize;
+    let below = r.reference as usize;
     if r.kind == MATRIX {
         return Ok(Inner {
             offset,
-            size: wide(r.unit) * wide(value_at(table, below).size),
+            size: r.unit as usize * value_at(table, below).size as usize,
             stand: Stand::Column(r.unit, below),
         });
     }
-    into_entry(table, n, below, offset)
+    Ok(into_entry(table, n, below, offset))
 }
 
 // An index step at entry `e`: vectors, matrices and arrays have parts.
@@ -137,7 +143,7 @@ fn enter_index(table: &[Value], n: usize, e: usize, number: u32) -> Result<Inner
     if RUNTIME < kind {
         return Err(NoStep::NoIndex);
     }
-    if parts_at(table, n, e) <= wide(number) {
+    if parts_at(table, n, e) <= number as usize {
         return Err(NoStep::PastEnd);
     }
     enter_part(table, n, e, number)
@@ -151,9 +157,9 @@ fn enter_column(table: &[Value], count: u32, e: usize, number: u32) -> Result<In
     if count <= number {
         return Err(NoStep::PastEnd);
     }
-    let width = wide(value_at(table, e).size);
+    let width = value_at(table, e).size as usize;
     Ok(Inner {
-        offset: wide(number) * width,
+        offset: number as usize * width,
         size: width,
         stand: Stand::Entry(e),
     })
@@ -184,7 +190,7 @@ pub fn kind_in(table: &[Value], p: Stand) -> u32
                 return r.kind;
             }
             if r.kind == ATOMIC {
-                return value_at(table, wide(r.reference)).kind;
+                return value_at(table, r.reference as usize).kind;
             }
             NO_SCALAR
         }

@@ -32,7 +32,11 @@ pub fn walk(
             scalar: kind_in(table, p),
         });
     }
-    let inner = enter(members, table, n, p, Step::from(path[k])).map_err(|step| step.at(k))?;
+    // a match, since the proof does not close over the closure of a `map_err`
+    let inner = match enter(members, table, n, p, Step::from(path[k])) {
+        Ok(inner) => inner,
+        Err(step) => return Err(step.at(k)),
+    };
     walk(
         members,
         table,

@@ -21,8 +21,8 @@ use Rattle.layout_values.specs.Value.{value_at}
 use Rattle.walk_trees.specs.declared.Slot.{Slot}
 use Rattle.walk_trees.specs.Slot.{part_width, member_at, slot_at}
 use Rattle.walk_trees.specs.Tree.{Many, Left, Tree}
-use Rattle.walk_trees.proofs.Many.{tree_left, many_each}
-use Rattle.walk_trees.proofs.TreeSteps.{First, left_first, left_none}
+use Rattle.walk_trees.proofs.Many.{many_each}
+use Rattle.walk_trees.proofs.TreeSteps.{First, left_first, left_none, left_all, nth_member, nth_next}
 use Rattle.walk_pieces.specs.Piece.{piece_start, piece_words, piece_width, piece_places, pieces_places, most_pieces, Inside, Touching, Added, Pieced}
 
 -- ---- pieces that stay
@@ -143,17 +143,17 @@ added_as {ps = ps} all h is = added_then all (added_none _ _ 0) h (omega arith) 
 
 -- ---- parts in turn
 
--- parts of the shape x, by the numbers of their value: each has the shape `part` of the entry `element`
-pub record Apart (ms : List ℕ) (table : List Value) (element count stride : ℕ) (x : Shape) : Type 0 where
+-- parts of the shape x, by their value: each has the shape `part` of the entry that it refers to
+pub record Apart (ms : List ℕ) (table : List Value) (r : Value) (x : Shape) : Type 0 where
   pub part : Shape
-  pub tree : Tree ms table element part
-  pub fits : span_of part ≤ stride
-  pub is : x ≡ parts count stride part
+  pub tree : Tree ms table r.reference part
+  pub fits : span_of part ≤ r.stride
+  pub is : x ≡ parts r.count r.stride part
 
-pub apart : {ms : List ℕ} {table : List Value} {r : Value} {element count stride : ℕ} {x : Shape} → Many ms table r x → part_width table r ≡ 0 → element ≡ r.reference → count ≡ r.count → stride ≡ r.stride → Apart ms table element count stride x
-apart m none e c s =
+pub apart : {ms : List ℕ} {table : List Value} {r : Value} {x : Shape} → Many ms table r x → part_width table r ≡ 0 → Apart ms table r x
+apart m none =
     let E = many_each m none in
-    rw (e, c, s) (record { part = E.part; tree = E.tree; fits = E.elements.fits; is = E.is })
+    record { part = E.part; tree = E.tree; fits = E.elements.fits; is = E.is }
 
 -- a part ends where all of them do, or before
 pub part_ends : (at i count size stride : ℕ) → i < count → size ≤ stride → at + i * stride + size ≤ at + count * stride
@@ -175,47 +175,53 @@ added_parts {c = c} {r = r} {l = l} {m = m} g count i stride at all e =
 
 -- ---- members in turn
 
--- so many members of entry e, of the shape x, are left, from byte m on; those before them are added to c pieces of l
-pub record MembersAdded (ms : List ℕ) (table : List Value) (e at c : ℕ) (l : List ℕ) (left m end r : ℕ) (l' : List ℕ) (x : Shape) : Type 0 where
+-- i members of entry e, of the value r and of the shape x, are added to c pieces of l, and the others are left
+pub record MembersAdded (ms : List ℕ) (table : List Value) (e : ℕ) (r : Value) (at c : ℕ) (l : List ℕ) (i end few : ℕ) (l' : List ℕ) (x : Shape) : Type 0 where
+  pub value_is : r ≡ value_at table e
   pub rest : Shape
-  pub rest_left : Left ms table e left m end rest
+  pub rest_left : Left ms table e (r.count - i) (nth_member r i) end rest
   pub span_is : span_of rest ≡ span_of x
   pub done : ℕ → List Place
-  pub added : Added c l done (at + span_of x) r l'
+  pub added : Added c l done (at + span_of x) few l'
   pub whole_is : (q : ℕ) → done q ++ places_of rest (q + at) ≡ places_of x (q + at)
 
 pub member_type : (ms : List ℕ) (table : List Value) (m end : ℕ) {p : Slot} → p ≡ slot_at ms table m end → p.ty ≡ (member_at ms m).type
 unfolding slot_at
 member_type ms table m end is = ap (λ (q : Slot). q.ty) is
 
-pub members_start_lem : {ms : List ℕ} {table : List Value} {e : ℕ} (at c : ℕ) (l : List ℕ) {x : Shape} → Tree ms table e x → (value_at table e).kind ≡ struct_kind → MembersAdded ms table e at c l (value_at table e).count ((value_at table e).reference * (value_at table e).stride) 0 c l x
-members_start_lem at c l {x} t kind =
+pub members_start_lem : {ms : List ℕ} {table : List Value} {e : ℕ} {r : Value} (at c : ℕ) (l : List ℕ) {x : Shape} → Tree ms table e x → r ≡ value_at table e → r.kind ≡ struct_kind → MembersAdded ms table e r at c l 0 0 c l x
+members_start_lem at c l {x} t is kind =
     record {
+      value_is = is;
       rest = x;
-      rest_left = tree_left t kind;
+      rest_left = left_all t is kind;
       span_is = refl;
       done = λ q. [];
       added = added_none c l (at + span_of x);
       whole_is = λ q. refl;
     }
 
-module _ {ms : List ℕ} {table : List Value} {e at c : ℕ} {l : List ℕ} {left m end r : ℕ} {l' : List ℕ} {x : Shape} (now : MembersAdded ms table e at c l left m end r l' x) where
+module _ {ms : List ℕ} {table : List Value} {e : ℕ} {r : Value} {at c : ℕ} {l : List ℕ} {i end few : ℕ} {l' : List ℕ} {x : Shape} (now : MembersAdded ms table e r at c l i end few l' x) where
   -- the member whose turn it is
-  pub member_first : 0 < left → First ms table e left m end now.rest
-  member_first h = left_first now.rest_left h
+  pub member_first : i < r.count → First ms table e (r.count - (i + 1)) (nth_member r i) end now.rest
+  member_first h = left_first now.rest_left (omega arith)
 
-  pub member_within : (h : 0 < left) → (slot_at ms table m end).start + span_of (member_first h).y ≤ span_of x
+  member_within : (h : i < r.count) → (slot_at ms table (nth_member r i) end).start + span_of (member_first h).y ≤ span_of x
   unfolding span_of
   member_within h =
       omega (arith, (member_first h).member.within, sym (ap span_of (member_first h).is) ∙ now.span_is)
 
-  pub member_added : {p : Slot} {step r' : ℕ} {m' : List ℕ} → 0 < left → p ≡ slot_at ms table m end → step ≡ (value_at table e).stride → ((y : Shape) → Tree ms table p.ty y → Added r l' (λ q. places_of y (q + (at + p.start))) (at + p.start + span_of y) r' m') → MembersAdded ms table e at c l (left - 1) (m + step) p.end r' m' x
+  pub member_low : {p : Slot} (h : i < r.count) → p ≡ slot_at ms table (nth_member r i) end → at + span_of x ≤ limit → at + p.start + span_of (member_first h).y ≤ limit
+  member_low h is low = omega (arith, member_within h, ap (λ (s : Slot). s.start) is)
+
+  pub member_added : {p : Slot} {few' : ℕ} {m' : List ℕ} → i < r.count → p ≡ slot_at ms table (nth_member r i) end → ((y : Shape) → Tree ms table p.ty y → Added few l' (λ q. places_of y (q + (at + p.start))) (at + p.start + span_of y) few' m') → MembersAdded ms table e r at c l (i + 1) p.end few' m' x
   unfolding span_of places_of slot_at
-  member_added {p} h is q add =
+  member_added {p} h is add =
       let f = member_first h in
       record {
+        value_is = now.value_is;
         rest = f.rest;
-        rest_left = rw (is, q) f.rest_left;
+        rest_left = rw (is, nth_next r i) (rw (← now.value_is) at f.rest_left);
         span_is = sym (ap span_of f.is) ∙ now.span_is;
         done = λ b. now.done b ++ places_of f.y (b + (at + p.start));
         added = added_then now.added (add f.y (rw is f.tree)) (omega arith) (omega (arith, member_within h, ap (λ (s : Slot). s.start) is)) (λ b. refl);
@@ -225,7 +231,7 @@ module _ {ms : List ℕ} {table : List Value} {e at c : ℕ} {l : List ℕ} {lef
             ∙ rw (o, is) (rw f.is at (now.whole_is b));
       }
 
-  pub members_added : left ≤ 0 → Added c l (λ q. places_of x (q + at)) (at + span_of x) r l'
+  pub members_added : r.count ≤ i → Added c l (λ q. places_of x (q + at)) (at + span_of x) few l'
   members_added h =
       added_as now.added (omega arith)
       (λ q. sym (append-nil (now.done q)) ∙ rw (← left_none now.rest_left (omega arith) (q + at)) (now.whole_is q))

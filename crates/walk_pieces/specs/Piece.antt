@@ -39,9 +39,6 @@ pieces_places (suc c) l at = pieces_places c l at ++ piece_places l c at
 abbrev pub most_pieces : ℕ
 most_pieces = 32
 
-abbrev pub Listed : List ℕ → Type 0
-Listed l = length l ≡ 3 * most_pieces
-
 -- ---- where they lie
 
 -- the first c pieces have words of two bytes or of four, and end at `end` or before
@@ -66,9 +63,8 @@ pub record Added (c : ℕ) (l : List ℕ) (ps : ℕ → List Place) (most r : �
 abbrev pub Gathered : ℕ → List ℕ → (ℕ → List Place) → ℕ → ℕ → List ℕ → Type 0
 Gathered c l ps most r m = r ≤ most_pieces → Added c l ps most r m
 
--- the list has room for all pieces; there are not too many yet, and the numbers of one that ends at `end` or before fit
+-- there are not too many yet, and the numbers of one that ends at `end` or before fit
 pub record Asks (c : ℕ) (l : List ℕ) (end : ℕ) : Type 0 where
-  pub long : Listed l
   pub few : c ≤ most_pieces
   pub inside : Inside c l limit
   pub low : end ≤ limit

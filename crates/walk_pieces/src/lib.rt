@@ -9,11 +9,10 @@ ghost use Rattle.wgsl.specs.Types.{struct_kind};
 ghost use Rattle.runs.specs.Run.{run_places, part_places};
 ghost use Rattle.layout_values.specs.Value.{value_at};
 ghost use Rattle.walk_trees.specs.Tree.{Many, Tree};
-ghost use Rattle.walk_pieces.specs.Piece.{piece_of, most_pieces, Asks, Touching, Gathered, Pieced, WordsAsk, PartsAsk, PiecesAsk, Listed};
+ghost use Rattle.walk_pieces.specs.Piece.{piece_of, most_pieces, Asks, Touching, Gathered, Pieced, WordsAsk, PartsAsk, PiecesAsk};
 
 use file::kinds::STRUCT;
 use layout_values::value::{Value, value_at};
-use numbers::wide::wide;
 use runs::Parts;
 use walk_trees::{parts_of, slot_after};
 
@@ -44,14 +43,14 @@ pub fn piece_at(pieces: &Pieces, j: usize) -> Piece
     ensures { result ≡ piece_of pieces.now j }
 {
     Piece {
-        start: wide(pieces[3 * j]),
-        words: wide(pieces[3 * j + 1]),
-        width: wide(pieces[3 * j + 2]),
+        start: pieces[3 * j] as usize,
+        words: pieces[3 * j + 1] as usize,
+        width: pieces[3 * j + 2] as usize,
     }
 }
 
 // Whether a run that begins at `at`, of words of `width` bytes, touches the last of `k` pieces, which has such words too.
-fn touches(pieces: &[u32], k: usize, at: usize, width: u32) -> bool
+fn touches(pieces: &Pieces, k: usize, at: usize, width: u32) -> bool
     requires { Asks k pieces.now at }
     ensures { result ≡ true → Touching k pieces.now at width }
 {
@@ -62,18 +61,17 @@ fn touches(pieces: &[u32], k: usize, at: usize, width: u32) -> bool
     if pieces[last + 2] != width {
         return false;
     }
-    wide(pieces[last]) + wide(pieces[last + 1]) * wide(width) == at
+    pieces[last] as usize + pieces[last + 1] as usize * width as usize == at
 }
 
 // Adds a run of `n` words of `width` bytes each, from byte `at` on, to `k` pieces; answers how many there are then, more than `MOST` where
 // it was one too many.
-fn add_run(pieces: &mut [u32], k: usize, at: usize, n: usize, width: u32) -> usize
+fn add_run(pieces: &mut Pieces, k: usize, at: usize, n: usize, width: u32) -> usize
     requires { WordsAsk k pieces.old at n width }
     ensures { Gathered k pieces.old (λ q. run_places n width (q + at)) (at + n * width) result pieces.new }
 {
     if touches(pieces, k, at, width) {
-        let words = 3 * (k - 1) + 1;
-        pieces[words] = pieces[words] + n as u32;
+        pieces[3 * (k - 1) + 1] += n as u32;
         return k;
     }
     if k == MOST {
@@ -86,7 +84,7 @@ fn add_run(pieces: &mut [u32], k: usize, at: usize, n: usize, width: u32) -> usi
 }
 
 // The same of parts: one run where they touch.
-fn add_parts(pieces: &mut [u32], k: usize, at: usize, p: Parts) -> usize
+fn add_parts(pieces: &mut Pieces, k: usize, at: usize, p: Parts) -> usize
     requires { PartsAsk k pieces.old at p }
     ensures { Gathered k pieces.old (λ q. part_places p.count p.unit p.width p.stride (q + at)) (at + p.count * p.stride) result pieces.new }
 {
@@ -95,13 +93,11 @@ fn add_parts(pieces: &mut [u32], k: usize, at: usize, p: Parts) -> usize
         return add_run(pieces, k, at, p.count * p.unit, width);
     }
     let mut few = k;
-    let mut i: usize = 0;
-    while i < p.count {
+    for i in 0..p.count {
         if MOST < few {
             return few;
         }
         few = add_run(pieces, few, at + i * p.stride, p.unit, width);
-        i += 1;
     }
     few
 }
@@ -114,7 +110,7 @@ fn add_entry(
     table: &[Value],
     e: usize,
     at: usize,
-    pieces: &mut [u32],
+    pieces: &mut Pieces,
     k: usize,
 ) -> usize
     requires { (x : Shape) × Tree members.now table.now e x × PiecesAsk k pieces.old at x }
@@ -122,7 +118,7 @@ fn add_entry(
 {
     let r = value_at(table, e);
     if r.kind == STRUCT {
-        return add_struct(members, table, e, at, pieces, k);
+        return add_struct(members, table, e, r, at, pieces, k);
     }
     add_many(members, table, r, at, pieces, k)
 }
@@ -134,7 +130,7 @@ fn add_many(
     table: &[Value],
     r: Value,
     at: usize,
-    pieces: &mut [u32],
+    pieces: &mut Pieces,
     k: usize,
 ) -> usize
     requires { (x : Shape) × Many members.now table.now r x × PiecesAsk k pieces.old at x }
@@ -144,17 +140,14 @@ fn add_many(
     if p.width != 0 {
         return add_parts(pieces, k, at, p);
     }
-    let count = wide(r.count);
-    let stride = wide(r.stride);
-    let element = wide(r.reference);
+    let stride = r.stride as usize;
+    let element = r.reference as usize;
     let mut few = k;
-    let mut i: usize = 0;
-    while i < count {
+    for i in 0..r.count as usize {
         if MOST < few {
             return few;
         }
         few = add_entry(members, table, element, at + i * stride, pieces, few);
-        i += 1;
     }
     few
 }
@@ -165,28 +158,25 @@ fn add_struct(
     members: &[u8],
     table: &[Value],
     e: usize,
+    r: Value,
     at: usize,
-    pieces: &mut [u32],
+    pieces: &mut Pieces,
     k: usize,
 ) -> usize
-    requires { (x : Shape) × Tree members.now table.now e x × ((value_at table.now e).kind ≡ struct_kind) × PiecesAsk k pieces.old at x }
+    requires { (x : Shape) × Tree members.now table.now e x × (r ≡ value_at table.now e) × (r.kind ≡ struct_kind) × PiecesAsk k pieces.old at x }
     ensures { (x : Shape) → Tree members.now table.now e x → Gathered k pieces.old (λ q. places_of x (q + at)) (at + span_of x) result pieces.new }
 {
-    let r = value_at(table, e);
-    let length = wide(r.stride);
-    let mut m = wide(r.reference) * length;
-    let mut left = wide(r.count);
-    let mut end: usize = 0;
+    let length = r.stride as usize;
+    let first = r.reference as usize * length;
+    let mut end = 0;
     let mut few = k;
-    while 0 < left {
+    for i in 0..r.count as usize {
         if MOST < few {
             return few;
         }
-        let p = slot_after(members, table, m, end);
+        let p = slot_after(members, table, first + length * i, end);
         few = add_entry(members, table, p.ty, at + p.start, pieces, few);
         end = p.end;
-        m += length;
-        left -= 1;
     }
     few
 }
@@ -200,9 +190,8 @@ pub fn pieces_of(
     elements: usize,
     pieces: &mut Pieces,
 ) -> usize
-    requires { ((x : Shape) × Tree members.now table.now e x × (span_of x ≤ limit)) × Listed pieces.old }
-    ensures found { result ≤ most_pieces → (x : Shape) → Tree members.now table.now e x → Pieced x result pieces.new }
-    ensures long { Listed pieces.new }
+    requires { (x : Shape) × Tree members.now table.now e x × (span_of x ≤ limit) }
+    ensures { result ≤ most_pieces → (x : Shape) → Tree members.now table.now e x → Pieced x result pieces.new }
 {
     if elements < 4 {
         return MOST + 1;

@@ -12,9 +12,10 @@ use Rattle.wgsl.specs.Place.{Shape, parts, span_of, places_of}
 use Rattle.wgsl.specs.Shapes.{shape_words}
 use Rattle.runs.specs.Run.{run_places}
 use Rattle.layout_values.specs.declared.value.Value.{Value}
+use Rattle.walk_trees.specs.declared.Series.{Series}
 use Rattle.walk_trees.specs.declared.Slot.{Slot}
 use Rattle.layout_values.specs.Value.{value_at, words_in}
-use Rattle.walk_trees.specs.Slot.{packed_as, part_width, member_at, slot_at}
+use Rattle.walk_trees.specs.Slot.{packed_as, part_width, member_at, slot_at, series_of}
 use Rattle.walk_trees.specs.Tree.{Elements, Many, Tree, Room, EachRoom, MemberRoom}
 use Rattle.walk_trees.proofs.Many.{tree_valued, many_each, depth, depth_each}
 
@@ -35,19 +36,19 @@ each_room {count} {unit} {i} room h =
       words_there = omega (arith, room.unit_is, room.words_there, mul-le-mul_right {m = i + 1} {n = count} unit (omega arith));
     }
 
--- Parts that are entries, with the numbers of their layout: an entry for each, and room; and so of any shape that the layout has.
-pub record Each (ms : List ℕ) (table : List Value) (r : Value) (element count unit stride at bytes k ws : ℕ) : Type 0 where
+-- Parts that are entries: an entry for each, and room; and so of any shape that the layout has.
+pub record Each (ms : List ℕ) (table : List Value) (r : Value) (q : Series) (at bytes k ws : ℕ) : Type 0 where
   pub y : Shape
-  pub tree : Tree ms table element y
-  pub room : EachRoom y count unit stride at bytes k ws
-  pub low : span_of y ≤ stride
-  pub deep : depth table r ≡ 5 * element + 5
-  pub any : (x : Shape) → Many ms table r x → (z : Shape) × Tree ms table element z × (x ≡ parts count stride z)
+  pub tree : Tree ms table r.reference y
+  pub room : EachRoom y q.count q.unit q.stride at bytes k ws
+  pub low : span_of y ≤ q.stride
+  pub deep : depth table r ≡ 5 * r.reference + 5
+  pub any : (x : Shape) → Many ms table r x → (z : Shape) × Tree ms table r.reference z × (x ≡ parts q.count q.stride z)
 
-pub each_entry : {ms : List ℕ} {table : List Value} {r : Value} {x : Shape} {element count unit stride at bytes k ws : ℕ} → Many ms table r x → part_width table r ≡ 0 → Room x at bytes k ws → element ≡ r.reference → count ≡ r.count → unit ≡ r.unit → stride ≡ r.stride → Each ms table r element count unit stride at bytes k ws
-each_entry {table} {r} m w room e c u s =
+pub each_entry : {ms : List ℕ} {table : List Value} {r : Value} {x : Shape} {q : Series} {at bytes k ws : ℕ} → Many ms table r x → part_width table r ≡ 0 → Room x at bytes k ws → q ≡ series_of r → Each ms table r q at bytes k ws
+each_entry {table} {r} m w room is =
     let m₀ = many_each m w in
-    rw (e, c, u, s)
+    rw is
     (record {
       y = m₀.part;
       tree = m₀.tree;

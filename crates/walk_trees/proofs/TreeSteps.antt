@@ -5,10 +5,9 @@
 -- proofs/OverPlaces), `Walk` over members.
 -- Not here: what a tree says (`Many`), room (`Room`).
 -- Assumes nothing.
-use Prim.Native.Nat.{ℕ, ◌+◌, ◌-◌, ◌*◌, ◌<◌, ◌≤◌}
+use Prim.Native.Nat.{ℕ, suc, ◌+◌, ◌-◌, ◌*◌, ◌<◌, ◌≤◌}
 use mathlib.Core.List.{List, []}
 use mathlib.Core.Path.{◌≡◌, refl, ap, sym, ◌∙◌}
-use native.Mathlib.Numerals.{sub-one}
 use native.Mathlib.Omega.{arith}
 use Rattle.wgsl.specs.Place.{Shape, parts, field, span_of, Place, places_of}
 use Rattle.wgsl.specs.Shapes.{shape_words}
@@ -58,50 +57,67 @@ pub over_field : {S : Type 0} (f : Place → ℕ → S → S) (o : ℕ) (y rest 
 unfolding places_of
 over_field f o y rest at k s = rw (← places_words y (at + o)) (sym (over_append f (places_of y (at + o)) (places_of rest at) k s))
 
--- so many members of entry e are left, from byte m and word `next` on; they, from s on, are all of the entry from s₀ on
-pub record Walk {S : Type 0} (f : Place → ℕ → S → S) (ms : List ℕ) (table : List Value) (e at bytes k ws : ℕ) (s₀ : S) (left m end next : ℕ) (s : S) : Type 0 where
-  pub rest : Shape
-  pub rest_left : Left ms table e left m end rest
-  pub room : Room rest at bytes next ws
-  pub same : (x : Shape) → Tree ms table e x → over_places f (places_of rest at) next s ≡ over_places f (places_of x at) k s₀
-
-pub walk_start : {S : Type 0} (f : Place → ℕ → S → S) {ms : List ℕ} {table : List Value} {e at bytes k ws : ℕ} {x : Shape} (s₀ : S) → Tree ms table e x → (value_at table e).kind ≡ struct_kind → Room x at bytes k ws → Walk f ms table e at bytes k ws s₀ (value_at table e).count ((value_at table e).reference * (value_at table e).stride) 0 k s₀
-walk_start f {at} {k} {x} s₀ t kind room =
-    record {
-      rest = x;
-      rest_left = tree_left t kind;
-      room = room;
-      same = λ y t'. ap (λ (ps : List Place). over_places f ps k s₀) (tree_one t t' at);
-    }
-
--- the first of the members that are left, of the shape y, and what is left after it
+-- the first of some members, of the shape y, and what is left after it: so many members
 pub record First (ms : List ℕ) (table : List Value) (e left m end : ℕ) (x : Shape) : Type 0 where
   pub y : Shape
   pub rest : Shape
   pub is : x ≡ field (slot_at ms table m end).start y rest
   pub member : Member ms table e m end y rest
   pub tree : Tree ms table (member_at ms m).type y
-  pub rest_left : Left ms table e (left - 1) (m + (value_at table e).stride) (slot_at ms table m end).end rest
+  pub rest_left : Left ms table e left (m + (value_at table e).stride) (slot_at ms table m end).end rest
 
-pub left_first : {ms : List ℕ} {table : List Value} {e left m end : ℕ} {x : Shape} → Left ms table e left m end x → 0 < left → First ms table e left m end x
+pub left_first : {ms : List ℕ} {table : List Value} {e n left m end : ℕ} {x : Shape} → Left ms table e n m end x → n ≡ suc left → First ms table e left m end x
 left_first none h = absurd (omega arith)
-left_first {ms} {table} {e} {m} {end} (more {c = c} {y = y} {rest = rest} M t l) h =
-    record { y = y; rest = rest; is = refl; member = M; tree = t; rest_left = rw sub-one l }
+left_first {ms} {table} {e} {left = left} {m} {end} (more {c = c} {y = y} {rest = rest} M t l) h =
+    let same : left ≡ c = omega arith in
+    record { y = y; rest = rest; is = refl; member = M; tree = t; rest_left = rw same l }
 
 pub left_none : {ms : List ℕ} {table : List Value} {e left m end : ℕ} {x : Shape} → Left ms table e left m end x → left ≡ 0 → (at : ℕ) → places_of x at ≡ []
 unfolding places_of
 left_none none h at = refl
 left_none (more M t l) h at = absurd (omega arith)
 
-module _ {S : Type 0} {f : Place → ℕ → S → S} {ms : List ℕ} {table : List Value} {e at bytes k ws : ℕ} {s₀ : S} {left m end next : ℕ} {s : S} (now : Walk f ms table e at bytes k ws s₀ left m end next s) where
-  -- the member whose turn it is
-  pub walk_first : 0 < left → First ms table e left m end now.rest
-  walk_first h = left_first now.rest_left h
+-- where the entry of member i begins, of a struct of the value r
+abbrev pub nth_member : Value → ℕ → ℕ
+nth_member r i = r.reference * r.stride + r.stride * i
 
-  field_room : (h : 0 < left) → Room (field (slot_at ms table m end).start (walk_first h).y (walk_first h).rest) at bytes next ws
+pub nth_next : (r : Value) (i : ℕ) → nth_member r (i + 1) ≡ nth_member r i + r.stride
+nth_next r i = omega arith
+
+-- i members of entry e, of the value r, are done; those that are left, from word `next` and from s on, are all of the entry from s₀ on
+pub record Walk {S : Type 0} (f : Place → ℕ → S → S) (ms : List ℕ) (table : List Value) (e : ℕ) (r : Value) (at bytes k ws : ℕ) (s₀ : S) (i end next : ℕ) (s : S) : Type 0 where
+  pub value_is : r ≡ value_at table e
+  pub rest : Shape
+  pub rest_left : Left ms table e (r.count - i) (nth_member r i) end rest
+  pub room : Room rest at bytes next ws
+  pub same : (x : Shape) → Tree ms table e x → over_places f (places_of rest at) next s ≡ over_places f (places_of x at) k s₀
+
+-- all members are left
+pub left_all : {ms : List ℕ} {table : List Value} {e : ℕ} {r : Value} {x : Shape} → Tree ms table e x → r ≡ value_at table e → r.kind ≡ struct_kind → Left ms table e (r.count - 0) (nth_member r 0) 0 x
+left_all {r = r} t is kind =
+    let first : nth_member r 0 ≡ r.reference * r.stride = omega arith in
+    let all : r.count - 0 ≡ r.count = omega arith in
+    rw (first, all, is) (tree_left t (rw is at kind))
+
+pub walk_start : {S : Type 0} (f : Place → ℕ → S → S) {ms : List ℕ} {table : List Value} {e at bytes k ws : ℕ} {r : Value} {x : Shape} (s₀ : S) → Tree ms table e x → r ≡ value_at table e → r.kind ≡ struct_kind → Room x at bytes k ws → Walk f ms table e r at bytes k ws s₀ 0 0 k s₀
+walk_start f {at} {k} {x} s₀ t is kind room =
+    record {
+      value_is = is;
+      rest = x;
+      rest_left = left_all t is kind;
+      room = room;
+      same = λ y t'. ap (λ (ps : List Place). over_places f ps k s₀) (tree_one t t' at);
+    }
+
+module _ {S : Type 0} {f : Place → ℕ → S → S} {ms : List ℕ} {table : List Value} {e : ℕ} {r : Value} {at bytes k ws : ℕ} {s₀ : S} {i end next : ℕ} {s : S} (now : Walk f ms table e r at bytes k ws s₀ i end next s) where
+  -- the member whose turn it is
+  pub walk_first : i < r.count → First ms table e (r.count - (i + 1)) (nth_member r i) end now.rest
+  walk_first h = left_first now.rest_left (omega arith)
+
+  field_room : (h : i < r.count) → Room (field (slot_at ms table (nth_member r i) end).start (walk_first h).y (walk_first h).rest) at bytes next ws
   field_room h = rw (walk_first h).is at now.room
 
-  pub walk_room : (h : 0 < left) → MemberRoom ms table m end (walk_first h).y at bytes next ws
+  pub walk_room : (h : i < r.count) → MemberRoom ms table (nth_member r i) end (walk_first h).y at bytes next ws
   unfolding span_of shape_words
   walk_room h =
       record {
@@ -113,24 +129,25 @@ module _ {S : Type 0} {f : Place → ℕ → S → S} {ms : List ℕ} {table : L
         };
       }
 
-  module _ (h : 0 < left) {p : Slot} (is : p ≡ slot_at ms table m end) where
+  module _ (h : i < r.count) {p : Slot} (is : p ≡ slot_at ms table (nth_member r i) end) where
     pub walk_words : next + p.words ≤ ws
     walk_words = omega (arith, (walk_room h).room.words_there, member_words (walk_room h) is)
 
-    pub walk_next : {s' : S} {step : ℕ} → step ≡ (value_at table e).stride → ((y : Shape) → Tree ms table (slot_at ms table m end).ty y → s' ≡ over_places f (places_of y (at + (slot_at ms table m end).start)) next s) → Walk f ms table e at bytes k ws s₀ (left - 1) (m + step) p.end (next + p.words) s'
+    pub walk_next : {s' : S} → ((y : Shape) → Tree ms table (slot_at ms table (nth_member r i) end).ty y → s' ≡ over_places f (places_of y (at + (slot_at ms table (nth_member r i) end).start)) next s) → Walk f ms table e r at bytes k ws s₀ (i + 1) p.end (next + p.words) s'
     unfolding span_of shape_words
-    walk_next q done =
+    walk_next done =
         let w : shape_words (walk_first h).y ≡ p.words = member_words (walk_room h) is in
         record {
+          value_is = now.value_is;
           rest = (walk_first h).rest;
-          rest_left = rw (is, q) (walk_first h).rest_left;
+          rest_left = rw (is, nth_next r i) (rw (← now.value_is) at (walk_first h).rest_left);
           room = record { bytes_there = (field_room h).bytes_there; words_there = omega (arith, (field_room h).words_there, w) };
           same = λ x t.
               rw (done (walk_first h).y (rw (← is) (type_tree (walk_room h) is)), ← w)
-              (over_field f (slot_at ms table m end).start (walk_first h).y (walk_first h).rest at next s
+              (over_field f (slot_at ms table (nth_member r i) end).start (walk_first h).y (walk_first h).rest at next s
               ∙ (rw (walk_first h).is at (now.same x t)));
         }
 
-  pub walk_none : left ≤ 0 → (x : Shape) → Tree ms table e x → s ≡ over_places f (places_of x at) k s₀
+  pub walk_none : r.count ≤ i → (x : Shape) → Tree ms table e x → s ≡ over_places f (places_of x at) k s₀
   unfolding over_places
   walk_none h x t = rw (left_none now.rest_left (omega arith) at) at (now.same x t)

@@ -1,6 +1,6 @@
 -- Where a member lies, by the table and the member entries of a file; and which words lie one after the other.
 --
--- In order: words that lie one after the other; a member's place; a member further on.
+-- In order: words that lie one after the other; the elements of an array; a member's place; a member further on.
 -- Definitions only. Assumes nothing.
 use Rattle.std.specs.Prelude.{ℕ, zero, suc, ◌+◌, ◌*◌, ◌<◌, ◌≤◌, cond, List, eqb, ltb, length}
 use Rattle.layout_members.specs.Given.{or_own}
@@ -9,6 +9,7 @@ use Rattle.wgsl.specs.File.{MemberEntry, member_entry_from, given_size, given_al
 use Rattle.wgsl.specs.Types.{array_kind, runtime_kind}
 use Rattle.layout_values.specs.declared.value.Value.{Value}
 use Rattle.layout_values.specs.Value.{value_at, words_in}
+use Rattle.walk_trees.specs.declared.Series.{Series}
 use Rattle.walk_trees.specs.declared.Slot.{Slot}
 
 -- ---- words that lie one after the other
@@ -61,6 +62,11 @@ with_count n l =
       size = l.size;
       align = l.align;
     }
+
+-- ---- the elements of an array
+
+abbrev pub series_of : Value → Series
+series_of l = record { count = l.count; unit = l.unit; stride = l.stride }
 
 -- ---- a member's place; its entry begins at byte m of the member entries
 

@@ -4,7 +4,7 @@
 ghost use Rattle.std.specs.Prelude.{◌≡◌, List, ℕ, ◌+◌, ◌*◌, ◌<◌, ◌≤◌, length};
 ghost use Rattle.wgsl.specs.Place.{Shape, parts};
 ghost use Rattle.wgsl.specs.Round.{IsPower, up, limit};
-ghost use Rattle.walk_trees.specs.Slot.{packed_as, part_width, touching, run_at, Counted, Referring, RunAsks, slot_at, SlotAsks, slot_in, SlotsAsk};
+ghost use Rattle.walk_trees.specs.Slot.{packed_as, part_width, touching, run_at, Counted, Referring, RunAsks, series_of, slot_at, SlotAsks, slot_in, SlotsAsk};
 ghost use Rattle.walk_trees.specs.Tree.{Many, RunsOf};
 
 use file::fields::member_at;
@@ -12,7 +12,6 @@ use file::kinds::{ARRAY, RUNTIME, STRUCT};
 use layout_members::{given_align, given_size};
 use layout_values::value::{Value, value_at};
 use numbers::power::up_power;
-use numbers::wide::wide;
 use runs::Parts;
 
 // Where a member lies in its struct.
@@ -32,7 +31,21 @@ pub struct Series {
     pub stride: usize,
 }
 
+// The elements that an array's value says.
+impl From<Value> for Series {
+    ghost from_gives = { λ l result. result ≡ series_of l };
+
+    fn from(l: Value) -> Series {
+        Series {
+            count: l.count as usize,
+            unit: l.unit as usize,
+            stride: l.stride as usize,
+        }
+    }
+}
+
 // The width of a type's words, where they fill its size, one after the other; else 0.
+#[tactic(auto, unfolding(crate::specs::Slot::packed_as))]
 pub fn packed(l: Value) -> u32
     requires { Counted l }
     ensures { result ≡ packed_as l }
@@ -44,6 +57,7 @@ pub fn packed(l: Value) -> u32
 }
 
 // The same of the words of each part of an entry that is no struct.
+#[tactic(auto, unfolding(crate::specs::Slot::part_width))]
 fn part_width(table: &[Value], l: Value) -> u32
     requires { Referring table.now l }
     ensures { result ≡ part_width table.now l }
@@ -54,20 +68,22 @@ fn part_width(table: &[Value], l: Value) -> u32
     if RUNTIME < l.kind {
         return l.narrow;
     }
-    packed(value_at(table, wide(l.reference)))
+    packed(value_at(table, l.reference as usize))
 }
 
 // The width of words in parts that touch each other; else 0.
+#[tactic(auto, unfolding(crate::specs::Slot::touching))]
 fn touch(stride: u32, words: u32, width: u32) -> u32
     ensures { result ≡ touching stride words width }
 {
-    if wide(stride) == wide(words) * wide(width) {
+    if stride as usize == words as usize * width as usize {
         return width;
     }
     0
 }
 
 // The same of the words of entry `e`, whatever the number of its elements where it is a runtime array.
+#[tactic(auto, unfolding(crate::specs::Slot::run_at))]
 pub fn run_at(table: &[Value], e: usize) -> u32
     requires { RunAsks table.now e }
     ensures { result ≡ run_at table.now e }
@@ -97,15 +113,15 @@ fn row_of(table: &[Value], l: Value, x: Value) -> Parts
     requires { (ms : List ℕ) × (y : Shape) × Many ms table.now x y }
     ensures { (result.width ≡ 0 → ⊥) → (ms : List ℕ) (y : Shape) → Many ms table.now x y → RunsOf result (parts l.count l.stride y) }
 {
-    let count = wide(x.count);
-    let stride = wide(x.stride);
-    if wide(l.stride) != count * stride {
+    let count = x.count as usize;
+    let stride = x.stride as usize;
+    if l.stride as usize != count * stride {
         return no_parts();
     }
     Parts {
-        count: wide(l.count) * count,
-        unit: wide(x.unit),
-        width: wide(part_width(table, x)),
+        count: l.count as usize * count,
+        unit: x.unit as usize,
+        width: part_width(table, x) as usize,
         stride,
     }
 }
@@ -120,13 +136,13 @@ pub fn parts_of(table: &[Value], l: Value) -> Parts
     let width = part_width(table, l);
     if width != 0 {
         return Parts {
-            count: wide(l.count),
-            unit: wide(l.unit),
-            width: wide(width),
-            stride: wide(l.stride),
+            count: l.count as usize,
+            unit: l.unit as usize,
+            width: width as usize,
+            stride: l.stride as usize,
         };
     }
-    let x = value_at(table, wide(l.reference));
+    let x = value_at(table, l.reference as usize);
     if x.kind == STRUCT {
         return no_parts();
     }
@@ -138,12 +154,12 @@ fn put_after(ty: usize, align: u32, size: u32, words: u32, end: usize) -> Slot
     requires { IsPower align × (up align end ≤ limit) }
     ensures { result ≡ record { ty = ty; start = up align end; end = up align end + size; words = words } }
 {
-    let start = up_power(wide(align), end);
+    let start = up_power(align as usize, end);
     Slot {
         ty,
         start,
-        end: start + wide(size),
-        words: wide(words),
+        end: start + size as usize,
+        words: words as usize,
     }
 }
 
@@ -153,7 +169,7 @@ pub fn slot_after(members: &[u8], table: &[Value], m: usize, end: usize) -> Slot
     ensures { result ≡ slot_at members.now table.now m end }
 {
     let e = member_at(members, m);
-    let ty = wide(e.ty);
+    let ty = e.ty as usize;
     let r = value_at(table, ty);
     let words = r.words();
     if e.flags == 0 {
@@ -174,15 +190,11 @@ pub fn member_in(members: &[u8], table: &[Value], l: Value, number: u32) -> Slot
     requires { SlotsAsk members.now table.now l.stride (l.reference * l.stride) 0 number }
     ensures { result ≡ slot_in members.now table.now l.stride (l.reference * l.stride) 0 number }
 {
-    let length = wide(l.stride);
-    let mut m = wide(l.reference) * length;
-    let mut end: usize = 0;
-    let mut left = wide(number);
-    while 0 < left {
-        let p = slot_after(members, table, m, end);
-        end = p.end;
-        m += length;
-        left -= 1;
+    let length = l.stride as usize;
+    let first = l.reference as usize * length;
+    let mut end = 0;
+    for i in 0..number as usize {
+        end = slot_after(members, table, first + length * i, end).end;
     }
-    slot_after(members, table, m, end)
+    slot_after(members, table, first + length * number as usize, end)
 }

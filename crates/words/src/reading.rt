@@ -12,7 +12,6 @@ ghost use Rattle.said.specs.Answer.{said};
 use file::trailer::check_trailer;
 use layout_table::{Ground, find};
 use layout_values::value::{Value, blank};
-use numbers::wide::wide;
 use said::refusal::Refusal;
 use walk_decide::{Rest, allow, closed_rest, elements_in, open_rest, rest_of};
 use walk_pieces::no_pieces;
@@ -49,10 +48,10 @@ fn read_closed(
     requires { (t : Ty) × Ready members.now table.now e l t × (is_open t ≡ false) }
     ensures { ClosedRead members.now table.now e l buf.now result words.old words.new }
 {
-    if buf.len() < wide(l.size) {
+    if buf.len() < l.size as usize {
         return Err(Refusal::Buffer);
     }
-    if words.len() < wide(l.words()) {
+    if words.len() < l.words() as usize {
         return Err(Refusal::Count);
     }
     load(members, table, e, closed_rest(l), buf, words);
@@ -72,7 +71,7 @@ fn read_elements(
     requires { (t : Ty) × TailedBy members.now table.now e x t × (extent_of n t ≤ length buf.now) × (length buf.now ≤ limit) }
     ensures { ElementsRead members.now table.now e x n buf.now result words.old words.new }
 {
-    let count = x.fixed + n * wide(x.value.unit);
+    let count = x.fixed + n * x.value.unit as usize;
     if words.len() < count {
         return Err(Refusal::Count);
     }
@@ -111,9 +110,7 @@ fn read_entry_at(
 {
     let l = g.value;
     allow(l, buf.len(), true)?;
-    let start = g.start;
-    let end = g.end;
-    let members = &file[start..end];
+    let members = &file[g.start..g.end];
     if l.opens() {
         return read_open(members, table, e, l, buf, words);
     }
@@ -129,5 +126,5 @@ pub fn read(file: &[u8], entry: u32, buf: &[u8], words: &mut [u32]) -> Result<u3
     let trailer = check_trailer(file)?;
     let mut table = blank();
     let found = find(file, trailer, entry, &mut table)?;
-    read_entry_at(file, wide(entry), found, &table, buf, words)
+    read_entry_at(file, entry as usize, found, &table, buf, words)
 }

@@ -14,7 +14,6 @@ ghost use Rattle.said.specs.Answer.{said};
 use file::trailer::check_trailer;
 use layout_table::{Ground, find};
 use layout_values::value::{Value, blank};
-use numbers::wide::wide;
 use runs::write_run;
 use said::refusal::Refusal;
 use walk_decide::{Rest, allow, closed_rest, elements_for, extent_for, fit, open_rest, rest_of};
@@ -28,11 +27,7 @@ fn zero(buf: &mut [u8], n: usize)
     requires { n ≤ length buf.old }
     ensures { buf.new ≡ replicate n 0 ++ drop n buf.old }
 {
-    let mut i: usize = 0;
-    while i < n {
-        buf[i] = 0;
-        i += 1;
-    }
+    buf[..n].fill(0);
 }
 
 // Tests the words of an entry: the fixed part, then the tail.
@@ -48,10 +43,8 @@ fn scan(
     ensures said { Tested members.now table.now e x words.now (said result) }
     ensures long { Listed pieces.new }
 {
-    match scan_entry(members, table, e, words, 0, pieces) {
-        Err(Refusal::Word(k)) => Err(Refusal::Word(k)),
-        Ok(()) => scan_many(members, table, x.value, words, x.fixed, pieces),
-    }
+    scan_entry(members, table, e, words, 0, pieces)?;
+    scan_many(members, table, x.value, words, x.fixed, pieces)
 }
 
 // Stores the words of an entry of so many bytes: at once where they cover it; else over zeros, the fixed part, then the tail.
@@ -70,7 +63,7 @@ fn store(
 {
     let width = run_at(table, e);
     if width != 0 {
-        write_run(words, 0, words.len(), wide(width), buf, 0);
+        write_run(words, 0, words.len(), width as usize, buf, 0);
         return;
     }
     zero(buf, extent);
@@ -94,8 +87,8 @@ fn write_whole(
     ensures { WholeWritten members.now table.now e x extent words.now result buf.old buf.new }
 {
     let mut pieces = no_pieces();
-    fit(scan(members, table, e, x, words, &mut pieces))?;
-    store(members, table, e, x, wide(extent), words, buf, &mut pieces);
+    scan(members, table, e, x, words, &mut pieces)?;
+    store(members, table, e, x, extent as usize, words, buf, &mut pieces);
     Ok(extent)
 }
 
@@ -111,10 +104,10 @@ fn write_closed(
     requires { (t : Ty) × Ready members.now table.now e l t × (is_open t ≡ false) }
     ensures { ClosedWritten members.now table.now e l words.now result buf.old buf.new }
 {
-    if words.len() != wide(l.words()) {
+    if words.len() != l.words() as usize {
         return Err(Refusal::Count);
     }
-    if buf.len() < wide(l.size) {
+    if buf.len() < l.size as usize {
         return Err(Refusal::Buffer);
     }
     write_whole(members, table, e, closed_rest(l), l.size, words, buf)
@@ -176,9 +169,7 @@ fn write_entry_at(
 {
     let l = g.value;
     allow(l, buf.len(), true)?;
-    let start = g.start;
-    let end = g.end;
-    let members = &file[start..end];
+    let members = &file[g.start..g.end];
     if l.opens() {
         return write_open(members, table, e, l, words, buf);
     }
@@ -194,5 +185,5 @@ pub fn write(file: &[u8], entry: u32, words: &[u32], buf: &mut [u8]) -> Result<u
     let trailer = check_trailer(file)?;
     let mut table = blank();
     let found = find(file, trailer, entry, &mut table)?;
-    write_entry_at(file, wide(entry), found, &table, words, buf)
+    write_entry_at(file, entry as usize, found, &table, words, buf)
 }

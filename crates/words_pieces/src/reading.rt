@@ -14,12 +14,10 @@ fn read_pieces(pieces: &Pieces, few: usize, at: usize, buf: &[u8], k: usize, wor
     ensures { Loads buf.now (pieces_places few pieces.now at) k words.old words.new }
 {
     let mut next = k;
-    let mut j: usize = 0;
-    while j < few {
+    for j in 0..few {
         let p = piece_at(pieces, j);
         read_run(buf, at + p.start, p.words, p.width, words, next);
         next += p.words;
-        j += 1;
     }
 }
 
@@ -36,9 +34,7 @@ pub fn read_each(
     requires { EachPieces few pieces.now p.count p.unit p.stride at (length buf.now) k (length words.old) }
     ensures { Loads buf.now (repeated p.count p.stride (λ q. pieces_places few pieces.now q) at) k words.old words.new }
 {
-    let mut i: usize = 0;
-    while i < p.count {
+    for i in 0..p.count {
         read_pieces(pieces, few, at + i * p.stride, buf, k + i * p.unit, words);
-        i += 1;
     }
 }

@@ -25,16 +25,14 @@ fn largest_of(pieces: &Pieces, few: usize, words: &[u32], k: usize) -> u32
     requires { (unit : ℕ) × (at : ℕ) × (bytes : ℕ) × PiecesRoom few pieces.now unit at bytes k (length words.now) }
     ensures { result ≤ 65535 → (at : ℕ) → Tests words.now (pieces_places few pieces.now at) k (good tt) }
 {
-    let mut r: u32 = 0;
+    let mut most: u32 = 0;
     let mut next = k;
-    let mut j: usize = 0;
-    while j < few {
+    for j in 0..few {
         let p = piece_at(pieces, j);
-        r = largest_in(p, words, next, r);
+        most = largest_in(p, words, next, most);
         next += p.words;
-        j += 1;
     }
-    r
+    most
 }
 
 // How many of `count` elements, of `unit` words and `few` pieces each, fit before the first that does not, from word `k` on.
@@ -49,12 +47,10 @@ pub fn fitting(
     requires { (stride : ℕ) × (at : ℕ) × (bytes : ℕ) × EachPieces few pieces.now count unit stride at bytes k (length words.now) }
     ensures { (result ≤ count) × ((stride at : ℕ) → Tests words.now (repeated result stride (λ q. pieces_places few pieces.now q) at) k (good tt)) }
 {
-    let mut i: usize = 0;
-    while i < count {
+    for i in 0..count {
         if 65535 < largest_of(pieces, few, words, k + i * unit) {
             return i;
         }
-        i += 1;
     }
-    i
+    count
 }

@@ -14,12 +14,10 @@ fn write_pieces(pieces: &Pieces, few: usize, at: usize, words: &[u32], k: usize,
     ensures { Stores words.now (pieces_places few pieces.now at) k buf.old buf.new }
 {
     let mut next = k;
-    let mut j: usize = 0;
-    while j < few {
+    for j in 0..few {
         let p = piece_at(pieces, j);
         write_run(words, next, p.words, p.width, buf, at + p.start);
         next += p.words;
-        j += 1;
     }
 }
 
@@ -36,9 +34,7 @@ pub fn write_each(
     requires { EachPieces few pieces.now p.count p.unit p.stride at (length buf.old) k (length words.now) }
     ensures { Stores words.now (repeated p.count p.stride (λ q. pieces_places few pieces.now q) at) k buf.old buf.new }
 {
-    let mut i: usize = 0;
-    while i < p.count {
+    for i in 0..p.count {
         write_pieces(pieces, few, at + i * p.stride, words, k + i * p.unit, buf);
-        i += 1;
     }
 }

@@ -2,9 +2,8 @@
 use mathlib.Core.Bool.{not}
 use mathlib.Core.Path.{ap}
 use native.Mathlib.Omega.{arith}
-use borrow.Author.Rules.{rules}
-use Rattle.layout_values.proofs.Unused.{denied, granted}
-use Rattle.layout_structs.proofs.StructMade.{struct_used, struct_past, struct_empty}
+use Rattle.layout_values.proofs.Unused.{denied}
+use Rattle.layout_structs.proofs.StructMade.{struct_used, struct_past}
 use Rattle.layout_structs.proofs.span_of.Goals as goal
 
 pub returns-then-not-zeros : goal.returns-then-not-zeros
@@ -21,20 +20,4 @@ returns-then-members-first c =
       within = omega arith;
       named = λ l. absurd (omega arith);
       empty = λ e z f ts k m. struct_past _ f ts k _ (omega arith);
-    }
-
-pub returns : goal.returns
-returns c =
-    record {
-      within = omega arith;
-      named =
-          λ l.
-          let z = c in
-          record {
-            kind = search rules;
-            zeros = granted z.zeros.ensures (ap not c.if-not-zeros.false);
-            first_is = c.wide-first.ensures.0;
-            count_is = c.wide-count.ensures.0;
-          };
-      empty = λ e z f ts k m. struct_empty _ f ts k _ (omega arith);
     }

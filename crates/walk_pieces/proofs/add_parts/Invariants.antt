@@ -1,6 +1,4 @@
-use Prim.Native.Nat.{◌+◌, ◌-◌, ◌*◌, ◌≤◌}
-use mathlib.Core.Path.{◌≡◌}
-use lib.ListN.{length}
+use Prim.Native.Nat.{◌+◌, ◌*◌, ◌≤◌}
 use Rattle.wgsl.specs.Place.{repeated}
 use Rattle.runs.specs.Run.{run_places}
 use Rattle.walk_pieces.specs.Piece.{most_pieces, Added}
@@ -8,8 +6,4 @@ use Rattle.walk_pieces.proofs.add_parts.Given as goal
 
 abbrev pub invariant-loop-i : goal.invariant-loop-i
 invariant-loop-i l =
-    (l.few ≤ most_pieces → Added l.k l.initial.pieces (λ q. repeated l.i l.p.stride (λ b. run_places l.p.unit l.p.width b) (q + l.at)) (l.at + l.p.count * l.p.stride) l.few l.pieces)
-    × (l.i ≤ l.p.count) × (length l.pieces ≡ length l.initial.pieces)
-
-abbrev pub decreases-loop-i : goal.decreases-loop-i
-decreases-loop-i l = l.p.count - l.i
+    l.few ≤ most_pieces → Added l.k l.initial.pieces (λ q. repeated l.i l.p.stride (λ b. run_places l.p.unit l.p.width b) (q + l.at)) (l.at + l.p.count * l.p.stride) l.few l.pieces

@@ -1,10 +1,9 @@
+use Prim.Native.Nat.{◌+◌, ◌-◌, ◌*◌}
 use mathlib.Core.Path.{◌≡◌}
 use Rattle.walk_trees.specs.Slot.{slot_in, SlotsAsk}
 use Rattle.walk_trees.proofs.member_in.Given as goal
 
-abbrev pub invariant-loop-left : goal.invariant-loop-left
-invariant-loop-left l =
-    SlotsAsk l.members l.table l.length l.m l.end l.left × (slot_in l.members l.table l.length l.initial.m 0 l.number ≡ slot_in l.members l.table l.length l.m l.end l.left)
-
-abbrev pub decreases-loop-left : goal.decreases-loop-left
-decreases-loop-left l = l.left
+abbrev pub invariant-loop-i : goal.invariant-loop-i
+invariant-loop-i l =
+    SlotsAsk l.members l.table l.length (l.first + l.length * l.i) l.end (l.number - l.i)
+    × (slot_in l.members l.table l.length l.first 0 l.number ≡ slot_in l.members l.table l.length (l.first + l.length * l.i) l.end (l.number - l.i))

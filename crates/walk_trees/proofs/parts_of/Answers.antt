@@ -6,16 +6,11 @@ use Rattle.walk_trees.proofs.parts_of.Goals as goal
 
 pub returns : goal.returns
 returns c =
-    let else2 = c in
-    let after_value_at = else2 in
-    let after_wide5 = after_value_at in
-    let else1 = after_wide5 in
-    let none = sym else1.part_width-width.ensures ∙ else1.if-width-ne0.false in
-    let value = after_value_at.value_at-x.ensures in
-    let is = rw after_wide5.wide-2.ensures.0 at value in
+    let none = sym c.part_width-width.ensures ∙ c.if-width-ne0.false in
+    let is = c.value_at-x.ensures in
     record {
       runs = λ some ms x m.
           let each = many_each m none in
-          rw each.is (c.row_of.ensures some ms each.part (rw is (tree_many each.tree (rw is at else2.if-x-eq-STRUCT.false))));
+          rw each.is (c.row_of.ensures some ms each.part (rw is (tree_many each.tree (rw is at c.if-x-eq-STRUCT.false))));
       none = λ z. none;
     }

@@ -6,6 +6,5 @@ use Rattle.walk_trees.proofs.put_after.Goals as goal
 pub up_power-start-requires : goal.up_power-start-requires
 up_power-start-requires c =
     let a = c.args in
-    let w = c.wide.ensures in
     let pos = power_positive c.requires.0 in
-    (rw w.0 c.requires.0, omega (arith, power_bounded c.requires.0 (omega arith)), omega (arith, up_not_below a.align a.end pos))
+    (c.requires.0, omega (arith, power_bounded c.requires.0 (omega arith)), omega (arith, up_not_below a.align a.end pos))

@@ -1,9 +1,9 @@
--- Two numbers of two bytes are one of four (`load_add`).
+-- Four bytes are `load 4`.
+use native.Mathlib.Nat.{add_assoc}
 use native.Mathlib.Omega.{arith}
-use Rattle.wgsl.proofs.Number.{load_add}
+use Rattle.wgsl.specs.Number.{load}
 use Rattle.numbers.proofs.bytes.u32_at.Goals as goal
 
 pub returns : goal.returns
-returns c =
-    let a = c.args in
-    omega (arith, load_add 2 2 a.b.now a.at)
+unfolding load
+returns c = simp add_assoc (omega (arith, c.from_le_bytes.ensures))

@@ -1,4 +1,4 @@
-use Prim.Native.Nat.{ℕ, ◌-◌, ◌≤◌}
+use Prim.Native.Nat.{ℕ}
 use mathlib.Core.Path.{◌≡◌}
 use Rattle.wgsl.specs.Said.{good}
 use Rattle.wgsl.specs.Place.{repeated}
@@ -8,8 +8,4 @@ use Rattle.words_pieces.proofs.testing.fitting.Given as goal
 
 abbrev pub invariant-loop-i : goal.invariant-loop-i
 invariant-loop-i l =
-    (l.i ≤ l.count)
-    × ((stride at : ℕ) → good tt ≡ over_places (testing l.words) (repeated l.i stride (λ q. pieces_places l.few l.pieces q) at) l.k (good tt))
-
-abbrev pub decreases-loop-i : goal.decreases-loop-i
-decreases-loop-i l = l.count - l.i
+    (stride at : ℕ) → good tt ≡ over_places (testing l.words) (repeated l.i stride (λ q. pieces_places l.few l.pieces q) at) l.k (good tt)

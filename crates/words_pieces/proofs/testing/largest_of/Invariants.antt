@@ -1,4 +1,4 @@
-use Prim.Native.Nat.{ℕ, ◌-◌, ◌≤◌}
+use Prim.Native.Nat.{ℕ, ◌≤◌}
 use Rattle.wgsl.specs.Said.{good}
 use Rattle.wgsl.specs.Place.{Place}
 use Rattle.runs.specs.Fold.{testing}
@@ -10,8 +10,5 @@ idle p k s = tt
 
 abbrev pub invariant-loop-j : goal.invariant-loop-j
 invariant-loop-j l =
-    ((at : ℕ) → Passed idle l.few l.pieces at l.k tt l.j l.next tt)
-    × (l.r ≤ 65535 → (at : ℕ) → Passed (testing l.words) l.few l.pieces at l.k (good tt) l.j l.next (good tt))
-
-abbrev pub decreases-loop-j : goal.decreases-loop-j
-decreases-loop-j l = l.few - l.j
+    ((at : ℕ) → Passed idle l.fn.few l.pieces at l.fn.k tt l.j l.next tt)
+    × (l.most ≤ 65535 → (at : ℕ) → Passed (testing l.words) l.fn.few l.pieces at l.fn.k (good tt) l.j l.next (good tt))

@@ -1,6 +1,3 @@
-use Prim.Native.Nat.{◌-◌}
-use mathlib.Core.Path.{◌≡◌}
-use lib.ListN.{length}
 use Rattle.runs.specs.Fold.{storing}
 use Rattle.walk_pieces.specs.Piece.{pieces_places}
 use Rattle.runs.proofs.OverPlaces.{Repeating}
@@ -8,7 +5,4 @@ use Rattle.words_pieces.proofs.writing.write_each.Given as goal
 
 abbrev pub invariant-loop-i : goal.invariant-loop-i
 invariant-loop-i l =
-    Repeating (storing l.words) (λ q. pieces_places l.few l.pieces q) l.p.count l.p.unit l.p.stride l.at l.k l.initial.buf l.i l.buf × (length l.buf ≡ length l.initial.buf)
-
-abbrev pub decreases-loop-i : goal.decreases-loop-i
-decreases-loop-i l = l.p.count - l.i
+    Repeating (storing l.words) (λ q. pieces_places l.few l.pieces q) l.p.count l.p.unit l.p.stride l.at l.k l.initial.buf l.i l.buf
