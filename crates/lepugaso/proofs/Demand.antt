@@ -34,22 +34,22 @@ use Rattle.said.specs.Answer.{said}
 -- ---- a call's answer
 
 -- where the definition gives a value and contents, so does the call
-good_answer : {said : Said Done} {v : ℕ} {c : List ℕ} (r : Result ℕ Refusal) → said ≡ good (record { value = v; contents = c }) → said r ≡ answer_of said → r ≡ Ok v
+good_answer : {asked : Said Done} {v : ℕ} {c : List ℕ} (r : Result ℕ Refusal) → asked ≡ good (record { value = v; contents = c }) → said r ≡ answer_of asked → r ≡ Ok v
 unfolding answer_of
 good_answer r is q = single_number r (Ok _) (q ∙ ap answer_of is) refl
 
-good_contents : {said : Said Done} {v : ℕ} {c after : List ℕ} (before : List ℕ) → said ≡ good (record { value = v; contents = c }) → after ≡ contents_of before said → after ≡ c
+good_contents : {asked : Said Done} {v : ℕ} {c after : List ℕ} (before : List ℕ) → asked ≡ good (record { value = v; contents = c }) → after ≡ contents_of before asked → after ≡ c
 unfolding contents_of
 good_contents before is q = q ∙ ap (contents_of before) is
 
 -- where the call answers a value, so does the definition
-answer_good : (said : Said Done) (v : ℕ) → good v ≡ answer_of said → (c : List ℕ) × (said ≡ good (record { value = v; contents = c }))
+answer_good : (asked : Said Done) (v : ℕ) → good v ≡ answer_of asked → (c : List ℕ) × (asked ≡ good (record { value = v; contents = c }))
 unfolding answer_of
 answer_good (good d) v q = let same : v ≡ d.value = cc in (d.contents, rw same refl)
 answer_good (refused number place) v q = good_not_refused refl q
 
 -- where the call refuses, nothing changes
-answer_refused : {number place : ℕ} (said : Said Done) (before : List ℕ) → refused number place ≡ answer_of said → contents_of before said ≡ before
+answer_refused : {number place : ℕ} (asked : Said Done) (before : List ℕ) → refused number place ≡ answer_of asked → contents_of before asked ≡ before
 unfolding answer_of contents_of
 answer_refused (good d) before q = good_not_refused q refl
 answer_refused (refused number place) before q = refl
@@ -105,7 +105,7 @@ scalar_lies_at : {f : List ℕ} {e : ℕ} {b path : List ℕ} {t : Target} → T
 unfolding span_of
 scalar_lies_at {f} {e} {b} {path} {t} x = go (view_call f e path b) refl x.views.answer
   where
-    go : (said : Said ways.Target) → view_call f e path b ≡ said → good t ≡ reached said → ScalarAt f e b path t
+    go : (asked : Said ways.Target) → view_call f e path b ≡ asked → good t ≡ reached asked → ScalarAt f e b path t
     go (good u) is q =
         let same : t ≡ target_is u = cc in
         let at : u.offset ≡ t.offset = sym (ap (λ (v : Target). v.offset) same) in

@@ -1,5 +1,6 @@
 // The exports for C: numbers and slices in, one struct of 16 bytes out. Nothing is decided here. The shim declares each of them again, in
-// Rust (shim/src/surface.rs); a test holds it to this file.
+// Rust (shim/src/surface.rs); a test holds it to this file. Each is a name of the C interface with a contract of its own, so that alike
+// ones stand side by side; and C has no `Result` and no `Option`, so that a number says which it is.
 #![tactic(auto)]
 
 ghost use Rattle.std.specs.Prelude.{◌≡◌};
@@ -26,7 +27,7 @@ pub struct Crossing {
     pub value: u64,
 }
 
-// A number, a length or a pattern, or a refusal, as it crosses.
+// A number, a length or a pattern, or a refusal, as it crosses. (A `usize` becomes one by `as`: it has no `From` for `u64`.)
 fn cross(answer: Result<u64, Refusal>) -> Crossing
     ensures { result ≡ crossed (said answer) }
 {
