@@ -9,12 +9,14 @@ use mathlib.Core.Option.{Option, none, some}
 use mathlib.Core.Path.{◌≡◌, refl, sym, ◌∙◌}
 use native.Mathlib.Omega.{arith}
 use lib.ListN.{length, get_elem?}
-use Rattle.wgsl.specs.Types.{Scalar, Ty, scalar, scalar_kind, struct_kind, is_scalar_kind}
+use Rattle.wgsl.specs.Types.{Scalar, Ty, bool, scalar, scalar_kind, struct_kind, is_scalar_kind}
 use Rattle.wgsl.specs.File.{trailer_of, TypeEntry, type_entry_at, type_entry_length}
+use Rattle.wgsl.specs.Said.{good}
+use Rattle.wgsl.specs.Rule.{types_of}
 use Rattle.wgsl.specs.Rank.{scalar_rank, rank_of}
 use Rattle.convert_rank.specs.Ranked.{Pair, over_scalar}
 use Rattle.wgsl.proofs.ScalarKind.{other_range}
-use Rattle.wgsl.proofs.AtEntry.{entry_inside, At, scalar_lies_at, array_at, runtime_at, struct_at, reference_lower}
+use Rattle.wgsl.proofs.AtEntry.{entry_inside, get_elem_get_d, At, scalar_lies_at, array_at, runtime_at, struct_at, reference_lower}
 use Rattle.convert_rank.proofs.EntryKinds.{over_scalar_at, front_scalar, front_kind, scalar_kind_lem}
 use Rattle.convert_rank.proofs.RankOf.{front_other, scalars, array_same, array_other, runtimes, struct_same, struct_other}
 
@@ -26,10 +28,17 @@ module _ {f : List ℕ} {ts : List Ty} {start a b : ℕ} (p : Pair f ts start a 
   pub second_inside : (start ≡ (trailer_of f).start) × (start + type_entry_length * b + type_entry_length ≤ length f)
   second_inside = (p.start_is, entry_inside f ts p.accepted start b p.start_is p.second)
 
+-- There are two such entries, of some types.
+pub pair_types : {f : List ℕ} {ts : List Ty} {start a b : ℕ} → Pair f ts start a b → (s t : Ty) × (get_elem? ts a ≡ some s) × (get_elem? ts b ≡ some t)
+pair_types {ts = ts} {a = a} {b = b} p = (_, _, get_elem_get_d ts a (scalar bool) p.first, get_elem_get_d ts b (scalar bool) p.second)
+
 -- Entries a and b: their types s and t, their fields x and y.
 pub record Two (f : List ℕ) (ts : List Ty) (a b : ℕ) (s t : Ty) (x y : TypeEntry) : Type 0 where
   pub first : At f ts a s x
   pub second : At f ts b t y
+
+pub two_read : {f : List ℕ} {ts : List Ty} {a b : ℕ} {s t : Ty} {x y : TypeEntry} → types_of f ≡ good ts → get_elem? ts a ≡ some s → get_elem? ts b ≡ some t → x ≡ type_entry_at f a → y ≡ type_entry_at f b → Two f ts a b s t x y
+two_read g p q m n = record { first = record { good_file = g; type_is = p; fields_are = m }; second = record { good_file = g; type_is = q; fields_are = n } }
 
 module _ {f : List ℕ} {ts : List Ty} {a b : ℕ} {s t : Ty} {x y : TypeEntry} (two : Two f ts a b s t x y) where
   pub scalars_rank : {r : Option ℕ} → is_scalar_kind x.kind ≡ true → is_scalar_kind y.kind ≡ true → ((u v : Scalar) → scalar_kind u ≡ x.kind → scalar_kind v ≡ y.kind → r ≡ scalar_rank u v) → r ≡ rank_of s t

@@ -29,33 +29,22 @@ fn entry_of(f: &[u8], start: usize, k: usize) -> TypeEntry
 }
 
 // The rank of two types of one kind over scalars of kinds `u` and `v`: two vectors, two matrices or two atomics, with the fields `x` and `y`.
+#[tactic(auto, using(crate::proofs::OverScalar::vectors_rank, crate::proofs::OverScalar::vectors_other, crate::proofs::OverScalar::matrices_rank, crate::proofs::OverScalar::columns_other, crate::proofs::OverScalar::rows_other, crate::proofs::OverScalar::atomics_same, crate::proofs::OverScalar::atomics_other))]
 fn over_scalar_rank(x: TypeEntry, y: TypeEntry, u: u32, v: u32) -> Option<u32>
     requires { x.kind ≡ y.kind }
     ensures { (s t : Scalar) → scalar_kind s ≡ u → scalar_kind t ≡ v → maybe_of result ≡ rank_of (over_scalar (entry_is x) s) (over_scalar (entry_is y) t) }
 {
-    if x.kind == VECTOR {
-        if x.rows != y.rows {
-            return None;
-        }
-        return scalar_rank(u, v);
+    match x.kind {
+        VECTOR if x.rows == y.rows => scalar_rank(u, v),
+        MATRIX if x.columns == y.columns && x.rows == y.rows => scalar_rank(u, v),
+        VECTOR | MATRIX => None,
+        // atomics convert to nothing else
+        _ => (u == v).then_some(0),
     }
-    if x.kind == MATRIX {
-        if x.columns != y.columns {
-            return None;
-        }
-        if x.rows != y.rows {
-            return None;
-        }
-        return scalar_rank(u, v);
-    }
-    // atomics convert to nothing else
-    if u == v {
-        return Some(0);
-    }
-    None
 }
 
 // The rank of entry `a` to entry `b` of an accepted file whose entries begin at `start`. Walks both types down by their references.
+#[tactic(auto, using(crate::proofs::PairRank::first_inside, crate::proofs::PairRank::second_inside, crate::proofs::PairRank::two_read, crate::proofs::PairRank::lower_pair, crate::proofs::PairRank::scalars_rank, crate::proofs::PairRank::scalar_other, crate::proofs::PairRank::kinds_other, crate::proofs::PairRank::structs_same, crate::proofs::PairRank::structs_other, crate::proofs::PairRank::arrays_other, crate::proofs::PairRank::arrays_rank, crate::proofs::PairRank::runtimes_rank, crate::proofs::PairRank::over_scalars_rank))]
 pub fn entry_rank(f: &[u8], start: usize, a: usize, b: usize) -> Option<u32>
     requires { (ts : List Ty) × Pair f.now ts start a b }
     ensures { (ts : List Ty) (s t : Ty) → types_of f.now ≡ good ts → get_elem? ts a ≡ some s → get_elem? ts b ≡ some t → maybe_of result ≡ rank_of s t }
@@ -63,33 +52,21 @@ pub fn entry_rank(f: &[u8], start: usize, a: usize, b: usize) -> Option<u32>
     let x = entry_of(f, start, a);
     let y = entry_of(f, start, b);
     if is_scalar(x.kind) {
-        if is_scalar(y.kind) {
-            return scalar_rank(x.kind, y.kind);
+        if !is_scalar(y.kind) {
+            return None;
         }
-        return None;
+        return scalar_rank(x.kind, y.kind);
     }
     if x.kind != y.kind {
         return None;
     }
-    // "structs by entry number"
-    if x.kind == STRUCT {
-        if a == b {
-            return Some(0);
-        }
-        return None;
-    }
     let p = wide(x.reference);
     let q = wide(y.reference);
-    if x.kind == ARRAY {
-        if x.count != y.count {
-            return None;
-        }
-        return entry_rank(f, start, p, q);
+    match x.kind {
+        // "structs by entry number"
+        STRUCT => (a == b).then_some(0),
+        ARRAY if x.count != y.count => None,
+        ARRAY | RUNTIME => entry_rank(f, start, p, q),
+        _ => over_scalar_rank(x, y, entry_of(f, start, p).kind, entry_of(f, start, q).kind),
     }
-    if x.kind == RUNTIME {
-        return entry_rank(f, start, p, q);
-    }
-    let u = entry_of(f, start, p);
-    let v = entry_of(f, start, q);
-    over_scalar_rank(x, y, u.kind, v.kind)
 }

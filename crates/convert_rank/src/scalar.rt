@@ -6,54 +6,44 @@ ghost use Rattle.said.specs.Answer.{maybe_of};
 
 use file::kinds::{ABSTRACT_FLOAT, ABSTRACT_INT, F16, F32, I32, U32};
 
-
 // "abstract int to i32 3, u32 4, abstract float 5, f32 6, f16 7"
+#[tactic(auto, using(crate::proofs::ScalarRank::int_i32, crate::proofs::ScalarRank::int_u32, crate::proofs::ScalarRank::int_float, crate::proofs::ScalarRank::int_f32, crate::proofs::ScalarRank::int_f16, crate::proofs::ScalarRank::int_none))]
 fn from_abstract_int(kind: u32) -> Option<u32>
     ensures { (s : Scalar) → scalar_kind s ≡ kind → (kind ≡ 5 → ⊥) → maybe_of result ≡ from_abstract_int s }
 {
-    if kind == I32 {
-        return Some(3);
+    match kind {
+        I32 => Some(3),
+        U32 => Some(4),
+        ABSTRACT_FLOAT => Some(5),
+        F32 => Some(6),
+        F16 => Some(7),
+        _ => None,
     }
-    if kind == U32 {
-        return Some(4);
-    }
-    if kind == ABSTRACT_FLOAT {
-        return Some(5);
-    }
-    if kind == F32 {
-        return Some(6);
-    }
-    if kind == F16 {
-        return Some(7);
-    }
-    None
 }
 
 // "abstract float to f32 1, f16 2"
+#[tactic(auto, using(crate::proofs::ScalarRank::float_f32, crate::proofs::ScalarRank::float_f16, crate::proofs::ScalarRank::float_none))]
 fn from_abstract_float(kind: u32) -> Option<u32>
     ensures { (s : Scalar) → scalar_kind s ≡ kind → (kind ≡ 6 → ⊥) → maybe_of result ≡ from_abstract_float s }
 {
-    if kind == F32 {
-        return Some(1);
+    match kind {
+        F32 => Some(1),
+        F16 => Some(2),
+        _ => None,
     }
-    if kind == F16 {
-        return Some(2);
-    }
-    None
 }
 
 // The rank of the scalar of kind `a` to that of kind `b`.
+#[tactic(auto, using(crate::proofs::ScalarRank::scalar_same, crate::proofs::ScalarRank::scalar_int, crate::proofs::ScalarRank::scalar_float, crate::proofs::ScalarRank::scalar_none))]
 pub fn scalar_rank(a: u32, b: u32) -> Option<u32>
     ensures { (s t : Scalar) → scalar_kind s ≡ a → scalar_kind t ≡ b → maybe_of result ≡ scalar_rank s t }
 {
     if a == b {
         return Some(0);
     }
-    if a == ABSTRACT_INT {
-        return from_abstract_int(b);
+    match a {
+        ABSTRACT_INT => from_abstract_int(b),
+        ABSTRACT_FLOAT => from_abstract_float(b),
+        _ => None,
     }
-    if a == ABSTRACT_FLOAT {
-        return from_abstract_float(b);
-    }
-    None
 }

@@ -2,7 +2,7 @@
 --
 -- In order: a table that is filled up to entry k; what that entry is judged over; one entry more, or a refusal; the whole table.
 -- Assumes nothing.
-use Rattle.std.specs.Prelude.{Ok, Result}
+use Rattle.std.specs.Prelude.{Err, Ok}
 use Rattle.file.specs.Members.{member_length}
 use Prim.Native.Nat.{ℕ, suc, ◌+◌, ◌-◌, ◌<◌, ◌≤◌, ◌*◌}
 use mathlib.Core.List.{List, [], ◌∷◌, ◌++◌}
@@ -20,17 +20,15 @@ use Rattle.wgsl.specs.Rule.{type_of_entry, types_below, all_named, types_of}
 use Rattle.wgsl.proofs.Said.{then_is, then_refused, refuse_yes, refuse_no}
 use Rattle.wgsl.proofs.Trailed.{Trailed, trailed}
 use Rattle.wgsl.proofs.Accepted.{below_length, below_well_formed}
-use Rattle.layout_values.specs.Value.{value_of, made_of, row_of, blank_table, values_from, values_of}
+use Rattle.said.specs.Refusal.{number_of, place_of}
+use Rattle.layout_values.specs.Value.{refusal_at, value_of, made_of, blank_value, blank_table, values_from, values_of}
 use Rattle.layout_values.specs.declared.value.Value.{Value}
 use Rattle.layout_values.proofs.ValuesOf.{values_more}
 use Rattle.layout_strays.specs.Strays.{Entries}
 use Rattle.layout_table.specs.Table.{table_of, Upward}
 use Rattle.layout_table.proofs.Judged.{types_of_lem, is_entry, base_is, members_are, says, entry_laid, entry_refused}
 use Rattle.layout_values.specs.declared.value.Broken.{Broken}
-
--- an entry that is not filled
-abbrev blank : List ℕ
-blank = replicate 8 0
+use Rattle.layout_values.specs.declared.value.Broken.TheVariants.{Given, Large, Rule}
 
 -- ---- a table that is filled up to entry k
 
@@ -42,12 +40,12 @@ pub record Filled (f : List ℕ) (r : Trailer) (k : ℕ) (table : List Value) : 
   pub types : List Ty
   pub below : types_below f k ≡ good types
   pub first : take k table ≡ values_from f 0 types
-  pub rest : drop k table ≡ replicate (256 - k) blank
+  pub rest : drop k table ≡ replicate (256 - k) blank_value
   pub whole : length table ≡ 256
 
 pub blank_length : length blank_table ≡ 256
 unfolding blank_table
-blank_length = length-replicate 256 blank
+blank_length = length-replicate 256 blank_value
 
 pub filled_none : {f : List ℕ} {r : Trailer} {table : List Value} → check_trailer f ≡ good r → table ≡ blank_table → Filled f r 0 table
 unfolding types_below length_by blank_table values_from
@@ -68,48 +66,48 @@ module _ {f : List ℕ} {r : Trailer} {k : ℕ} {table : List Value} (t : Filled
   count : length t.types ≡ k
   count = below_length f k t.types t.below
 
-  -- what entry k is judged over
-  pub filled_upward : {e : TypeEntry} {start types members long : ℕ} → k < r.types → start ≡ r.start → types ≡ r.types → members ≡ r.members → long ≡ member_entry_length r.form → e ≡ type_entry_from f (start + type_entry_length * k) → Upward f k e (start + type_entry_length * types) members long table t.types
-  filled_upward {members = members} {long = long} h at n m p e =
-      let few = t.trailer.few in
-      let high = t.trailer.high in
-      let bytes : long * members ≡ member_entry_length r.form * r.members = ap₂ ◌*◌ p m in
-      let whole = t.long in
-      record {
-        is_entry = is_entry t.trailer at k e;
-        base_is = base_is t.trailer at n;
-        members_is = members_are t.trailer at m;
-        long_is = p ∙ ap (λ (x : Trailer). member_entry_length x.form) t.trailer.is;
-        inside = omega arith;
-        few = omega arith;
-        lower =
-            record {
-              holds = record { first = rw count t.first; well_formed = below_well_formed f k t.types t.below };
-              count = count;
-              few = omega arith;
-            };
-        table_inside = omega (arith, t.whole);
-      }
+-- what entry k is judged over
+pub filled_upward : {f : List ℕ} {r : Trailer} {k : ℕ} {table : List Value} (t : Filled f r k table) {e : TypeEntry} {start types members long : ℕ} → k < r.types → start ≡ r.start → types ≡ r.types → members ≡ r.members → long ≡ member_entry_length r.form → e ≡ type_entry_from f (start + type_entry_length * k) → Upward f k e (start + type_entry_length * types) members long table t.types
+filled_upward {f} {r} {k} {table} t {members = members} {long = long} h at n m p is =
+    let few = t.trailer.few in
+    let high = t.trailer.high in
+    let bytes : long * members ≡ member_entry_length r.form * r.members = ap₂ ◌*◌ p m in
+    let whole = t.long in
+    record {
+      is_entry = is_entry t.trailer at k is;
+      base_is = base_is t.trailer at n;
+      members_is = members_are t.trailer at m;
+      long_is = p ∙ ap (λ (x : Trailer). member_entry_length x.form) t.trailer.is;
+      inside = omega arith;
+      few = omega arith;
+      lower =
+          record {
+            holds = record { first = rw (count t) t.first; well_formed = below_well_formed f k t.types t.below };
+            count = count t;
+            few = omega arith;
+          };
+      table_inside = omega (arith, t.whole);
+    }
 
 -- ---- one entry more
 
 -- one element more of those that are filled, and one less of those that are not
-first_more : (f : List ℕ) (table : List Value) (k : ℕ) (l : Value) (ts : List Ty) (t : Ty) → length ts ≡ k → k < length table → take k table ≡ values_from f 0 ts → l ≡ value_of (member_length f) (type_entry_at f k).reference t → take (k + 1) (set table k (row_of l)) ≡ values_from f 0 (ts ++ (t ∷ []))
+first_more : (f : List ℕ) (table : List Value) (k : ℕ) (l : Value) (ts : List Ty) (t : Ty) → length ts ≡ k → k < length table → take k table ≡ values_from f 0 ts → l ≡ value_of (member_length f) (type_entry_at f k).reference t → take (k + 1) (set table k l) ≡ values_from f 0 (ts ++ (t ∷ []))
 first_more f table k l ts t n h e q =
     let z : 0 + length ts ≡ k = omega arith in
-    rw (add-one k, values_more f 0 ts t, z, ← e, ← q) (take-suc-set table k (row_of l) h)
+    rw (add-one k, values_more f 0 ts t, z, ← e, ← q) (take-suc-set table k l h)
 
-rest_more : (table : List Value) (k : ℕ) (v : List ℕ) → k < 256 → drop k table ≡ replicate (256 - k) blank → drop (k + 1) (set table k v) ≡ replicate (256 - (k + 1)) blank
+rest_more : (table : List Value) (k : ℕ) (v : Value) → k < 256 → drop k table ≡ replicate (256 - k) blank_value → drop (k + 1) (set table k v) ≡ replicate (256 - (k + 1)) blank_value
 rest_more table k v h e =
     let z : 256 - k ≡ suc (256 - (k + 1)) = omega arith in
     let b : k < k + 1 = omega arith in
     drop-set-lt (k + 1) table k v b ∙ sym (drop-drop 1 k table) ∙ ap (drop 1) e
-    ∙ ap (λ (n : ℕ). drop 1 (replicate n blank)) z
+    ∙ ap (λ (n : ℕ). drop 1 (replicate n blank_value)) z
 
-module _ {f : List ℕ} {r : Trailer} {k : ℕ} {table : List Value} {e : TypeEntry} (t : Filled f r k table) (h : k < r.types) (is : e ≡ type_entry_at f k) where
-  pub filled_more : {l : Value} {v : List ℕ} → Ok l ≡ made_of (member_length f) e.reference (type_of_entry f t.types k) → v ≡ row_of l → Filled f r (k + 1) (set table k v)
-  filled_more {l} {v} m q =
-      let x = entry_laid f k (member_length f) e.reference t.below m l refl in
+module _ {f : List ℕ} {r : Trailer} {k : ℕ} {table : List Value} (t : Filled f r k table) {e : TypeEntry} {base members long : ℕ} (h : k < r.types) (u : Upward f k e base members long table t.types) where
+  pub filled_more : (l : Value) → Ok l ≡ made_of long e.reference (type_of_entry f t.types k) → Filled f r (k + 1) (set table k l)
+  filled_more l made =
+      let x = entry_laid f k long e.reference t.below made l refl in
       let high = t.trailer.high in
       let inside : k < length table = omega (arith, t.whole) in
       record {
@@ -119,19 +117,25 @@ module _ {f : List ℕ} {r : Trailer} {k : ℕ} {table : List Value} {e : TypeEn
         turn = omega arith;
         types = t.types ++ (x.0 ∷ []);
         below = rw (add-one k) x.1;
-        first = rw q (first_more f table k l t.types x.0 (count t) inside t.first (x.2 ∙ ap (λ (y : TypeEntry). value_of (member_length f) y.reference x.0) is));
-        rest = rest_more table k v (omega arith) t.rest;
-        whole = length-set table k v ∙ t.whole;
+        first = first_more f table k l t.types x.0 (count t) inside t.first (x.2 ∙ ap₂ (λ (n : ℕ) (y : TypeEntry). value_of n y.reference x.0) u.long_is u.is_entry);
+        rest = rest_more table k l (omega arith) t.rest;
+        whole = length-set table k l ∙ t.whole;
       }
 
-  pub filled_refused : {m : (Result Value Broken)} {number place : ℕ} → m ≡ made_of (member_length f) e.reference (type_of_entry f t.types k) → says k m ≡ refused number place → refused number place ≡ table_of f
+  refused_with : (b : Broken) {number place : ℕ} → Err b ≡ made_of long e.reference (type_of_entry f t.types k) → says k (Err b) ≡ refused number place → refused number place ≡ table_of f
   unfolding table_of
-  filled_refused m s =
-      sym (then_refused _ (types_of_lem f r t.checked ∙ then_refused _ (entry_refused f k (member_length f) e.reference t.below m r.types s h)))
+  refused_with b made s =
+      sym (then_refused _ (types_of_lem f r t.checked ∙ then_refused _ (entry_refused f k long e.reference t.below made r.types s h)))
+
+  pub filled_refused : (b : Broken) → Err b ≡ made_of long e.reference (type_of_entry f t.types k) → refused (number_of (refusal_at b k)) (place_of (refusal_at b k)) ≡ table_of f
+  unfolding says
+  filled_refused Rule made = refused_with Rule made refl
+  filled_refused Given made = refused_with Given made refl
+  filled_refused Large made = refused_with Large made refl
 
 -- ---- the whole table
 
-whole_table : (f : List ℕ) (table : List Value) (k : ℕ) (ts : List Ty) → length ts ≡ k → take k table ≡ values_from f 0 ts → drop k table ≡ replicate (256 - k) blank → table ≡ values_of f ts
+whole_table : (f : List ℕ) (table : List Value) (k : ℕ) (ts : List Ty) → length ts ≡ k → take k table ≡ values_from f 0 ts → drop k table ≡ replicate (256 - k) blank_value → table ≡ values_of f ts
 unfolding values_of
 whole_table f table k ts n e d = rw (n, ← e, ← d) (sym (take-append-drop k table))
 

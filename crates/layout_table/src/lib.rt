@@ -21,8 +21,8 @@ use layout_values::value::{Broken, Value, blank, value_at};
 use numbers::wide::wide;
 use said::refusal::Refusal;
 
-
 // A struct's entry, number `k`, over the lower entries: its members one after the other.
+#[tactic(auto, using(crate::proofs::Upward::members_inside, crate::proofs::Upward::members_past, crate::proofs::Upward::members_meet, crate::proofs::Upward::members_rule, crate::proofs::Upward::members_next, crate::proofs::Upward::members_made, layout_structs::proofs::Reached::reached_none))]
 fn struct_entry(
     f: &[u8],
     e: TypeEntry,
@@ -52,6 +52,7 @@ fn struct_entry(
 }
 
 // Entry `k`, with the fields `e`, over the lower entries.
+#[tactic(auto, using(crate::proofs::Judged::entry_used, crate::proofs::Judged::entry_scalar, crate::proofs::Judged::entry_struct, crate::proofs::Judged::entry_missing, crate::proofs::Judged::entry_over, layout_values::proofs::Unused::unused_two, wgsl::proofs::ScalarKind::low_scalar, layout_structs::proofs::MembersFrom::lower_past, layout_structs::proofs::MembersFrom::lower_found))]
 fn entry_made(
     f: &[u8],
     e: TypeEntry,
@@ -97,7 +98,10 @@ pub fn fill(f: &[u8], t: Trailer, table: &mut [Value]) -> Result<Trailer, Refusa
     let long = member_length(t.form);
     for k in 0..types {
         let e = entry_at(f, start + TYPE_ENTRY_LENGTH * k);
-        table[k] = entry_made(f, e, k, base, members, long, table).map_err(|broken| broken.at(k))?;
+        table[k] = match entry_made(f, e, k, base, members, long, table) {
+            Ok(value) => value,
+            Err(broken) => return Err(broken.at(k)),
+        };
     }
     let stray = lowest_stray(f, start, types, members);
     if stray < members {
@@ -108,6 +112,7 @@ pub fn fill(f: &[u8], t: Trailer, table: &mut [Value]) -> Result<Trailer, Refusa
 
 // The trailer of an accepted file, or the refusal.
 // Refuses 1 to 7, 24.
+#[tactic(auto, using(crate::proofs::SaidTable::trailer_refused, crate::proofs::SaidTable::accepted_refused, crate::proofs::SaidTable::table_trailer))]
 pub fn accept(f: &[u8]) -> Result<Trailer, Refusal>
     ensures { said_checked result ≡ accepted_trailer f.now }
 {
@@ -124,8 +129,8 @@ pub struct Ground {
     pub end: usize,
 }
 
-
 // Fills the table, and finds entry `entry` in it. Refuses 5 to 7, 24, 8.
+#[tactic(auto, using(crate::proofs::SaidTable::table_told, crate::proofs::SaidTable::table_refused, crate::proofs::GroundIn::ground_refused, crate::proofs::GroundIn::ground_missing, crate::proofs::GroundIn::ground_is))]
 pub fn find(f: &[u8], t: Trailer, entry: u32, table: &mut [Value]) -> Result<Ground, Refusal>
     requires { (check_trailer f.now ≡ good (trailer_is t)) × (table.old ≡ blank_table) }
     ensures { said_ground result table.new ≡ ground_in f.now entry }
