@@ -16,7 +16,7 @@ use layout_table::{Ground, find};
 use layout_values::value::{Value, blank};
 use runs::write_run;
 use said::refusal::Refusal;
-use walk_decide::{Rest, allow, closed_rest, elements_for, extent_for, fit, open_rest, rest_of};
+use walk_decide::{Rest, allow, closed_rest, elements_for, extent_for, open_rest, rest_of};
 use walk_pieces::{Pieces, no_pieces};
 use walk_trees::run_at;
 use words_test::{scan_entry, scan_many};

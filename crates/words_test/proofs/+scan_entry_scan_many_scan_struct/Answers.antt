@@ -10,6 +10,7 @@ use native.Mathlib.Omega.{arith}
 use lib.ListN.{length}
 use Rattle.wgsl.specs.Place.{span_of}
 use Rattle.layout_values.specs.declared.value.Value.{Value}
+use Rattle.walk_trees.specs.declared.Series.{Series}
 use Rattle.walk_trees.specs.Tree.{Tree}
 use Rattle.walk_trees.proofs.Many.{tree_valued, tree_many}
 use Rattle.walk_trees.proofs.Room.{Each, each_room}
@@ -21,7 +22,7 @@ use Rattle.words_test.proofs.+scan_entry_scan_many_scan_struct.Goals as goal
 each : (t : ℕ) (c : scan_many-After-from-elements t) →
     let a = c.args in
     Each a.members.now a.table.now a.r c.from-elements.result 0 (span_of c.requires.0) a.k (length a.words.now)
-each t c = each_there c.requires.1 (c.parts_of-p.ensures.none c.if-p-ne0.false) c.requires.2 c.from-elements.ensures.0
+each t c = each_there c.requires.1 (c.parts_of-p.ensures.none c.if-p-ne0.false) c.requires.2 c.from-elements.ensures
 
 pub scan_entry-returns-then-r-ne2 : goal.scan_entry-returns-then-r-ne2
 scan_entry-returns-then-r-ne2 t c =
@@ -44,7 +45,7 @@ scan_many-returns-then-p-ne0 t c =
 pub scan_many-fit_at_once-fit-requires : goal.scan_many-fit_at_once-fit-requires
 scan_many-fit_at_once-fit-requires t c =
     let e = each t (goal.at.scan_many-fit_at_once-fit-requires t c).After-from-elements in
-    (e.y, span_of c.requires.0, e.tree, omega (arith, e.low, c.from-elements.ensures.1), e.room)
+    (e.y, span_of c.requires.0, e.tree, omega (arith, e.low, ap (λ (q : Series). q.stride) c.from-elements.ensures), e.room)
 
 pub scan_many-loop-i-init : goal.scan_many-loop-i-init
 scan_many-loop-i-init t c =
