@@ -3,6 +3,10 @@
 -- In order: the entries of a list; what the table's answer tells; the rank of two entries; the common type of a list.
 -- Assumes nothing.
 use Rattle.std.specs.Prelude.{Err, Result}
+use Rattle.std.specs.Prelude as std
+use Rattle.std.specs.Option.{ok_or}
+use Rattle.said.specs.Answer.{said, maybe_of}
+use Rattle.said.specs.declared.refusal.Refusal.TheVariants.{NoRank}
 use Prim.Native.Nat.{ℕ, ◌<◌, ◌≤◌}
 use mathlib.Core.Bool.{Bool, true, false}
 use mathlib.Core.List.{List, [], ◌∷◌}
@@ -54,11 +58,11 @@ unfolding number_in or_refuse ◌>>=◌
 chosen_number (some e) = refl
 chosen_number none = refl
 
--- Of no entry nothing is chosen.
-none_listed : (ts : List Ty) (es : List ℕ) → length es < 1 → refused 18 0 ≡ or_refuse 18 0 (number_in (common_of_all (entries_in ts es)))
-unfolding entries_in common_of_all number_in or_refuse
-none_listed ts [] h = refl
-none_listed ts (e ∷ es) h = absurd (omega arith)
+-- A number, or 18 where there is none.
+pub said_or_no_rank : (o : std.Option ℕ) → said (ok_or o NoRank) ≡ or_refuse 18 0 (maybe_of o)
+unfolding or_refuse
+said_or_no_rank (std.Some n) = refl
+said_or_no_rank std.None = refl
 
 -- ---- what the table's answer tells
 
@@ -132,10 +136,6 @@ module _ {f : List ℕ} {t : Trailer} (file : Taken f t) where
     chosen_is_lem =
         chosen_number (common_of_all (entries_in file.ts es))
         ∙ sym (then_is _ file.taken ∙ then_is _ (entries_below file.ts es (rw file.count below)))
-
-    -- 18: "or an empty list"
-    pub common_empty : length es < 1 → refused 18 0 ≡ common_call f es
-    common_empty h = none_listed file.ts es h ∙ chosen_is_lem
 
     pub list_there : (start : ℕ) → start ≡ t.start → (ts : List Ty) × Listed f ts start es
     list_there start s =

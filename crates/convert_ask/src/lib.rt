@@ -13,15 +13,15 @@ use said::refusal::Refusal;
 
 // The rank of entry `a`'s type to entry `b`'s.
 // Refuses 1 to 7, 24 (file), 8 (either number), 18 (no rank).
+#[tactic(auto, using(crate::proofs::Calls::rank_refused))]
 pub fn rank(file: &[u8], a: u32, b: u32) -> Result<u32, Refusal>
     ensures { said result ≡ rank_call file.now a b }
 {
     let trailer = accept(file)?;
-    let types = trailer.types;
-    if types <= a {
+    if trailer.types <= a {
         return Err(Refusal::Missing);
     }
-    if types <= b {
+    if trailer.types <= b {
         return Err(Refusal::Missing);
     }
     let start = wide(trailer.start);
@@ -30,6 +30,7 @@ pub fn rank(file: &[u8], a: u32, b: u32) -> Result<u32, Refusal>
 
 // The common type of the listed entries, as one of their numbers.
 // Refuses 1 to 7, 24 (file), 8 (any number), 18 (no common type, or an empty list).
+#[tactic(auto, using(crate::proofs::Calls::common_refused))]
 pub fn common(file: &[u8], list: &[u32]) -> Result<u32, Refusal>
     ensures { said result ≡ common_call file.now list.now }
 {
@@ -37,9 +38,5 @@ pub fn common(file: &[u8], list: &[u32]) -> Result<u32, Refusal>
     if !all_below(list, trailer.types) {
         return Err(Refusal::Missing);
     }
-    if list.len() < 1 {
-        return Err(Refusal::NoRank);
-    }
-    let start = wide(trailer.start);
-    common_of_all(file, start, list).ok_or(Refusal::NoRank)
+    common_of_all(file, wide(trailer.start), list).ok_or(Refusal::NoRank)
 }

@@ -11,20 +11,11 @@ ghost use Rattle.said.specs.Answer.{maybe_of};
 use convert_rank::entry_rank;
 use numbers::wide::wide;
 
-
 // Whether every number of the list is below `types`.
 pub fn all_below(list: &[u32], types: u32) -> bool
     ensures { result ≡ all_below list.now types }
 {
-    let n = list.len();
-    let mut i: usize = 0;
-    while i < n {
-        if types <= list[i] {
-            return false;
-        }
-        i += 1;
-    }
-    true
+    list.iter().all(|e| *e < types)
 }
 
 // "b if a has a rank to b, else a if b has one to a"
@@ -34,33 +25,22 @@ pub fn common_of_two(f: &[u8], start: usize, a: u32, b: u32) -> Option<u32>
 {
     let x = wide(a);
     let y = wide(b);
-    match entry_rank(f, start, x, y) {
-        Some(_) => Some(b),
-        None => match entry_rank(f, start, y, x) {
-            Some(_) => Some(a),
-            None => None,
-        },
+    if entry_rank(f, start, x, y).is_some() {
+        return Some(b);
     }
+    entry_rank(f, start, y, x).and(Some(a))
 }
 
-// "A list is folded from the left": the common type of a list that is not empty.
+// "A list is folded from the left": the common type of a list; none of an empty one.
+#[tactic(auto, using(crate::proofs::CommonOfAll::folded_empty, crate::proofs::CommonOfAll::folded_start, crate::proofs::CommonOfAll::folded_end, crate::proofs::CommonOfAll::folded_pair, crate::proofs::CommonOfAll::folded_step, crate::proofs::CommonOfAll::folded_none))]
 pub fn common_of_all(f: &[u8], start: usize, list: &[u32]) -> Option<u32>
-    requires { ((ts : List Ty) × Listed f.now ts start list.now) × (0 < length list.now) }
+    requires { (ts : List Ty) × Listed f.now ts start list.now }
     ensures { (ts : List Ty) → Listed f.now ts start list.now → maybe_of result ≡ number_in (common_of_all (entries_in ts list.now)) }
 {
-    let n = list.len();
-    let mut found = list[0];
-    let mut i: usize = 1;
-    while i < n {
-        match common_of_two(f, start, found, list[i]) {
-            Some(e) => {
-                found = e;
-            }
-            None => {
-                return None;
-            }
-        }
-        i += 1;
+    let (first, rest) = list.split_first()?;
+    let mut found = *first;
+    for e in rest {
+        found = common_of_two(f, start, found, *e)?;
     }
     Some(found)
 }

@@ -1,6 +1,7 @@
 -- Laws of sweeping (specs/Sweep).
 --
--- In order: what a sweep keeps; one byte; bytes that are zero already; byte by byte; runs; whatever the word's number; pieces in turn.
+-- In order: what a sweep keeps; one byte; bytes that are zero already; byte by byte; runs; whatever the word's number; repeated
+-- places in turn; pieces in turn.
 -- Assumes nothing.
 use Prim.Native.Nat.{ℕ, zero, suc, ◌+◌, ◌-◌, ◌*◌, ◌<◌, ◌≤◌}
 use mathlib.Core.Bool.{Bool, true, false, cond}
@@ -17,6 +18,7 @@ use Rattle.wgsl.specs.Place.{Place, repeated}
 use Rattle.runs.specs.Fold.{over_places}
 use Rattle.runs.specs.Run.{run_places}
 use Rattle.runs.specs.Ask.{PartsRoom}
+use Rattle.runs.proofs.OverPlaces.{Repeating, repeating_start, repeating_next, repeating_all}
 use Rattle.runs.specs.declared.Parts.{Parts}
 use Rattle.walk_pieces.specs.declared.Piece.{Piece}
 use Rattle.walk_pieces.specs.Piece.{piece_of, pieces_places, PiecesRoom}
@@ -217,6 +219,28 @@ pub any_number : (ps : List Place) (j k : ℕ) (s : Swept) → over_places sweep
 unfolding over_places sweeping
 any_number [] j k s = refl
 any_number (p ∷ ps) j k s = any_number ps (suc j) (suc k) (passed p.at p.width s)
+
+-- ---- repeated places in turn
+
+-- i of them are swept, which led from s₀ to s, with a counter that still fits
+pub record RepeatSwept (g : ℕ → List Place) (count unit stride at : ℕ) (s₀ : Swept) (i : ℕ) (s : Swept) : Type 0 where
+  pub turn : Repeating sweeping g count unit stride at 0 s₀ i s
+  pub countable : Countable s
+
+pub repeat_start : (g : ℕ → List Place) (count unit stride at : ℕ) (s : Swept) → Countable s → RepeatSwept g count unit stride at s 0 s
+repeat_start g count unit stride at s h =
+    record { turn = repeating_start sweeping g count unit stride at 0 s; countable = h }
+
+module _ {g : ℕ → List Place} {count unit stride at : ℕ} {s₀ : Swept} {i : ℕ} {s : Swept} (now : RepeatSwept g count unit stride at s₀ i s) where
+  pub repeat_next : {s' : Swept} → ((q : ℕ) → length (g q) ≡ unit) → i < count → Sweeps (g (at + i * stride)) s s' → RepeatSwept g count unit stride at s₀ (i + 1) s'
+  repeat_next unit_is h done =
+      record {
+        turn = repeating_next now.turn unit_is h (done ∙ any_number (g (at + i * stride)) 0 (0 + i * unit) s);
+        countable = keeps_countable (sweep_keeps (g (at + i * stride)) done) now.countable;
+      }
+
+  pub repeat_all : count ≤ i → Sweeps (repeated count stride g at) s₀ s
+  repeat_all h = repeating_all now.turn h
 
 -- ---- pieces in turn
 

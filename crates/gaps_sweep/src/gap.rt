@@ -17,12 +17,10 @@ fn bytes_are_zero(buf: &[u8], from: usize, to: usize) -> bool
     requires { to ≤ length buf.now }
     ensures { result ≡ true → (k : ℕ) → from ≤ k → k < to → get_or buf.now k 0 ≡ 0 }
 {
-    let mut i = from;
-    while i < to {
+    for i in from..to {
         if buf[i] != 0 {
             return false;
         }
-        i += 1;
     }
     true
 }
@@ -32,20 +30,17 @@ fn are_zero(buf: &[u8], from: usize, to: usize) -> bool
     requires { to ≤ length buf.now }
     ensures { result ≡ true → (k : ℕ) → from ≤ k → k < to → get_or buf.now k 0 ≡ 0 }
 {
-    let mut i = from;
-    while i < to {
-        if to - i < 4 {
-            return bytes_are_zero(buf, i, to);
-        }
-        if u32_at(buf, i) != 0 {
+    let words = to.saturating_sub(from) / 4;
+    for i in 0..words {
+        if u32_at(buf, from + 4 * i) != 0 {
             return false;
         }
-        i += 4;
     }
-    true
+    bytes_are_zero(buf, from + 4 * words, to)
 }
 
 // Byte `i` becomes zero.
+#[tactic(auto, unfolding(crate::specs::Sweep::swept_byte))]
 fn sweep_byte(buf: &mut [u8], s: Sweep, i: usize) -> Sweep
     requires { (i < length buf.old) × Countable (swept_of buf.old s) }
     ensures { swept_of buf.new result ≡ swept_byte i (swept_of buf.old s) }
@@ -54,19 +49,11 @@ fn sweep_byte(buf: &mut [u8], s: Sweep, i: usize) -> Sweep
         return s;
     }
     buf[i] = 0;
-    let changed = s.changed + 1;
-    let from = s.from;
-    if s.changed == 0 {
-        return Sweep {
-            from,
-            changed,
-            first: i,
-        };
-    }
+    let first = if s.changed == 0 { i } else { s.first };
     Sweep {
-        from,
-        changed,
-        first: s.first,
+        changed: s.changed + 1,
+        first,
+        ..s
     }
 }
 
@@ -76,15 +63,14 @@ fn sweep_bytes(buf: &mut [u8], s: Sweep, to: usize) -> Sweep
     ensures { swept_of buf.new result ≡ swept_to to (swept_of buf.old s) }
 {
     let mut r = s;
-    let mut i = s.from;
-    while i < to {
+    for i in s.from..to {
         r = sweep_byte(buf, r, i);
-        i += 1;
     }
     r
 }
 
 // The bytes from `s.from` to `to` become zero.
+#[tactic(auto, using(crate::proofs::Sweep::zero_stays))]
 pub fn sweep_to(buf: &mut [u8], s: Sweep, to: usize) -> Sweep
     requires { (to ≤ length buf.old) × Countable (swept_of buf.old s) }
     ensures { swept_of buf.new result ≡ swept_to to (swept_of buf.old s) }
@@ -96,6 +82,7 @@ pub fn sweep_to(buf: &mut [u8], s: Sweep, to: usize) -> Sweep
 }
 
 // The same, and then `bytes` bytes from `to` on are passed, which stay.
+#[tactic(auto, unfolding(crate::specs::Sweep::going_on, crate::specs::Sweep::passed))]
 pub fn pass(buf: &mut [u8], s: Sweep, to: usize, bytes: usize) -> Sweep
     requires { (to + bytes ≤ length buf.old) × Countable (swept_of buf.old s) }
     ensures { swept_of buf.new result ≡ passed to bytes (swept_of buf.old s) }
@@ -103,7 +90,6 @@ pub fn pass(buf: &mut [u8], s: Sweep, to: usize, bytes: usize) -> Sweep
     let r = sweep_to(buf, s, to);
     Sweep {
         from: to + bytes,
-        changed: r.changed,
-        first: r.first,
+        ..r
     }
 }

@@ -8,6 +8,7 @@ use crate::gap::{Sweep, pass};
 use runs::Parts;
 
 // `n` words of `width` bytes, one after the other from `at` on.
+#[tactic(auto, using(crate::proofs::Sweep::run_none, crate::proofs::Sweep::run_passed))]
 pub fn sweep_run(buf: &mut [u8], s: Sweep, at: usize, n: usize, width: usize) -> Sweep
     requires { (at + n * width ≤ length buf.old) × Countable (swept_of buf.old s) }
     ensures { Sweeps (run_places n width at) (swept_of buf.old s) (swept_of buf.new result) }
@@ -19,6 +20,7 @@ pub fn sweep_run(buf: &mut [u8], s: Sweep, at: usize, n: usize, width: usize) ->
 }
 
 // Parts from byte `at` on: one run where they touch.
+#[tactic(auto, using(crate::proofs::Sweep::repeat_start))]
 pub fn sweep_parts(buf: &mut [u8], s: Sweep, at: usize, p: Parts) -> Sweep
     requires { ((k : ℕ) × (words : ℕ) × PartsRoom p at (length buf.old) k words) × Countable (swept_of buf.old s) }
     ensures { Sweeps (part_places p.count p.unit p.width p.stride at) (swept_of buf.old s) (swept_of buf.new result) }
@@ -27,10 +29,8 @@ pub fn sweep_parts(buf: &mut [u8], s: Sweep, at: usize, p: Parts) -> Sweep
         return sweep_run(buf, s, at, p.count * p.unit, p.width);
     }
     let mut r = s;
-    let mut i: usize = 0;
-    while i < p.count {
+    for i in 0..p.count {
         r = sweep_run(buf, r, at + i * p.stride, p.unit, p.width);
-        i += 1;
     }
     r
 }

@@ -15,16 +15,15 @@ fn sweep_pieces(buf: &mut [u8], s: Sweep, at: usize, pieces: &Pieces, few: usize
     ensures { Sweeps (pieces_places few pieces.now at) (swept_of buf.old s) (swept_of buf.new result) }
 {
     let mut r = s;
-    let mut j: usize = 0;
-    while j < few {
+    for j in 0..few {
         let p = piece_at(pieces, j);
         r = sweep_run(buf, r, at + p.start, p.words, p.width);
-        j += 1;
     }
     r
 }
 
 // The elements of `p`, of `few` pieces each.
+#[tactic(auto, using(crate::proofs::Sweep::repeat_start, crate::proofs::Sweep::repeat_all))]
 pub fn sweep_each(
     buf: &mut [u8],
     s: Sweep,
@@ -37,10 +36,8 @@ pub fn sweep_each(
     ensures { Sweeps (repeated p.count p.stride (λ q. pieces_places few pieces.now q) at) (swept_of buf.old s) (swept_of buf.new result) }
 {
     let mut r = s;
-    let mut i: usize = 0;
-    while i < p.count {
+    for i in 0..p.count {
         r = sweep_pieces(buf, r, at + i * p.stride, pieces, few);
-        i += 1;
     }
     r
 }

@@ -3,7 +3,7 @@
 --
 -- In order: parts in turn; members in turn.
 -- Assumes nothing.
-use Prim.Native.Nat.{ℕ, ◌+◌, ◌-◌, ◌*◌, ◌<◌, ◌≤◌}
+use Prim.Native.Nat.{ℕ, ◌+◌, ◌*◌, ◌<◌, ◌≤◌}
 use mathlib.Core.List.{List}
 use mathlib.Core.Path.{◌≡◌, refl, ◌∙◌}
 use lib.ListN.{length}
@@ -15,7 +15,7 @@ use Rattle.walk_trees.specs.declared.Slot.{Slot}
 use Rattle.walk_trees.specs.Slot.{slot_at}
 use Rattle.walk_trees.specs.Tree.{Tree, Room, EachRoom, MemberRoom}
 use Rattle.walk_trees.proofs.Room.{each_room, type_tree}
-use Rattle.walk_trees.proofs.TreeSteps.{Turn, turn_start, turn_next, turn_none, Walk, walk_start, walk_first, walk_room, walk_next, walk_none}
+use Rattle.walk_trees.proofs.TreeSteps.{Turn, turn_start, turn_next, turn_none, Walk, nth_member, walk_start, walk_first, walk_room, walk_next, walk_none}
 use Rattle.gaps_sweep.specs.Sweep.{Swept, sweeping, Sweeps, Countable}
 use Rattle.gaps_sweep.proofs.Sweep.{sweep_keeps, keeps_countable, any_number}
 use Rattle.layout_values.specs.declared.value.Value.{Value}
@@ -50,35 +50,35 @@ module _ {ms : List ℕ} {table : List Value} {e count unit stride at : ℕ} {s�
 
 -- ---- members in turn
 
--- so many members of entry e are left, from byte m on; those before them are swept, which led from s₀ to s, whatever the numbers of their words
-pub record MembersSwept (ms : List ℕ) (table : List Value) (e at : ℕ) (s₀ : Swept) (left m end : ℕ) (s : Swept) : Type 0 where
+-- i members of entry e, of the value r, are swept, which led from s₀ to s, whatever the numbers of their words
+pub record MembersSwept (ms : List ℕ) (table : List Value) (e : ℕ) (r : Value) (at : ℕ) (s₀ : Swept) (i end : ℕ) (s : Swept) : Type 0 where
   pub k : ℕ
   pub words : ℕ
   pub next : ℕ
-  pub walk : Walk sweeping ms table e at (length s₀.bytes) k words s₀ left m end next s
+  pub walk : Walk sweeping ms table e r at (length s₀.bytes) k words s₀ i end next s
   pub long : length s.bytes ≡ length s₀.bytes
   pub countable : Countable s
 
-pub members_start_lem : {ms : List ℕ} {table : List Value} {e at k words : ℕ} {s₀ : Swept} {x : Shape} → Tree ms table e x → (value_at table e).kind ≡ struct_kind → Room x at (length s₀.bytes) k words → Countable s₀ → MembersSwept ms table e at s₀ (value_at table e).count ((value_at table e).reference * (value_at table e).stride) 0 s₀
-members_start_lem {k} {words} {s₀} t kind room c =
-    record { k = k; words = words; next = k; walk = walk_start sweeping s₀ t kind room; long = refl; countable = c }
+pub members_start_lem : {ms : List ℕ} {table : List Value} {e at k words : ℕ} {r : Value} {s₀ : Swept} {x : Shape} → Tree ms table e x → r ≡ value_at table e → r.kind ≡ struct_kind → Room x at (length s₀.bytes) k words → Countable s₀ → MembersSwept ms table e r at s₀ 0 0 s₀
+members_start_lem {k} {words} {s₀} t is kind room c =
+    record { k = k; words = words; next = k; walk = walk_start sweeping s₀ t is kind room; long = refl; countable = c }
 
-module _ {ms : List ℕ} {table : List Value} {e at : ℕ} {s₀ : Swept} {left m end : ℕ} {s : Swept} (now : MembersSwept ms table e at s₀ left m end s) where
-  pub member_ready : (h : 0 < left) → MemberRoom ms table m end (walk_first now.walk h).y at (length s.bytes) now.next now.words
+module _ {ms : List ℕ} {table : List Value} {e : ℕ} {r : Value} {at : ℕ} {s₀ : Swept} {i end : ℕ} {s : Swept} (now : MembersSwept ms table e r at s₀ i end s) where
+  pub member_ready : (h : i < r.count) → MemberRoom ms table (nth_member r i) end (walk_first now.walk h).y at (length s.bytes) now.next now.words
   member_ready h = rw now.long (walk_room now.walk h)
 
-  pub members_next : {s' : Swept} {p : Slot} {step : ℕ} → 0 < left → p ≡ slot_at ms table m end → step ≡ (value_at table e).stride → ((y : Shape) → Tree ms table p.ty y → Sweeps (places_of y (at + p.start)) s s') → MembersSwept ms table e at s₀ (left - 1) (m + step) p.end s'
-  members_next {p} h is q done =
+  pub members_next : {s' : Swept} {p : Slot} → i < r.count → p ≡ slot_at ms table (nth_member r i) end → ((y : Shape) → Tree ms table p.ty y → Sweeps (places_of y (at + p.start)) s s') → MembersSwept ms table e r at s₀ (i + 1) p.end s'
+  members_next {p} h is done =
       let y = (walk_first now.walk h).y in
       let keeps = sweep_keeps (places_of y (at + p.start)) (done y (type_tree (walk_room now.walk h) is)) in
       record {
         k = now.k;
         words = now.words;
         next = now.next + p.words;
-        walk = walk_next now.walk h is q (λ x t. rw (← is) (done x (rw is t) ∙ any_number (places_of x (at + p.start)) 0 now.next s));
+        walk = walk_next now.walk h is (λ x t. rw (← is) (done x (rw is t) ∙ any_number (places_of x (at + p.start)) 0 now.next s));
         long = keeps.long ∙ now.long;
         countable = keeps_countable keeps now.countable;
       }
 
-  pub members_none : left ≤ 0 → (x : Shape) → Tree ms table e x → Sweeps (places_of x at) s₀ s
+  pub members_none : r.count ≤ i → (x : Shape) → Tree ms table e x → Sweeps (places_of x at) s₀ s
   members_none h x t = walk_none now.walk h x t ∙ any_number (places_of x at) now.k 0 s₀

@@ -8,15 +8,12 @@ ghost use Rattle.wgsl.specs.Types.{struct_kind};
 ghost use Rattle.layout_values.specs.Value.{value_at};
 ghost use Rattle.walk_trees.specs.Tree.{Many, Tree, Room};
 ghost use Rattle.gaps_sweep.specs.Sweep.{swept_of, Sweeps, Countable};
-ghost use Rattle.walk_pieces.specs.Piece.{Listed};
 
 use file::kinds::STRUCT;
 use gaps_sweep::gap::Sweep;
 use gaps_sweep::parts::{sweep_parts, sweep_run};
 use gaps_sweep::pieces::sweep_each;
 use layout_values::value::{Value, value_at};
-use numbers::wide::wide;
-use runs::Parts;
 use walk_pieces::{MOST, Pieces, pieces_of};
 use walk_trees::{Series, packed, parts_of, slot_after};
 
@@ -31,13 +28,12 @@ pub fn sweep_entry(
     s: Sweep,
     pieces: &mut Pieces,
 ) -> Sweep
-    requires { ((x : Shape) × (k : ℕ) × (words : ℕ) × Tree members.now table.now e x × Room x at (length buf.old) k words) × Countable (swept_of buf.old s) × Listed pieces.old }
-    ensures swept { (x : Shape) → Tree members.now table.now e x → Sweeps (places_of x at) (swept_of buf.old s) (swept_of buf.new result) }
-    ensures long { Listed pieces.new }
+    requires { ((x : Shape) × (k : ℕ) × (words : ℕ) × Tree members.now table.now e x × Room x at (length buf.old) k words) × Countable (swept_of buf.old s) }
+    ensures { (x : Shape) → Tree members.now table.now e x → Sweeps (places_of x at) (swept_of buf.old s) (swept_of buf.new result) }
 {
     let l = value_at(table, e);
     if packed(l) == 4 {
-        return sweep_run(buf, s, at, wide(l.words()), 4);
+        return sweep_run(buf, s, at, l.words() as usize, 4);
     }
     if l.kind == STRUCT {
         return sweep_struct(members, table, e, l, at, buf, s, pieces);
@@ -56,32 +52,30 @@ pub fn sweep_many(
     s: Sweep,
     pieces: &mut Pieces,
 ) -> Sweep
-    requires { ((x : Shape) × (k : ℕ) × (words : ℕ) × Many members.now table.now l x × Room x at (length buf.old) k words) × Countable (swept_of buf.old s) × Listed pieces.old }
-    ensures swept { (x : Shape) → Many members.now table.now l x → Sweeps (places_of x at) (swept_of buf.old s) (swept_of buf.new result) }
-    ensures long { Listed pieces.new }
+    requires { ((x : Shape) × (k : ℕ) × (words : ℕ) × Many members.now table.now l x × Room x at (length buf.old) k words) × Countable (swept_of buf.old s) }
+    ensures { (x : Shape) → Many members.now table.now l x → Sweeps (places_of x at) (swept_of buf.old s) (swept_of buf.new result) }
 {
-    let p: Parts = parts_of(table, l);
+    let p = parts_of(table, l);
     if p.width != 0 {
         return sweep_parts(buf, s, at, p);
     }
-    let count = wide(l.count);
-    let unit = wide(l.unit);
-    let stride = wide(l.stride);
-    let element = wide(l.reference);
-    let few = pieces_of(members, table, element, count, pieces);
+    let each = Series::from(l);
+    let element = l.reference as usize;
+    let few = pieces_of(members, table, element, each.count, pieces);
     if few <= MOST {
-        let q = Series {
-            count,
-            unit,
-            stride,
-        };
-        return sweep_each(buf, s, at, q, pieces, few);
+        return sweep_each(buf, s, at, each, pieces, few);
     }
     let mut r = s;
-    let mut i: usize = 0;
-    while i < count {
-        r = sweep_entry(members, table, element, at + i * stride, buf, r, pieces);
-        i += 1;
+    for i in 0..each.count {
+        r = sweep_entry(
+            members,
+            table,
+            element,
+            at + i * each.stride,
+            buf,
+            r,
+            pieces,
+        );
     }
     r
 }
@@ -98,21 +92,17 @@ fn sweep_struct(
     s: Sweep,
     pieces: &mut Pieces,
 ) -> Sweep
-    requires { ((x : Shape) × (k : ℕ) × (words : ℕ) × Tree members.now table.now e x × (l ≡ value_at table.now e) × (l.kind ≡ struct_kind) × Room x at (length buf.old) k words) × Countable (swept_of buf.old s) × Listed pieces.old }
-    ensures swept { (x : Shape) → Tree members.now table.now e x → Sweeps (places_of x at) (swept_of buf.old s) (swept_of buf.new result) }
-    ensures long { Listed pieces.new }
+    requires { ((x : Shape) × (k : ℕ) × (words : ℕ) × Tree members.now table.now e x × (l ≡ value_at table.now e) × (l.kind ≡ struct_kind) × Room x at (length buf.old) k words) × Countable (swept_of buf.old s) }
+    ensures { (x : Shape) → Tree members.now table.now e x → Sweeps (places_of x at) (swept_of buf.old s) (swept_of buf.new result) }
 {
-    let length = wide(l.stride);
-    let mut m = wide(l.reference) * length;
-    let mut left = wide(l.count);
-    let mut end: usize = 0;
+    let length = l.stride as usize;
+    let first = l.reference as usize * length;
+    let mut end = 0;
     let mut r = s;
-    while 0 < left {
-        let p = slot_after(members, table, m, end);
+    for i in 0..l.count as usize {
+        let p = slot_after(members, table, first + length * i, end);
         r = sweep_entry(members, table, p.ty, at + p.start, buf, r, pieces);
         end = p.end;
-        m += length;
-        left -= 1;
     }
     r
 }

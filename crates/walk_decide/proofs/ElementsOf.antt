@@ -2,9 +2,9 @@
 --
 -- In order: elements that words fill; where elements end; elements that bytes hold.
 -- Assumes nothing.
-use Rattle.std.specs.Prelude.{None, Some}
+use Rattle.std.specs.Prelude.{None, Option, Some}
 use Prim.Native.Nat.{ℕ, ◌+◌, ◌-◌, ◌*◌, ◌/◌, ◌<◌, ◌≤◌}
-use mathlib.Core.Bool.{true, false, cond, not, ◌&&◌}
+use mathlib.Core.Bool.{Bool, true, false, cond, not, ◌&&◌}
 use mathlib.Core.Path.{◌≡◌, refl}
 use native.Mathlib.Omega.{arith}
 use native.Mathlib.Nat.{div-eq_of_lt, le-div_iff_mul-le, div-lt_iff_lt-mul}
@@ -21,7 +21,7 @@ module _ (words fixed unit : ℕ) (some_words : 0 < unit) where
       let none : (words - fixed) / unit ≡ 0 = div-eq_of_lt (omega arith) in
       rw none (go (eqb words (fixed + 0 * unit)))
     where
-      go : (b : _) → cond (b && not (eqb 0 0)) (Some 0) None ≡ None
+      go : (b : Bool) → cond {A = Option ℕ} (b && not (eqb 0 0)) (Some 0) None ≡ None
       go true = refl
       go false = refl
 

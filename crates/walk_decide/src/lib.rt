@@ -18,7 +18,6 @@ use numbers::limit::LIMIT;
 use said::refusal::Refusal;
 use walk_trees::member_in;
 
-
 // 17 and 9, and 10 too for an entry that is to be stored: for an entry of the value `l` and a buffer of so many bytes.
 pub fn allow(l: Value, bytes: usize, stored: bool) -> Result<(), Refusal>
     ensures { (t : Ty) → l ≡ value_of l.stride l.reference t → everywhere is_well_formed t ≡ true → said result ≡ allowed stored t bytes }
@@ -86,7 +85,7 @@ pub fn elements_in(bytes: usize, first: usize, stride: u32) -> Option<usize>
 }
 
 // What lies after the fixed part of an entry: parts as a value says, from a byte and from a word on.
-#[derive(Clone, Copy)]
+#[derive(Clone, Copy, Debug, PartialEq, Eq)]
 pub struct Rest {
     pub value: Value,
     pub offset: usize,
@@ -136,22 +135,15 @@ pub fn closed_rest(l: Value) -> Rest
 }
 
 // An open type: `n` elements.
+#[tactic(auto, unfolding(crate::specs::Decide::open_rest, walk_trees::specs::Slot::with_count))]
 pub fn open_rest(x: Rest, n: u32) -> Rest
     ensures { result ≡ open_rest x n }
 {
-    let l = x.value;
     Rest {
         value: Value {
-            kind: l.kind,
-            narrow: l.narrow,
-            reference: l.reference,
             count: n,
-            unit: l.unit,
-            stride: l.stride,
-            size: l.size,
-            align: l.align,
+            ..x.value
         },
-        offset: x.offset,
-        fixed: x.fixed,
+        ..x
     }
 }

@@ -22,12 +22,13 @@ use Rattle.runs.specs.declared.Parts.{Parts}
 use Rattle.runs.proofs.OverPlaces.{over_append, repeated_append, widths, tested_widths, tested_refused, tested_moved}
 use Rattle.layout_values.specs.declared.value.Value.{Value}
 use Rattle.layout_values.specs.Value.{value_at, words_in}
-use Rattle.walk_trees.specs.Slot.{part_width, member_at, slot_at}
+use Rattle.walk_trees.specs.declared.Series.{Series}
+use Rattle.walk_trees.specs.Slot.{part_width, series_of, member_at, slot_at}
 use Rattle.walk_trees.specs.Tree.{Runs, RunsOf, Many, runs, each, Tree, WordRoom, AllWide, Wide, MemberRoom}
 use Rattle.walk_trees.proofs.Many.{tree_valued}
 use Rattle.walk_trees.proofs.Room.{Each, each_entry}
-use Rattle.walk_trees.proofs.TreeSteps.{Turn, turn_start, turn_next, turn_none, Walk, walk_start, walk_first, walk_room, walk_words, walk_next, walk_none}
-use Rattle.said.specs.declared.refusal.Refusal.TheVariants.{Word}
+use Rattle.walk_trees.proofs.TreeSteps.{Turn, turn_next, turn_none, nth_member, Walk, walk_start, walk_first, walk_room, walk_words, walk_next, walk_none}
+use Rattle.said.specs.Refusal.{number_of, place_of}
 use Rattle.said.specs.declared.refusal.Refusal.{Refusal}
 use Rattle.said.specs.Answer.{said}
 
@@ -128,127 +129,124 @@ says_run ws k s {p} are said x m =
     said ∙ rw ((are x m).places_are 0) (sym (tested_moved ws p.count p.unit p.width p.stride 0 k (good tt)))
 
 -- the layout's parts are entries, and their words are there
-pub each_there : {ms : List ℕ} {table : List Value} {r : Value} {x : Shape} {element count unit k ws : ℕ} → Many ms table r x → part_width table r ≡ 0 → WordRoom x k ws → element ≡ r.reference → count ≡ r.count → unit ≡ r.unit → Each ms table r element count unit r.stride 0 (span_of x) k ws
-each_there m w room e c u =
-    each_entry m w (record { bytes_there = omega arith; words_there = room.words_there }) e c u refl
+pub each_there : {ms : List ℕ} {table : List Value} {r : Value} {x : Shape} {q : Series} {k ws : ℕ} → Many ms table r x → part_width table r ≡ 0 → WordRoom x k ws → q ≡ series_of r → Each ms table r q 0 (span_of x) k ws
+each_there m w room is = each_entry m w (record { bytes_there = omega arith; words_there = room.words_there }) is
 
 -- i parts have passed; how far they lie apart does not matter
-pub record Turns (ms : List ℕ) (table : List Value) (ws : List ℕ) (element count unit k i : ℕ) : Type 0 where
-  pub turn : (stride : ℕ) → Turn (testing ws) ms table element count unit stride 0 k (good tt) i (good tt)
-
-pub turns_start : (ms : List ℕ) (table : List Value) (ws : List ℕ) (element count unit k : ℕ) → Turns ms table ws element count unit k 0
-turns_start ms table ws element count unit k =
-    record { turn = λ stride. turn_start (testing ws) ms table element count unit stride 0 k (good tt) }
+pub record Turns (ms : List ℕ) (table : List Value) (ws : List ℕ) (e : ℕ) (q : Series) (k i : ℕ) : Type 0 where
+  pub turn : (stride : ℕ) → Turn (testing ws) ms table e q.count q.unit stride 0 k (good tt) i (good tt)
 
 -- Elements that fit are passed.
-pub turns_fitting : {ms : List ℕ} {table : List Value} {r : Value} {element count unit bytes k n : ℕ} (all : Each ms table r element count unit r.stride 0 bytes k n) {ws : List ℕ} {i : ℕ} → i ≤ count → ((y : Shape) → Tree ms table element y → (stride : ℕ) → good tt ≡ over_places (testing ws) (places_of (parts i stride y) 0) k (good tt)) → Turns ms table ws element count unit k i
+pub turns_fitting : {ms : List ℕ} {table : List Value} {r : Value} {q : Series} {bytes k n : ℕ} (all : Each ms table r q 0 bytes k n) {ws : List ℕ} {i : ℕ} → i ≤ q.count → ((y : Shape) → Tree ms table r.reference y → (stride : ℕ) → good tt ≡ over_places (testing ws) (places_of (parts i stride y) 0) k (good tt)) → Turns ms table ws r.reference q k i
 unfolding places_of
-turns_fitting {element = element} {count = count} {unit = unit} {k = k} all {ws} {i} h fit =
+turns_fitting {q = q} {k = k} all {ws} {i} h fit =
     record {
       turn = λ stride.
           record {
             within = h;
             turns = λ y t.
-                let e : count ≡ i + (count - i) = omega arith in
-                let words : (p : ℕ) → length (places_of y p) ≡ unit = λ p. places_words y p ∙ (tree_valued t).words_are ∙ sym (tree_valued all.tree).words_are ∙ all.room.unit_is in
+                let e : q.count ≡ i + (q.count - i) = omega arith in
+                let words : (p : ℕ) → length (places_of y p) ≡ q.unit = λ p. places_words y p ∙ (tree_valued t).words_are ∙ sym (tree_valued all.tree).words_are ∙ all.room.unit_is in
                 let first = repeated i stride (λ p. places_of y p) 0 in
-                let rest = repeated (count - i) stride (λ p. places_of y p) (0 + i * stride) in
+                let rest = repeated (q.count - i) stride (λ p. places_of y p) (0 + i * stride) in
                 record {
                   within = h;
                   same = sym
                       (ap (λ (m : ℕ). over_places (testing ws) (repeated m stride (λ p. places_of y p) 0) k (good tt)) e
-                      ∙ ap (λ (ps : List Place). over_places (testing ws) ps k (good tt)) (repeated_append i (count - i) stride (λ p. places_of y p) 0)
+                      ∙ ap (λ (ps : List Place). over_places (testing ws) ps k (good tt)) (repeated_append i (q.count - i) stride (λ p. places_of y p) 0)
                       ∙ over_append (testing ws) first rest k (good tt)
-                      ∙ rw (repeated_length i stride (λ p. places_of y p) 0 unit words, ← fit y t stride) refl);
+                      ∙ rw (repeated_length i stride (λ p. places_of y p) 0 q.unit words, ← fit y t stride) refl);
                 };
           };
     }
 
-module _ {ms : List ℕ} {table : List Value} {r : Value} {element count unit bytes k n : ℕ} (all : Each ms table r element count unit r.stride 0 bytes k n) {ws : List ℕ} {i : ℕ} (now : Turns ms table ws element count unit k i) where
-  turns_said : (s : Result (Unit {0}) Refusal) → i < count → Says ws (k + i * unit) (λ x. Tree ms table element x) s → (stride : ℕ) → Turn (testing ws) ms table element count unit stride 0 k (good tt) (i + 1) (said s)
+module _ {ms : List ℕ} {table : List Value} {r : Value} {q : Series} {bytes k n : ℕ} (all : Each ms table r q 0 bytes k n) {ws : List ℕ} {i : ℕ} (now : Turns ms table ws r.reference q k i) where
+  turns_said : (s : Result (Unit {0}) Refusal) → i < q.count → Says ws (k + i * q.unit) (λ x. Tree ms table r.reference x) s → (stride : ℕ) → Turn (testing ws) ms table r.reference q.count q.unit stride 0 k (good tt) (i + 1) (said s)
   turns_said s h said stride =
       turn_next (now.turn stride) all.tree all.room.unit_is h
-      (λ x t. said x t ∙ tested_anywhere ws x (0 + i * stride) (k + i * unit) (good tt))
+      (λ x t. said x t ∙ tested_anywhere ws x (0 + i * stride) (k + i * q.unit) (good tt))
 
-  pub turns_fine : i < count → Says ws (k + i * unit) (λ x. Tree ms table element x) (Ok tt) → Turns ms table ws element count unit k (i + 1)
+  pub turns_fine : i < q.count → Says ws (k + i * q.unit) (λ x. Tree ms table r.reference x) (Ok tt) → Turns ms table ws r.reference q k (i + 1)
   turns_fine h said = record { turn = turns_said (Ok tt) h said }
 
-  pub turns_bad : {q : ℕ} → i < count → Says ws (k + i * unit) (λ x. Tree ms table element x) ((Err (Word q))) → Says ws k (λ x. Many ms table r x) ((Err (Word q)))
+  pub turns_bad : (bad : Refusal) → i < q.count → Says ws (k + i * q.unit) (λ x. Tree ms table r.reference x) (Err bad) → Says ws k (λ x. Many ms table r x) (Err bad)
   unfolding places_of
-  turns_bad {q} h said x m =
+  turns_bad bad h said x m =
       let z = all.any x m in
       rw z.2
-      (sym (tested_refused ws (repeated (count - (i + 1)) r.stride (λ p. places_of z.0 p) (0 + (i + 1) * r.stride)) (k + (i + 1) * unit) 16 q)
-      ∙ ((turns_said ((Err (Word q))) h said r.stride).turns z.0 z.1).same)
+      (sym (tested_refused ws (repeated (q.count - (i + 1)) q.stride (λ p. places_of z.0 p) (0 + (i + 1) * q.stride)) (k + (i + 1) * q.unit) (number_of bad) (place_of bad))
+      ∙ ((turns_said (Err bad) h said q.stride).turns z.0 z.1).same)
 
-  pub turns_none : count ≤ i → Says ws k (λ x. Many ms table r x) (Ok tt)
-  turns_none h x m = let z = all.any x m in rw z.2 (turn_none (now.turn r.stride) h z.0 z.1)
+  pub turns_none : q.count ≤ i → Says ws k (λ x. Many ms table r x) (Ok tt)
+  turns_none h x m = let z = all.any x m in rw z.2 (turn_none (now.turn q.stride) h z.0 z.1)
 
 -- ---- members
 
--- so many members are left, from the one at byte m and from word `next` on, and those before have passed;
+-- i members have passed, and those that are left have their words from word `next` on;
 -- the walk knows where they lie, though the code need not
-pub record Scanned (ms : List ℕ) (table : List Value) (ws : List ℕ) (e k left m next : ℕ) : Type 0 where
+pub record Scanned (ms : List ℕ) (table : List Value) (ws : List ℕ) (e : ℕ) (r : Value) (k i next : ℕ) : Type 0 where
   pub bytes : ℕ
   pub end : ℕ
-  pub walk : Walk (testing ws) ms table e 0 bytes k (length ws) (good tt) left m end next (good tt)
+  pub walk : Walk (testing ws) ms table e r 0 bytes k (length ws) (good tt) i end next (good tt)
 
-pub scanned_start : {ms : List ℕ} {table : List Value} (ws : List ℕ) {e k left m : ℕ} {x : Shape} → Tree ms table e x → (value_at table e).kind ≡ struct_kind → WordRoom x k (length ws) → left ≡ (value_at table e).count → m ≡ (value_at table e).reference * (value_at table e).stride → Scanned ms table ws e k left m k
-scanned_start ws {x} t kind room c f =
-    rw (c, f)
-    (record {
+pub scanned_start : {ms : List ℕ} {table : List Value} (ws : List ℕ) {e k : ℕ} {r : Value} {x : Shape} → Tree ms table e x → r ≡ value_at table e → r.kind ≡ struct_kind → WordRoom x k (length ws) → Scanned ms table ws e r k 0 k
+scanned_start ws {x} t is kind room =
+    record {
       bytes = span_of x;
       end = 0;
-      walk = walk_start (testing ws) (good tt) t kind (record { bytes_there = omega arith; words_there = room.words_there });
-    })
+      walk = walk_start (testing ws) (good tt) t is kind (record { bytes_there = omega arith; words_there = room.words_there });
+    }
 
-module _ {ms : List ℕ} {table : List Value} {ws : List ℕ} {e k left m next : ℕ} (now : Scanned ms table ws e k left m next) where
+module _ {ms : List ℕ} {table : List Value} {ws : List ℕ} {e : ℕ} {r : Value} {k i next : ℕ} (now : Scanned ms table ws e r k i next) where
   -- the member whose turn it is
-  module _ (h : 0 < left) where
-    scanned_room : MemberRoom ms table m now.end (walk_first now.walk h).y 0 now.bytes next (length ws)
+  module _ (h : i < r.count) where
+    abbrev pub scanned_shape : Shape
+    scanned_shape = (walk_first now.walk h).y
+
+    scanned_room : MemberRoom ms table (nth_member r i) now.end scanned_shape 0 now.bytes next (length ws)
     scanned_room = walk_room now.walk h
 
-    pub scanned_inside : m + member_fields_length ≤ length ms
+    pub scanned_inside : nth_member r i + member_fields_length ≤ length ms
     scanned_inside = scanned_room.slot_asks.inside
 
-    module _ {ty : ℕ} (read : ty ≡ load 2 ms m) where
-      type_read : ty ≡ (member_at ms m).type
+    module _ {ty : ℕ} (read : ty ≡ load 2 ms (nth_member r i)) where
+      type_read : ty ≡ (member_at ms (nth_member r i)).type
       unfolding member_entry_from
       type_read = read
 
       pub scanned_lower : ty < e
       scanned_lower = rw type_read (walk_first now.walk h).member.lower
 
-      pub scanned_tree : Tree ms table ty (walk_first now.walk h).y
+      pub scanned_tree : Tree ms table ty scanned_shape
       scanned_tree = rw type_read (walk_first now.walk h).tree
 
-      pub scanned_there : WordRoom (walk_first now.walk h).y next (length ws)
+      pub scanned_there : WordRoom scanned_shape next (length ws)
       scanned_there = record { words_there = scanned_room.room.words_there }
 
-      words_read_here : (slot_at ms table m now.end).words ≡ words_in (value_at table ty)
+      words_read_here : (slot_at ms table (nth_member r i) now.end).words ≡ words_in (value_at table ty)
       unfolding slot_at
       words_read_here = rw type_read refl
 
-      type_placed : ty ≡ (slot_at ms table m now.end).ty
+      type_placed : ty ≡ (slot_at ms table (nth_member r i) now.end).ty
       unfolding slot_at
       type_placed = type_read
 
-      module _ {step words : ℕ} (step_is_lem : step ≡ (value_at table e).stride) (words_are : words ≡ words_in (value_at table ty)) where
-        walked : (s : Result (Unit {0}) Refusal) → Says ws next (λ x. Tree ms table ty x) s → Walk (testing ws) ms table e 0 now.bytes k (length ws) (good tt) (left - 1) (m + step) (slot_at ms table m now.end).end (next + words) (said s)
+      module _ {words : ℕ} (words_are : words ≡ words_in (value_at table ty)) where
+        walked : (s : Result (Unit {0}) Refusal) → Says ws next (λ x. Tree ms table ty x) s → Walk (testing ws) ms table e r 0 now.bytes k (length ws) (good tt) (i + 1) (slot_at ms table (nth_member r i) now.end).end (next + words) (said s)
         walked s said =
             rw (words_are, ← words_read_here)
-            (walk_next now.walk h refl step_is_lem
-            (λ y t. said y (rw type_placed t) ∙ tested_anywhere ws y (0 + (slot_at ms table m now.end).start) next (good tt)))
+            (walk_next now.walk h refl
+            (λ y t. said y (rw type_placed t) ∙ tested_anywhere ws y (0 + (slot_at ms table (nth_member r i) now.end).start) next (good tt)))
 
         pub scanned_words : next + words ≤ length ws
         scanned_words = rw (words_are, ← words_read_here) (walk_words now.walk h refl)
 
-        pub scanned_next : Says ws next (λ x. Tree ms table ty x) (Ok tt) → Scanned ms table ws e k (left - 1) (m + step) (next + words)
-        scanned_next said = record { bytes = now.bytes; end = (slot_at ms table m now.end).end; walk = walked (Ok tt) said }
+        pub scanned_next : Says ws next (λ x. Tree ms table ty x) (Ok tt) → Scanned ms table ws e r k (i + 1) (next + words)
+        scanned_next said = record { bytes = now.bytes; end = (slot_at ms table (nth_member r i) now.end).end; walk = walked (Ok tt) said }
 
-        pub scanned_bad : {q : ℕ} → Says ws next (λ x. Tree ms table ty x) ((Err (Word q))) → Says ws k (λ x. Tree ms table e x) ((Err (Word q)))
-        scanned_bad {q} said x t =
-            sym (tested_refused ws (places_of (walked ((Err (Word q))) said).rest 0) (next + words) 16 q) ∙ (walked ((Err (Word q))) said).same x t
+      pub scanned_bad : (bad : Refusal) → Says ws next (λ x. Tree ms table ty x) (Err bad) → Says ws k (λ x. Tree ms table e x) (Err bad)
+      scanned_bad bad said x t =
+          sym (tested_refused ws (places_of (walked refl (Err bad) said).rest 0) (next + words_in (value_at table ty)) (number_of bad) (place_of bad)) ∙ (walked refl (Err bad) said).same x t
 
-  pub scanned_none : left ≤ 0 → Says ws k (λ x. Tree ms table e x) (Ok tt)
+  pub scanned_none : r.count ≤ i → Says ws k (λ x. Tree ms table e x) (Ok tt)
   scanned_none h = walk_none now.walk h

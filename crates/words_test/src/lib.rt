@@ -10,17 +10,15 @@ ghost use Rattle.wgsl.specs.Types.{struct_kind};
 ghost use Rattle.runs.specs.Fold.{Tests};
 ghost use Rattle.layout_values.specs.Value.{value_at};
 ghost use Rattle.walk_trees.specs.Tree.{Many, Tree, EachRoom, WordRoom};
-ghost use Rattle.walk_pieces.specs.Piece.{Listed};
 ghost use Rattle.said.specs.Answer.{said};
 
-use said::refusal::Refusal;
 use file::fields::half;
 use file::kinds::STRUCT;
 use layout_values::value::{Value, value_at};
-use numbers::wide::wide;
 use runs::scan_run;
+use said::refusal::Refusal;
 use walk_pieces::{MOST, Pieces, pieces_of};
-use walk_trees::parts_of;
+use walk_trees::{Series, parts_of};
 use words_pieces::testing::fitting;
 
 // Tests the words of entry `e`, from word `k` on. Only what holds an f16 is looked at.
@@ -33,9 +31,8 @@ pub fn scan_entry(
     k: usize,
     pieces: &mut Pieces,
 ) -> Result<(), Refusal>
-    requires { ((x : Shape) × Tree members.now table.now e x × WordRoom x k (length words.now)) × Listed pieces.old }
+    requires { (x : Shape) × Tree members.now table.now e x × WordRoom x k (length words.now) }
     ensures said { (x : Shape) → Tree members.now table.now e x → Tests words.now (places_of x 0) k (said result) }
-    ensures long { Listed pieces.new }
 {
     let r = value_at(table, e);
     if r.narrow != 2 {
@@ -47,24 +44,22 @@ pub fn scan_entry(
     scan_many(members, table, r, words, k, pieces)
 }
 
-// How many of `count` elements of `unit` words, each the entry `e`, fit before the first that does not, by their pieces, where they are few.
+// How many of the elements `p`, each the entry `e`, fit before the first that does not, by their pieces, where they are few.
 fn fit_at_once(
     members: &[u8],
     table: &[Value],
     e: usize,
-    count: usize,
-    unit: usize,
+    p: Series,
     words: &[u32],
     k: usize,
     pieces: &mut Pieces,
 ) -> usize
-    requires { ((y : Shape) × (stride : ℕ) × (bytes : ℕ) × Tree members.now table.now e y × (span_of y ≤ limit) × EachRoom y count unit stride 0 bytes k (length words.now)) × Listed pieces.old }
-    ensures fitting { (result ≤ count) × ((y : Shape) → Tree members.now table.now e y → (stride : ℕ) → Tests words.now (places_of (parts result stride y) 0) k (good tt)) }
-    ensures long { Listed pieces.new }
+    requires { (y : Shape) × (bytes : ℕ) × Tree members.now table.now e y × (span_of y ≤ limit) × EachRoom y p.count p.unit p.stride 0 bytes k (length words.now) }
+    ensures { (result ≤ p.count) × ((y : Shape) → Tree members.now table.now e y → (stride : ℕ) → Tests words.now (places_of (parts result stride y) 0) k (good tt)) }
 {
-    let few = pieces_of(members, table, e, count, pieces);
+    let few = pieces_of(members, table, e, p.count, pieces);
     if few <= MOST {
-        return fitting(pieces, few, count, unit, words, k);
+        return fitting(pieces, few, p.count, p.unit, words, k);
     }
     0
 }
@@ -79,9 +74,8 @@ pub fn scan_many(
     k: usize,
     pieces: &mut Pieces,
 ) -> Result<(), Refusal>
-    requires { ((x : Shape) × Many members.now table.now r x × WordRoom x k (length words.now)) × Listed pieces.old }
+    requires { (x : Shape) × Many members.now table.now r x × WordRoom x k (length words.now) }
     ensures said { (x : Shape) → Many members.now table.now r x → Tests words.now (places_of x 0) k (said result) }
-    ensures long { Listed pieces.new }
 {
     if r.narrow != 2 {
         return Ok(());
@@ -90,18 +84,12 @@ pub fn scan_many(
     if p.width != 0 {
         return scan_run(words, k, p.count * p.unit, p.width);
     }
-    let count = wide(r.count);
-    let unit = wide(r.unit);
-    let element = wide(r.reference);
-    let mut i = fit_at_once(members, table, element, count, unit, words, k, pieces);
-    while i < count {
-        match scan_entry(members, table, element, words, k + i * unit, pieces) {
-            Ok(()) => {}
-            Err(Refusal::Word(p)) => {
-                return Err(Refusal::Word(p));
-            }
-        }
-        i += 1;
+    let element = r.reference as usize;
+    let elements = Series::from(r);
+    let fit = fit_at_once(members, table, element, elements, words, k, pieces);
+    for i in fit..elements.count {
+        let next = k + i * elements.unit;
+        scan_entry(members, table, element, words, next, pieces)?;
     }
     Ok(())
 }
@@ -117,28 +105,19 @@ fn scan_struct(
     k: usize,
     pieces: &mut Pieces,
 ) -> Result<(), Refusal>
-    requires { ((x : Shape) × Tree members.now table.now e x × (r ≡ value_at table.now e) × (r.kind ≡ struct_kind) × WordRoom x k (length words.now)) × Listed pieces.old }
+    requires { (x : Shape) × Tree members.now table.now e x × (r ≡ value_at table.now e) × (r.kind ≡ struct_kind) × WordRoom x k (length words.now) }
     ensures said { (x : Shape) → Tree members.now table.now e x → Tests words.now (places_of x 0) k (said result) }
-    ensures long { Listed pieces.new }
 {
-    let length = wide(r.stride);
-    let mut m = wide(r.reference) * length;
-    let mut left = wide(r.count);
+    let length = r.stride as usize;
+    let first = r.reference as usize * length;
     let mut next = k;
-    while 0 < left {
-        let ty = wide(half(members, m));
+    for i in 0..r.count as usize {
+        let ty = half(members, first + length * i) as usize;
         let l = value_at(table, ty);
         if l.narrow == 2 {
-            match scan_entry(members, table, ty, words, next, pieces) {
-                Ok(()) => {}
-                Err(Refusal::Word(q)) => {
-                    return Err(Refusal::Word(q));
-                }
-            }
+            scan_entry(members, table, ty, words, next, pieces)?;
         }
-        next += wide(l.words());
-        m += length;
-        left -= 1;
+        next += l.words() as usize;
     }
     Ok(())
 }

@@ -1,16 +1,15 @@
--- The loop's invariant: what is left of the list passes the test just when the list does.
-use mathlib.Core.Path.{sym, ◌∙◌}
-use native.Mathlib.Omega.{arith}
-use Rattle.convert_common.proofs.CommonOfAll.{all_below_end, all_below_step, all_below_bad}
+-- The iterator's test of each element is `all_below`.
+use mathlib.Core.Path.{◌∙◌}
+use borrow.Author.Rules.{rules}
+use borrow.Author.Tests.{tests}
+use lib.Dec.{ltb}
+use Rattle.std.proofs.lemmas.Iterator.{YieldsList-from_slice}
+use Rattle.std.proofs.lemmas.Iterator.Search.{all_from_yields_List}
+use Rattle.convert_common.proofs.CommonOfAll.{all_below_is}
 use Rattle.convert_common.proofs.all_below.Goals as goal
 
-pub returns-then-types-list : goal.returns-then-types-list
-returns-then-types-list c =
-    sym (all_below_bad _ _ _ c.loop-i-test.true c.if-types-list.true) ∙ c.loop-i.invariant.1
-
-pub loop-i-preserved : goal.loop-i-preserved
-loop-i-preserved c =
-    (omega arith, sym (all_below_step _ _ _ c.loop-i-test.true c.if-types-list.false) ∙ c.loop-i.invariant.1)
-
 pub returns : goal.returns
-returns c = sym (all_below_end _ _ _ c.loop-i-test.false) ∙ c.loop-i.invariant.1
+returns c =
+    let a = c.args in
+    all_from_yields_List (λ n. ltb n a.types) _ _ _ c.all.ensures.ran (YieldsList-from_slice a.list.now cc) (λ x b q k. search (rules, tests))
+    ∙ all_below_is a.list.now a.types

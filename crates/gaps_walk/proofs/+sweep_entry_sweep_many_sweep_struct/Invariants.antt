@@ -1,12 +1,7 @@
 use Prim.Native.Nat.{◌+◌, ◌*◌}
 use Rattle.walk_trees.proofs.Many.{depth}
-use Prim.Native.Nat.{◌+◌, ◌-◌, ◌*◌}
-use Rattle.walk_pieces.specs.Piece.{Listed}
 use Rattle.gaps_sweep.specs.Sweep.{swept_of}
-use Rattle.gaps_walk.proofs.SweepSteps.{PartsSwept}
-use Rattle.gaps_sweep.specs.Sweep.{swept_of}
-use Rattle.gaps_walk.proofs.SweepSteps.{MembersSwept}
-use Rattle.walk_pieces.specs.Piece.{Listed}
+use Rattle.gaps_walk.proofs.SweepSteps.{PartsSwept, MembersSwept}
 use Rattle.gaps_walk.proofs.+sweep_entry_sweep_many_sweep_struct.Given as goal
 
 abbrev pub decreases-sweep_entry : goal.decreases-sweep_entry
@@ -20,14 +15,8 @@ decreases-sweep_struct l = 5 * l.e + 3
 
 abbrev pub invariant-sweep_many-loop-i : goal.invariant-sweep_many-loop-i
 invariant-sweep_many-loop-i l =
-    PartsSwept l.members l.table l.element l.count l.unit l.stride l.at (swept_of l.initial.buf l.initial.r) l.i (swept_of l.buf l.r) × Listed l.pieces
+    PartsSwept l.members l.table l.element l.each.count l.each.unit l.each.stride l.at (swept_of l.initial.buf l.initial.r) l.i (swept_of l.buf l.r)
 
-abbrev pub decreases-sweep_many-loop-i : goal.decreases-sweep_many-loop-i
-decreases-sweep_many-loop-i l = l.count - l.i
-
-abbrev pub invariant-sweep_struct-loop-left : goal.invariant-sweep_struct-loop-left
-invariant-sweep_struct-loop-left l =
-    MembersSwept l.members l.table l.e l.at (swept_of l.initial.buf l.initial.r) l.left l.m l.end (swept_of l.buf l.r) × Listed l.pieces
-
-abbrev pub decreases-sweep_struct-loop-left : goal.decreases-sweep_struct-loop-left
-decreases-sweep_struct-loop-left l = l.left
+abbrev pub invariant-sweep_struct-loop-i : goal.invariant-sweep_struct-loop-i
+invariant-sweep_struct-loop-i l =
+    MembersSwept l.members l.table l.e l.fn.l l.at (swept_of l.initial.buf l.initial.r) l.i l.end (swept_of l.buf l.r)

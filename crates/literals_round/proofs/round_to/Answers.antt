@@ -35,23 +35,23 @@ overflow_add-digits c =
 pub overflow_add-unit-3 : goal.overflow_add-unit-3
 overflow_add-unit-3 c =
     let s = c in
-    record { fits = omega (arith, c.past-k.ensures, c.digits.ensures, few s.args.number s.requires.0) }
+    record { fits = omega (arith, c.saturating_sub-k.ensures, c.digits.ensures, few s.args.number s.requires.0) }
 
 pub overflow_add-result : goal.overflow_add-result
 overflow_add-result c =
     let past = c in
     let s = past in
-    let k = past.past-k.result in
-    let most : k ≤ 2110 = omega (arith, past.past-k.ensures, past.digits.ensures, few s.args.number s.requires.0) in
+    let k = past.saturating_sub-k.result in
+    let most : k ≤ 2110 = omega (arith, past.saturating_sub-k.ensures, past.digits.ensures, few s.args.number s.requires.0) in
     let some : 0 < s.args.number = omega arith in
-    let q = quotient_below s.args.number s.args.power (s.args.unit + k) 53 some (omega (arith, past.past-k.ensures, past.digits.ensures)) in
-    record { fits = omega (arith, shifted k s.args.d most s.requires.3, within k s.args.d most s.requires.3, c.kept.ensures, q, stepped_most (s.args.number * 2 ^ s.args.power / 2 ^ (s.args.unit + k)) (s.args.number * 2 ^ s.args.power % 2 ^ (s.args.unit + k)) (2 ^ (s.args.unit + k))) }
+    let q = quotient_below s.args.number s.args.power (s.args.unit + k) 53 some (omega (arith, past.saturating_sub-k.ensures, past.digits.ensures)) in
+    rw c.from.ensures (record { fits = omega (arith, shifted k s.args.d most s.requires.3, within k s.args.d most s.requires.3, c.kept.ensures, q, stepped_most (s.args.number * 2 ^ s.args.power / 2 ^ (s.args.unit + k)) (s.args.number * 2 ^ s.args.power % 2 ^ (s.args.unit + k)) (2 ^ (s.args.unit + k))) })
 
 pub returns : goal.returns
 returns c =
     let past = c in
     let s = past in
-    let k = past.past-k.result in
-    let most : k ≤ 2110 = omega (arith, past.past-k.ensures, past.digits.ensures, few s.args.number s.requires.0) in
-    let is : k ≡ size s.args.number + s.args.power - (s.args.unit + s.args.d + 1) = past.past-k.ensures ∙ ap (λ n. n + s.args.power - (s.args.unit + s.args.d + 1)) past.digits.ensures in
-    rw (shifted k s.args.d most s.requires.3, c.kept.ensures) (sym (rounded_is s.args.number s.args.power s.args.d s.args.unit k (omega arith) is))
+    let k = past.saturating_sub-k.result in
+    let most : k ≤ 2110 = omega (arith, past.saturating_sub-k.ensures, past.digits.ensures, few s.args.number s.requires.0) in
+    let is : k ≡ size s.args.number + s.args.power - (s.args.unit + s.args.d + 1) = past.saturating_sub-k.ensures ∙ ap (λ n. n + s.args.power - (s.args.unit + s.args.d + 1)) past.digits.ensures in
+    rw (c.from.ensures, shifted k s.args.d most s.requires.3, c.kept.ensures) (sym (rounded_is s.args.number s.args.power s.args.d s.args.unit k (omega arith) is))

@@ -4,4 +4,4 @@ use Rattle.walk_decide.proofs.closed_rest.Goals as goal
 
 pub returns : goal.returns
 unfolding closed_rest
-returns c = rw (c.wide.ensures.0, c.words.ensures)
+returns c = rw c.words.ensures

@@ -11,10 +11,8 @@ returns-then-words-first c =
 
 pub returns-then-first-n : goal.returns-then-first-n
 returns-then-first-n c =
-    let u = c.wide-each.ensures.0 in
-    rw (sym u) (sym (elements_right _ _ _ (omega arith) (omega arith) (omega arith)))
+    (sym (elements_right _ _ _ (omega arith) (omega arith) (omega arith)))
 
 pub returns : goal.returns
 returns c =
-    let u = c.wide-each.ensures.0 in
-    rw (sym u) (sym (elements_wrong _ _ _ (omega arith) (λ e. omega (arith, e))))
+    (sym (elements_wrong _ _ _ (omega arith) (λ e. omega (arith, e))))

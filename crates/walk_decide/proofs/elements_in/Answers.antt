@@ -11,10 +11,8 @@ returns-then-bytes-first c =
 
 pub returns-then-n-eq0 : goal.returns-then-n-eq0
 returns-then-n-eq0 c =
-    let u = c.wide.ensures.0 in
-    rw (sym u) (sym (found_none _ _ _ (omega arith)))
+    (sym (found_none _ _ _ (omega arith)))
 
 pub returns : goal.returns
 returns c =
-    let u = c.wide.ensures.0 in
-    rw (sym u) (sym (found_some _ _ _ (λ e. omega (arith, e))))
+    (sym (found_some _ _ _ (λ e. omega (arith, e))))

@@ -10,12 +10,8 @@ returns-then-bytes-first c =
     sym (extent_before a.bytes a.first a.stride a.n c.requires (omega arith))
 
 pub returns-then-bytes-first-2 : goal.returns-then-bytes-first-2
-returns-then-bytes-first-2 c =
-    let u = c.wide-each.ensures.0 in
-    rw (sym u) (sym (extent_past _ _ _ _ (omega arith) (omega arith) (omega arith)))
+returns-then-bytes-first-2 c = sym (extent_past _ _ _ _ (omega arith) (omega arith) (omega arith))
 
 pub returns : goal.returns
 returns c =
-    let u = c.wide-each.ensures.0 in
-    rw (sym u)
-    (sym (extent_right _ _ _ _ (omega arith) (extent_inside _ _ _ _ (omega arith) (omega arith) (omega arith))))
+    sym (extent_right _ _ _ _ (omega arith) (extent_inside _ _ _ _ (omega arith) (omega arith) (omega arith)))

@@ -11,4 +11,4 @@ pub returns : goal.returns
 unfolding rest_from
 returns c =
     let m = c in
-    rw (ne_eqb _ 10 m.if-l-eq-RUNTIME.false, c.wide.ensures.0, ← m.member_in-p.ensures, c.value_at.ensures)
+    rw (ne_eqb _ 10 m.if-l-eq-RUNTIME.false, ← m.member_in-p.ensures, c.value_at.ensures)

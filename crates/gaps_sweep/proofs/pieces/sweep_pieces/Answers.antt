@@ -7,9 +7,4 @@ pub loop-j-init : goal.loop-j-init
 loop-j-init c = pieces_start _ _ _ c.requires.1
 
 pub loop-j-preserved : goal.loop-j-preserved
-loop-j-preserved c =
-    let after_sweep_run = c in
-    let after_piece_at = after_sweep_run in
-    let in_loop = after_piece_at in
-    pieces_next in_loop.loop-j.invariant in_loop.loop-j-test.true after_piece_at.piece_at-p.ensures
-    after_sweep_run.sweep_run-r.ensures
+loop-j-preserved c = pieces_next c.loop-j.invariant c.loop-j-test.true c.piece_at-p.ensures c.sweep_run-r.ensures
