@@ -19,7 +19,7 @@ use std::io::{self, BufWriter, Read, Write};
 const MOST_TEXT: u64 = 1_048_576;
 
 // Answers the question of a line.
-fn answer<W: Write>(
+fn answer_question<W: Write>(
     out: &mut W,
     alloc: Global,
     held: &Held,
@@ -37,13 +37,18 @@ fn answer<W: Write>(
 }
 
 // Takes the bytes of a line, or answers its question.
-fn go_on<W: Write>(out: &mut W, alloc: Global, held: &mut Held, line: &[u8]) -> io::Result<()> {
+fn answer_line<W: Write>(
+    out: &mut W,
+    alloc: Global,
+    held: &mut Held,
+    line: &[u8],
+) -> io::Result<()> {
     let (word, rest) = split_word(line);
     match word {
         b"file" => held.file.take(out, "file", rest),
         b"buffer" => held.buffer.take(out, "buffer", rest),
         b"factory" => held.factory.take(out, "factory", rest),
-        _ => answer(out, alloc, held, word, rest),
+        _ => answer_question(out, alloc, held, word, rest),
     }
 }
 
@@ -59,7 +64,7 @@ fn answer_all<W: Write>(out: &mut W, alloc: Global, text: &[u8]) -> io::Result<(
         let Some(line) = line.strip_suffix(b"\n") else {
             return writeln!(out, "not a line");
         };
-        go_on(out, alloc, &mut held, line)?;
+        answer_line(out, alloc, &mut held, line)?;
     }
     Ok(())
 }
