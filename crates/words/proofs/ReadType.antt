@@ -18,8 +18,8 @@ use Rattle.wgsl.proofs.Opened.{opened_extent}
 use Rattle.layout_values.specs.declared.value.Value.{Value}
 use Rattle.layout_values.specs.Value.{words_in}
 use Rattle.walk_decide.specs.declared.Rest.{Rest}
-use Rattle.walk_decide.specs.Decide.{elements_found}
-use Rattle.walk_decide.specs.Whole.{Ready, TailedBy}
+use Rattle.walk_decide.specs.Decide.{elements_found, rest_from}
+use Rattle.walk_decide.specs.Whole.{Ready, Tailed, TailedBy}
 use Rattle.walk_decide.proofs.Whole.{ready_words}
 use Rattle.walk_decide.proofs.ReadyBounds.{size_is, tailed_open}
 use Rattle.walk_decide.proofs.CallSteps.{closed_short, closed_there, elements_short, elements_there, loaded_few, loaded_done}
@@ -51,6 +51,10 @@ module _ {ms : List ℕ} {table : List Value} {e : ℕ} {l : Value} {t : Ty} (r 
   all_read h k = enough h ∙ loaded_done 0 t ws b (omega (arith, ready_words r))
 
 -- ---- an open type
+
+-- the tail that is found
+pub tailed_by : {ms : List ℕ} {table : List Value} {e : ℕ} {l : Value} {x : Rest} {t : Ty} → Tailed ms table e l t → x ≡ rest_from ms table l → TailedBy ms table e x t
+tailed_by y is = record { layout = _; tailed = y; tail_is = is }
 
 module _ {ms : List ℕ} {table : List Value} {e : ℕ} {x : Rest} {t : Ty} (y : TailedBy ms table e x t) (b ws : List ℕ) where
   pub no_elements : elements_found (length b) x.offset x.value.stride ≡ None → read_type t b ws ≡ refused 15 0
