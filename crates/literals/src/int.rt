@@ -13,12 +13,10 @@ use said::refusal::Refusal;
 fn magnitude(bits: u64) -> u64
     ensures { result ≡ (literal.whole_of bits).number }
 {
-    if bits < 0x8000_0000_0000_0000 {
-        return bits;
-    }
-    0xffff_ffff_ffff_ffff - bits + 1
+    bits.cast_signed().unsigned_abs()
 }
 
+#[tactic(auto, using(crate::proofs::Parts::i32_low, crate::proofs::Parts::i32_between, crate::proofs::Parts::i32_high))]
 fn in_i32(bits: u64) -> Result<u64, Refusal>
     ensures { said result ≡ or_refuse 25 0 (literal.in_i32 (literal.whole_of bits)) }
 {
@@ -31,6 +29,7 @@ fn in_i32(bits: u64) -> Result<u64, Refusal>
     Ok(bits - 0xffff_ffff_0000_0000)
 }
 
+#[tactic(auto, using(crate::proofs::Parts::u32_low, crate::proofs::Parts::u32_high))]
 fn in_u32(bits: u64) -> Result<u64, Refusal>
     ensures { said result ≡ or_refuse 25 0 (literal.in_u32 (literal.whole_of bits)) }
 {
