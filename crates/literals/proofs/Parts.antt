@@ -18,7 +18,7 @@ use lib.Dec.{leb, ltb}
 use Rattle.wgsl.specs.Types.{Scalar, bool, i32, u32, f32, f16, abstract_int, abstract_float, i64, u64, f64, scalar_kind, is_scalar_kind}
 use Rattle.wgsl.specs.Said.{good, refused, or_refuse, ◌>>=◌}
 use Rattle.wgsl.specs.Rule.{when, scalar_of_kind}
-use Rattle.wgsl.specs.Literal.{Format, Literal, rounded, unit_of, infinity, sign_of, in_format, worth, float_of, Whole, whole_of, in_i32, in_u32, literal_of, from_int, from_float, if_same, converted, pattern_bits, convert_call}
+use Rattle.wgsl.specs.Literal.{Format, Literal, rounded, unit_of, infinity, sign_of, in_format, worth, float_of, whole_of, in_i32, in_u32, literal_of, from_int, from_float, if_same, converted, pattern_bits, convert_call}
 use Rattle.wgsl.proofs.Absent.{true_not_false}
 use Rattle.wgsl.proofs.Bit.{lt_or_le}
 use Rattle.wgsl.proofs.ScalarKind.{scalar_kind_is, scalar_of_kind_lem}
