@@ -1,16 +1,14 @@
 -- Laws of the texts of a listing's lines, by the tests in them: `marked` (specs/Put), `refused_line` (crates/wgsl).
 -- Assumes nothing.
 use Prim.Native.Nat.{ℕ, ◌<◌, ◌≤◌}
-use mathlib.Core.Bool.{true, false, or-true, or-false}
-use mathlib.Core.Path.{◌≡◌, refl, sym}
+use mathlib.Core.Bool.{true, false}
+use mathlib.Core.Path.{◌≡◌, refl}
 use mathlib.Core.List.{◌++◌, append-nil}
 use mathlib.Core.Logic.{⊎_elim}
 use native.Mathlib.Nat.{eq-zero-or-pos}
 use native.Mathlib.Omega.{arith}
-use borrow.Author.Tests.{le-leb, lt-leb, eq-eqb, ne_eqb}
-use lib.Dec.{leb}
+use borrow.Author.Tests.{eq-eqb, ne_eqb}
 use lib.ListN.{length}
-use Rattle.wgsl.specs.File.{between}
 use Rattle.wgsl.specs.Listing.{refused_text, at_text, space, newline, dash, decimal, or_dash, has_place, refused_line}
 use Rattle.listing_text.specs.Line.{marked, marked_column}
 use Rattle.listing_text.proofs.Decimal.{decimal_length}
@@ -38,18 +36,6 @@ column_length n = omega (arith, marked_length n)
 -- ---- the line of a refusal
 
 module _ (number : ℕ) where
-  pub place_stray : number ≡ 24 → true ≡ has_place number
-  unfolding has_place
-  place_stray is = rw (eq-eqb number 24 is) (sym (or-true (between 5 7 number)))
-
-  pub place_low : number < 5 → false ≡ has_place number
-  unfolding has_place between
-  place_low h = rw (lt-leb 5 number h, ne_eqb number 24 (λ e. omega arith)) refl
-
-  pub place_else : 5 ≤ number → (number ≡ 24 → ⊥) → leb number 7 ≡ has_place number
-  unfolding has_place between
-  place_else h other = rw (le-leb 5 number h, ne_eqb number 24 other) (sym (or-false (leb number 7)))
-
   pub refused_line_plain : (place : ℕ) → has_place number ≡ false → refused_line number place ≡ refused_text ++ decimal number ++ newline
   unfolding refused_line
   refused_line_plain place h = rw (h, append-nil (refused_text ++ decimal number))

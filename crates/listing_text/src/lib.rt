@@ -14,11 +14,11 @@ pub fn put_decimal(out: &mut [u8], at: usize, n: u32) -> usize
     ensures { Put out.old at (decimal n) result out.new }
 {
     if n < 10 {
-        out[at] = (48 + n % 10) as u8;
+        out[at] = b'0' + (n % 10) as u8;
         return at + 1;
     }
     let next = put_decimal(out, at, n / 10);
-    out[next] = (48 + n % 10) as u8;
+    out[next] = b'0' + (n % 10) as u8;
     next + 1
 }
 
@@ -43,6 +43,7 @@ pub fn put_column(out: &mut [u8], at: usize, n: u32) -> usize
 }
 
 // Puts the line of an entry: its number, its size, its alignment and its stride, 0 standing for an absent one.
+#[tactic(auto, using(crate::proofs::Decimal::decimal_length, crate::proofs::Lines::column_length))]
 pub fn put_line(out: &mut [u8], at: usize, k: u32, size: u32, align: u32, stride: u32) -> usize
     requires { at + 44 ≤ length out.old }
     ensures { Put out.old at (line k size align stride) result out.new }
@@ -55,6 +56,7 @@ pub fn put_line(out: &mut [u8], at: usize, k: u32, size: u32, align: u32, stride
 }
 
 // Puts the first line of a listing.
+#[tactic(auto, using(crate::proofs::Decimal::decimal_length, crate::proofs::Lines::column_length))]
 pub fn put_heading(out: &mut [u8], at: usize, types: u32) -> usize
     requires { at + 19 ≤ length out.old }
     ensures { Put out.old at (heading types) result out.new }
@@ -65,19 +67,15 @@ pub fn put_heading(out: &mut [u8], at: usize, types: u32) -> usize
 }
 
 // Whether a refusal of this number is written with its place: 5 to 7 and 24.
+#[tactic(auto, unfolding(wgsl::specs::Listing::has_place, wgsl::specs::File::between))]
 fn has_place(number: u32) -> bool
     ensures { result ≡ has_place number }
 {
-    if number == 24 {
-        return true;
-    }
-    if number < 5 {
-        return false;
-    }
-    number <= 7
+    matches!(number, 5..=7 | 24)
 }
 
 // Puts the line of a refusal.
+#[tactic(auto, using(crate::proofs::Decimal::decimal_length, crate::proofs::Lines::column_length))]
 pub fn put_refused(out: &mut [u8], at: usize, number: u32, place: u32) -> usize
     requires { at + 33 ≤ length out.old }
     ensures { Put out.old at (refused_line number place) result out.new }

@@ -10,12 +10,15 @@ use mathlib.Core.Path.{◌≡◌, refl, ap, sym, ◌∙◌}
 use mathlib.Core.Logic.{⊎_elim}
 use native.Mathlib.Nat.{mul-one, mod-eq_of_lt}
 use native.Mathlib.Omega.{arith}
+use mir.Syntax.{w64}
+use mir.Val.{to_z}
+use lib.IntN.{nat_abs}
 use borrow.Author.Tests.{ltb-true, lt-ltb, le-ltb, le-leb, lt-leb, eq-eqb, ne_eqb}
 use lib.Dec.{leb, ltb}
 use Rattle.wgsl.specs.Types.{Scalar, bool, i32, u32, f32, f16, abstract_int, abstract_float, i64, u64, f64, scalar_kind, is_scalar_kind}
 use Rattle.wgsl.specs.Said.{good, refused, or_refuse, ◌>>=◌}
 use Rattle.wgsl.specs.Rule.{when, scalar_of_kind}
-use Rattle.wgsl.specs.Literal.{Format, Literal, rounded, unit_of, infinity, sign_of, in_format, worth, float_of, Whole, whole_of, in_i32, in_u32, literal_of, from_int, from_float, if_same, converted, pattern_bits, convert_call}
+use Rattle.wgsl.specs.Literal.{Format, Literal, rounded, unit_of, infinity, sign_of, in_format, worth, float_of, whole_of, in_i32, in_u32, literal_of, from_int, from_float, if_same, converted, pattern_bits, convert_call}
 use Rattle.wgsl.proofs.Absent.{true_not_false}
 use Rattle.wgsl.proofs.Bit.{lt_or_le}
 use Rattle.wgsl.proofs.ScalarKind.{scalar_kind_is, scalar_of_kind_lem}
@@ -110,13 +113,11 @@ pub number_high : (m : ℕ) → 2 ^ 52 ≤ m → 2 ^ 52 + m % 2 ^ 52 ≡ number_
 unfolding number_in
 number_high m h = rw (le-ltb m (2 ^ 52) h) refl
 
-pub power_low : (m : ℕ) → m < 2 ^ 52 → 0 ≡ power_in m
+pub power_is : (m : ℕ) → m / 2 ^ 52 - 1 ≡ power_in m
 unfolding power_in
-power_low m h = rw (lt-ltb m (2 ^ 52) h) refl
-
-pub power_high : (m : ℕ) → 2 ^ 52 ≤ m → m / 2 ^ 52 - 1 ≡ power_in m
-unfolding power_in
-power_high m h = rw (le-ltb m (2 ^ 52) h) refl
+power_is m =
+    ⊎_elim (λ (l : m < 2 ^ 52). rw (lt-ltb m (2 ^ 52) l) (omega arith))
+    (λ (l : 2 ^ 52 ≤ m). rw (le-ltb m (2 ^ 52) l) refl) (lt_or_le m (2 ^ 52))
 
 -- a finite one has parts that can be rounded
 pub number_small : (m : ℕ) → number_in m ≤ 9223372036854775808
@@ -153,11 +154,10 @@ whole_high : (b : ℕ) → 9223372036854775808 ≤ b → whole_of b ≡ record {
 unfolding whole_of
 whole_high b h = rw (le-ltb b 9223372036854775808 h) refl
 
-pub magnitude_low : (b : ℕ) → b < 9223372036854775808 → b ≡ (whole_of b).number
-magnitude_low b h = sym (ap (λ (w : Whole). w.number) (whole_low b h))
-
-pub magnitude_high : (b : ℕ) → 9223372036854775808 ≤ b → 18446744073709551616 - b ≡ (whole_of b).number
-magnitude_high b h = sym (ap (λ (w : Whole). w.number) (whole_high b h))
+pub magnitude_is : (b : ℕ) → b < 18446744073709551616 → nat_abs (to_z w64 b) ≡ (whole_of b).number
+magnitude_is b h =
+    ⊎_elim (λ (l : b < 9223372036854775808). rw (lt-ltb b 9223372036854775808 l, whole_low b l) refl)
+    (λ (l : 9223372036854775808 ≤ b). rw (le-ltb b 9223372036854775808 l, whole_high b l) (omega arith)) (lt_or_le b 9223372036854775808)
 
 pub whole_is : (b : ℕ) → literal_of (whole_of b) ≡ record { negative = leb 9223372036854775808 b; worth = (whole_of b).number * 2 ^ 1074 }
 unfolding literal_of

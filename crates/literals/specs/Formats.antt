@@ -29,12 +29,6 @@ number_in m = cond (ltb m (2 ^ 52)) m (2 ^ 52 + m % 2 ^ 52)
 unfoldable pub power_in : ℕ → ℕ
 power_in m = cond (ltb m (2 ^ 52)) 0 (m / 2 ^ 52 - 1)
 
--- a kind that is none of i32, u32 and abstract int
-pub record NoInteger (to : ℕ) : Type 0 where
-  pub not_i32 : to ≡ 1 → ⊥
-  pub not_u32 : to ≡ 2 → ⊥
-  pub not_abstract : to ≡ 5 → ⊥
-
 -- a conversion to a kind by its number
 unfoldable pub to_kind : (Scalar → ℕ → Option ℕ) → ℕ → ℕ → Said ℕ
 to_kind from bits to = do

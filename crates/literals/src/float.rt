@@ -19,6 +19,7 @@ pub struct Format {
     pub sign: u64,
 }
 
+#[tactic(auto, unfolding(wgsl::specs::Literal::sign_of, wgsl::specs::Literal::infinity, wgsl::specs::Literal::lowest, wgsl::specs::Literal::unit_of))]
 pub fn half() -> Format
     ensures { IsFormat result literal.half × Fits result }
 {
@@ -30,6 +31,7 @@ pub fn half() -> Format
     }
 }
 
+#[tactic(auto, unfolding(wgsl::specs::Literal::sign_of, wgsl::specs::Literal::infinity, wgsl::specs::Literal::lowest, wgsl::specs::Literal::unit_of))]
 pub fn single() -> Format
     ensures { IsFormat result literal.single × Fits result }
 {
@@ -41,6 +43,7 @@ pub fn single() -> Format
     }
 }
 
+#[tactic(auto, unfolding(wgsl::specs::Literal::sign_of, wgsl::specs::Literal::infinity, wgsl::specs::Literal::lowest, wgsl::specs::Literal::unit_of))]
 pub fn double() -> Format
     ensures { IsFormat result literal.double × Fits result }
 {
@@ -68,6 +71,7 @@ pub fn in_format(f: Format, negative: bool, number: u64, power: u32) -> Result<u
 }
 
 // The number and the power of two that a pattern of an abstract float, without its sign, stands for.
+#[tactic(auto, using(crate::proofs::Parts::number_low, crate::proofs::Parts::number_high))]
 fn number_of(pattern: u64) -> u64
     ensures { result ≡ number_in pattern }
 {
@@ -77,14 +81,12 @@ fn number_of(pattern: u64) -> u64
     0x10_0000_0000_0000 + pattern % 0x10_0000_0000_0000
 }
 
+#[tactic(auto, using(crate::proofs::Parts::power_is))]
 fn power_of(pattern: u64) -> u32
     requires { pattern < 9218868437227405312 }
     ensures { result ≡ power_in pattern }
 {
-    if pattern < 0x10_0000_0000_0000 {
-        return 0;
-    }
-    (pattern / 0x10_0000_0000_0000 - 1) as u32
+    (pattern / 0x10_0000_0000_0000).saturating_sub(1) as u32
 }
 
 // An abstract float in a format.
@@ -108,14 +110,10 @@ fn float_in(f: Format, bits: u64) -> Result<u64, Refusal>
 pub fn from_float(bits: u64, to: u32) -> Result<u64, Refusal>
     ensures { said result ≡ to_kind literal.from_float bits to }
 {
-    if to == ABSTRACT_FLOAT {
-        return Ok(bits);
+    match to {
+        ABSTRACT_FLOAT => Ok(bits),
+        F32 => float_in(single(), bits),
+        F16 => float_in(half(), bits),
+        _ => Err(Refusal::NoConversion),
     }
-    if to == F32 {
-        return float_in(single(), bits);
-    }
-    if to == F16 {
-        return float_in(half(), bits);
-    }
-    Err(Refusal::NoConversion)
 }

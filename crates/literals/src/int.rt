@@ -2,7 +2,7 @@
 ghost use Rattle.std.specs.Prelude.{◌≡◌};
 ghost use Rattle.wgsl.specs.Said.{or_refuse};
 ghost use Rattle.wgsl.specs.Literal as literal;
-ghost use Rattle.literals.specs.Formats.{IsFormat, Fits, NoInteger, to_kind};
+ghost use Rattle.literals.specs.Formats.{IsFormat, Fits, to_kind};
 ghost use Rattle.said.specs.Answer.{said};
 
 use crate::float::{Format, double, half, in_format, single};
@@ -13,12 +13,10 @@ use said::refusal::Refusal;
 fn magnitude(bits: u64) -> u64
     ensures { result ≡ (literal.whole_of bits).number }
 {
-    if bits < 0x8000_0000_0000_0000 {
-        return bits;
-    }
-    0xffff_ffff_ffff_ffff - bits + 1
+    bits.cast_signed().unsigned_abs()
 }
 
+#[tactic(auto, using(crate::proofs::Parts::i32_low, crate::proofs::Parts::i32_between, crate::proofs::Parts::i32_high))]
 fn in_i32(bits: u64) -> Result<u64, Refusal>
     ensures { said result ≡ or_refuse 25 0 (literal.in_i32 (literal.whole_of bits)) }
 {
@@ -31,6 +29,7 @@ fn in_i32(bits: u64) -> Result<u64, Refusal>
     Ok(bits - 0xffff_ffff_0000_0000)
 }
 
+#[tactic(auto, using(crate::proofs::Parts::u32_low, crate::proofs::Parts::u32_high))]
 fn in_u32(bits: u64) -> Result<u64, Refusal>
     ensures { said result ≡ or_refuse 25 0 (literal.in_u32 (literal.whole_of bits)) }
 {
@@ -47,35 +46,17 @@ fn int_in(f: Format, bits: u64) -> Result<u64, Refusal>
     in_format(f, 0x8000_0000_0000_0000 <= bits, magnitude(bits), 1074)
 }
 
-// As a float of any format.
-fn in_float(bits: u64, to: u32) -> Result<u64, Refusal>
-    requires { NoInteger to }
-    ensures { said result ≡ to_kind literal.from_int bits to }
-{
-    if to == F32 {
-        return int_in(single(), bits);
-    }
-    if to == F16 {
-        return int_in(half(), bits);
-    }
-    if to == ABSTRACT_FLOAT {
-        return int_in(double(), bits);
-    }
-    Err(Refusal::NoConversion)
-}
-
 // As any kind.
 pub fn from_int(bits: u64, to: u32) -> Result<u64, Refusal>
     ensures { said result ≡ to_kind literal.from_int bits to }
 {
-    if to == ABSTRACT_INT {
-        return Ok(bits);
+    match to {
+        ABSTRACT_INT => Ok(bits),
+        I32 => in_i32(bits),
+        U32 => in_u32(bits),
+        F32 => int_in(single(), bits),
+        F16 => int_in(half(), bits),
+        ABSTRACT_FLOAT => int_in(double(), bits),
+        _ => Err(Refusal::NoConversion),
     }
-    if to == I32 {
-        return in_i32(bits);
-    }
-    if to == U32 {
-        return in_u32(bits);
-    }
-    in_float(bits, to)
 }

@@ -6,6 +6,4 @@ use Rattle.listing_text.proofs.put_column.Goals as goal
 
 pub returns : goal.returns
 unfolding marked_column space
-returns c =
-    let b = c in
-    put_then b.put-a.ensures b.put_marked.ensures
+returns c = put_then c.put-a.ensures c.put_marked.ensures

@@ -1,10 +1,11 @@
--- The pattern, or what it lacks to 2 ^ 64 (`Parts`).
+-- A number below 0 is its pattern less 2 ^ 64 (`magnitude_is`).
+use mathlib.Core.Path.{◌∙◌}
 use native.Mathlib.Omega.{arith}
-use Rattle.literals.proofs.Parts.{magnitude_low, magnitude_high}
+use mir.Facts.{of_z-to_z}
+use Rattle.literals.proofs.Parts.{magnitude_is}
 use Rattle.literals.proofs.int.magnitude.Goals as goal
 
-pub returns-then-bits-lt9223372036854775808 : goal.returns-then-bits-lt9223372036854775808
-returns-then-bits-lt9223372036854775808 c = magnitude_low c.args.bits (omega arith)
-
 pub returns : goal.returns
-returns c = omega (arith, magnitude_high c.args.bits (omega arith))
+returns c =
+    c.unsigned_abs.ensures.value
+    ∙ rw (c.cast_signed.ensures, of_z-to_z c.ranges.bits) (magnitude_is c.args.bits (omega arith))
