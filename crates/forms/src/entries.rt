@@ -33,13 +33,9 @@ fn put_entries(
     requires { (member_fields_length ≤ long) × (from + long * members ≤ length f.now) × (at + (member_fields_length + length name.now) * members ≤ length out.old) }
     ensures { Put out.old at (entries_from f.now long name.now members from) result out.new }
 {
-    let mut m: usize = 0;
-    let mut next = from;
     let mut end = at;
-    while m < members {
-        end = put_part(f, next, FIELDS_LENGTH, name, out, end);
-        next += long;
-        m += 1;
+    for m in 0..members {
+        end = put_part(f, from + long * m, FIELDS_LENGTH, name, out, end);
     }
     end
 }

@@ -40,7 +40,14 @@ fn form_is(f: &[u8], form: u32) -> Result<Trailer, Refusal>
 
 // The file in another form, with a name after the fields of each member, into `out`; `bytes` are the form's.
 // Refuses 15.
-fn put_out(f: &[u8], t: Trailer, form: u32, name: &[u8], bytes: &[u8], out: &mut [u8]) -> Result<usize, Refusal>
+fn put_out(
+    f: &[u8],
+    t: Trailer,
+    form: u32,
+    name: &[u8],
+    bytes: &[u8],
+    out: &mut [u8],
+) -> Result<usize, Refusal>
     requires { (check_trailer f.now ≡ good (trailer_is t)) × (1 ≤ form) × (form ≤ 2) × (member_fields_length + length name.now ≡ member_entry_length form) × (bytes.now ≡ bytes_of 2 form) }
     ensures { Answered (put_out (moved_to form name.now f.now) out.old) result out.old out.new }
 {

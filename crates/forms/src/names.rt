@@ -16,14 +16,10 @@ pub fn is_named(f: &[u8], from: usize, members: usize) -> bool
     requires { ((trailer_of f.now).form ≡ 2) × (from ≡ member_place f.now 0) × (from + 16 * members ≤ length f.now) }
     ensures { result ≡ not (nameless f.now members) }
 {
-    let mut m: usize = 0;
-    let mut next = from;
-    while m < members {
-        if u32_at(f, next + FIELDS_LENGTH) != 0 {
+    for m in 0..members {
+        if u32_at(f, from + NAMED_LENGTH * m + FIELDS_LENGTH) != 0 {
             return true;
         }
-        next += NAMED_LENGTH;
-        m += 1;
     }
     false
 }

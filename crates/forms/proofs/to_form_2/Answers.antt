@@ -1,5 +1,6 @@
 -- A file of form 1 is put out (`on_goes`).
-use mathlib.Core.Path.{refl}
+use Rattle.std.specs.Prelude.{Err}
+use mathlib.Core.Path.{◌≡◌, refl}
 use native.Mathlib.Omega.{arith}
 use Rattle.wgsl.specs.File.{member_entry_length}
 use Rattle.wgsl.specs.Number.{bytes_of}
@@ -11,21 +12,18 @@ use Rattle.forms.proofs.to_form_2.Goals as goal
 pub put_out-requires : goal.put_out-requires
 unfolding member_entry_length bytes_of
 put_out-requires c =
-    let said = c.form_is in
-    let told = told_form 1 _ said.result said.ensures _ c.in-Types.is in
+    let told = told_form 1 _ _ c.form_is.ensures _ c.in_ok-t.was in
     (form_checked _ _ told.0 told.1, omega arith, omega arith, refl, refl)
 
-pub returns-in-Refused : goal.returns-in-Refused
-returns-in-Refused c =
-    let x = c in
-    let said = c.form_is in
-    let both = answered_refused x.args.out.now (on_refused _ _ (told_other 1 _ said.result said.ensures _ c.in-Refused.is)) in
-    record { answer = both.0; out = both.1 }
+pub returns-in_err-t : goal.returns-in_err-t
+returns-in_err-t c =
+    let r = c.in_err-t.field-0.0 in
+    let is : c.from_residual.result ≡ Err r = grind arith in
+    let both = answered_refused c.args.out.now (on_refused _ _ (told_other 1 _ _ c.form_is.ensures r c.in_err-t.was)) in
+    record { answer = rw is both.0; out = both.1 }
 
-pub returns-in-Types : goal.returns-in-Types
-returns-in-Types c =
-    let x = c in
-    let said = c.form_is in
-    let told = told_form 1 _ said.result said.ensures _ c.in-Types.is in
-    let both = answered_same x.args.out.now (on_goes _ _ told.0) c.put_out.ensures in
+pub returns : goal.returns
+returns c =
+    let told = told_form 1 _ _ c.form_is.ensures _ c.in_ok-t.was in
+    let both = answered_same c.args.out.now (on_goes _ _ told.0) c.put_out.ensures in
     record { answer = both.0; out = both.1 }
