@@ -49,7 +49,13 @@ fn clean_whole(
 }
 
 // 15 for a type of fixed size.
-fn clean_closed(members: &[u8], table: &[Value], e: usize, l: Value, buf: &mut [u8]) -> Result<Gaps, Refusal>
+fn clean_closed(
+    members: &[u8],
+    table: &[Value],
+    e: usize,
+    l: Value,
+    buf: &mut [u8],
+) -> Result<Gaps, Refusal>
     requires { ((t : Ty) × Ready members.now table.now e l t × (is_open t ≡ false)) × (length buf.old ≤ limit) }
     ensures { ClosedCleaned members.now table.now e l result buf.old buf.new }
 {
@@ -61,7 +67,13 @@ fn clean_closed(members: &[u8], table: &[Value], e: usize, l: Value, buf: &mut [
 }
 
 // 15 for an open type.
-fn clean_open(members: &[u8], table: &[Value], e: usize, l: Value, buf: &mut [u8]) -> Result<Gaps, Refusal>
+fn clean_open(
+    members: &[u8],
+    table: &[Value],
+    e: usize,
+    l: Value,
+    buf: &mut [u8],
+) -> Result<Gaps, Refusal>
     requires { ((t : Ty) × Tailed members.now table.now e l t) × (length buf.old ≤ limit) }
     ensures { OpenCleaned members.now table.now e l result buf.old buf.new }
 {
@@ -72,7 +84,13 @@ fn clean_open(members: &[u8], table: &[Value], e: usize, l: Value, buf: &mut [u8
 }
 
 // 17, 9, 10, and then the rest.
-fn clean_entry_at(file: &[u8], e: usize, g: Ground, table: &[Value], buf: &mut [u8]) -> Result<Gaps, Refusal>
+fn clean_entry_at(
+    file: &[u8],
+    e: usize,
+    g: Ground,
+    table: &[Value],
+    buf: &mut [u8],
+) -> Result<Gaps, Refusal>
     requires { (t : Ty) × Meant file.now e g table.now t }
     ensures { MeantCleaned file.now e g table.now result buf.old buf.new }
 {
