@@ -1,4 +1,5 @@
-// Words out of bytes.
+// Words out of bytes. Each function has its twin in `writing`: one trait for both ways would want a struct and laws for each, which is more
+// than these loops.
 ghost use Rattle.std.specs.Prelude.{◌≡◌, ◌⊎◌, ◌+◌, ◌*◌, ◌≤◌, length};
 ghost use Rattle.std.proofs.lemmas.List.Edits.{sets};
 ghost use Rattle.wgsl.specs.Number.{load};
