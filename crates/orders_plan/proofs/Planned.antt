@@ -2,12 +2,13 @@
 --
 -- In order: what is left of the planned order; a pass for an alignment; the last pass, for runtime arrays.
 -- Assumes nothing.
-use Prim.Native.Nat.{ℕ, zero, suc, ◌+◌, ◌-◌, ◌/◌, ◌^◌, ◌<◌, ◌≤◌}
+use Prim.Native.Nat.{ℕ, suc, ◌+◌, ◌*◌, ◌%◌, ◌^◌, ◌<◌, ◌≤◌}
 use mathlib.Core.List.{List, [], ◌++◌, append_assoc, append-nil}
 use mathlib.Core.Path.{◌≡◌, refl, ap, sym, ◌∙◌}
-use native.Mathlib.Nat.{zero-add, pow-suc}
+use native.Mathlib.Nat.{zero-add}
 use native.Mathlib.Omega.{arith}
 use lib.ListN.{length, drop, length-append}
+use lib.Pow.{pow-lt}
 use lib.Seq.{sets, sets-eq, length-sets}
 use Rattle.wgsl.specs.Types.{Members}
 use Rattle.wgsl.specs.Rule.{count_of}
@@ -58,33 +59,23 @@ module _ {ms : Members} {old : List ℕ} {next left : ℕ} {order : List ℕ} (p
 -- ---- a pass for an alignment
 
 -- the first pass of those that are left
-first_part : (left : ℕ) (ms : Members) → 0 < left → rest left ms ≡ keyed_at (2 ^ left / 2) 0 ms ++ rest (left - 1) ms
+first_part : (j : ℕ) (ms : Members) → rest (suc j) ms ≡ keyed_at (2 ^ j) 0 ms ++ rest j ms
 unfolding falling
-first_part zero ms h = absurd (omega arith)
-first_part (suc j) ms h =
-    let half : 2 ^ suc j / 2 ≡ 2 ^ j = omega (arith, pow-suc 2 j) in
-    let one : suc j - 1 ≡ j = omega arith in
-    rw (half, one, keyed_aligned j 0 ms) (append_assoc (aligned_at (2 ^ j) 0 ms) (falling j ms) (runtimes_at 0 ms))
+first_part j ms = rw (keyed_aligned j 0 ms) (append_assoc (aligned_at (2 ^ j) 0 ms) (falling j ms) (runtimes_at 0 ms))
 
--- half of an alignment
-pub next_key : (left : ℕ) → 0 < left → 2 ^ left / 2 / 2 ≡ 2 ^ (left - 1) / 2
-next_key zero h = absurd (omega arith)
-next_key (suc j) h =
-    let half : 2 ^ suc j / 2 ≡ 2 ^ j = omega (arith, pow-suc 2 j) in
-    let one : suc j - 1 ≡ j = omega arith in
-    rw (half, one)
+-- the alignment of this pass, as it is shifted
+pub key_is : (j : ℕ) → j < 32 → 1 * 2 ^ j % 4294967296 ≡ 2 ^ j
+key_is j h = omega (arith, pow-lt h)
 
-module _ {ms : Members} {old : List ℕ} {next left : ℕ} {order : List ℕ} (p : Plan ms old next left order) (h : 0 < left) where
-  pub plan_room : count_of ms ≤ length old → next + length (keyed_at (2 ^ left / 2) 0 ms) ≤ length order
-  plan_room r = omega (arith, part_place p (keyed_at (2 ^ left / 2) 0 ms) (rest (left - 1) ms) (first_part left ms h), plan_long p)
+module _ {ms : Members} {old : List ℕ} {next j : ℕ} {order : List ℕ} (p : Plan ms old next (suc j) order) where
+  pub plan_room : count_of ms ≤ length old → next + length (keyed_at (2 ^ j) 0 ms) ≤ length order
+  plan_room r = omega (arith, part_place p (keyed_at (2 ^ j) 0 ms) (rest j ms) (first_part j ms), plan_long p)
 
-  pub plan_next : Plan ms old (next + length (keyed_at (2 ^ left / 2) 0 ms)) (left - 1) (sets order next (keyed_at (2 ^ left / 2) 0 ms))
+  pub plan_next : Plan ms old (next + length (keyed_at (2 ^ j) 0 ms)) j (sets order next (keyed_at (2 ^ j) 0 ms))
   plan_next =
-      let part = keyed_at (2 ^ left / 2) 0 ms in
-      let later = rest (left - 1) ms in
       record {
-        list_is = part_list p part later (first_part left ms h);
-        place_is = part_place p part later (first_part left ms h);
+        list_is = part_list p (keyed_at (2 ^ j) 0 ms) (rest j ms) (first_part j ms);
+        place_is = part_place p (keyed_at (2 ^ j) 0 ms) (rest j ms) (first_part j ms);
       }
 
 -- ---- the last pass

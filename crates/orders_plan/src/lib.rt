@@ -25,18 +25,14 @@ fn put_keyed(
     ensures place { (ms : Members) → Struct members.now table.now l ms → result ≡ k + length (keyed_at key 0 ms) }
     ensures list { (ms : Members) → Struct members.now table.now l ms → order.new ≡ sets order.old k (keyed_at key 0 ms) }
 {
-    let count = l.count;
     let length = l.stride as usize;
-    let mut m = l.reference as usize * length;
+    let first = l.reference as usize * length;
     let mut next = k;
-    let mut i: u32 = 0;
-    while i < count {
-        if member_key(members, table, m) == key {
+    for i in 0..l.count {
+        if member_key(members, table, first + length * i as usize) == key {
             order[next] = i;
             next += 1;
         }
-        m += length;
-        i += 1;
     }
     next
 }
@@ -47,8 +43,8 @@ pub fn plan_members(members: &[u8], table: &[Value], l: Value, order: &mut [u32]
     ensures { (ms : Members) → Struct members.now table.now l ms → order.new ≡ planned_order ms ++ drop (count_of ms) order.old }
 {
     let mut next = 0;
-    for shift in (0..32).rev() {
-        next = put_keyed(members, table, l, 1 << shift, order, next);
+    for step in 0..32u32 {
+        next = put_keyed(members, table, l, 1 << (31 - step), order, next);
     }
     put_keyed(members, table, l, 0, order, next);
 }

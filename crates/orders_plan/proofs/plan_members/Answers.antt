@@ -1,41 +1,36 @@
 -- What is left of the planned order, from the place that is reached on, makes of the list what the whole of it makes of the list as it was.
 -- Assumes nothing.
-use mathlib.Core.Path.{◌≡◌, refl}
+use Prim.Native.Nat.{suc, ◌+◌, ◌-◌}
+use mathlib.Core.Path.{◌≡◌}
 use native.Mathlib.Omega.{arith}
-use Rattle.orders_plan.proofs.Planned.{plan_starts, next_key, plan_room, plan_next, last_room, plan_done}
+use Rattle.orders_plan.proofs.Planned.{plan_starts, key_is, plan_room, plan_next, last_room, plan_done}
 use Rattle.orders_plan.proofs.plan_members.Goals as goal
 
-pub loop-left-init : goal.loop-left-init
-loop-left-init c = ((λ ms s. plan_starts s _), refl)
+pub loop-step-init : goal.loop-step-init
+loop-step-init c = λ ms s. plan_starts s _
 
 pub put_keyed-next-requires : goal.put_keyed-next-requires
 put_keyed-next-requires c =
-    let l = c.loop-left in
     let pre = c.requires in
-    (pre.0, pre.1, rw l.invariant.1 (plan_room (l.invariant.0 pre.0 pre.1) c.loop-left-test.true pre.2))
+    let left : 32 - c.loop-step.step ≡ suc (31 - c.loop-step.step) = omega arith in
+    (pre.0, pre.1, rw (key_is (31 - c.loop-step.step) (omega arith)) (plan_room (rw left at (c.loop-step.invariant pre.0 pre.1)) pre.2))
 
-pub loop-left-preserved : goal.loop-left-preserved
-loop-left-preserved c =
-    let put = c.put_keyed-next in
-    let in_loop = c in
-    let l = in_loop.loop-left in
-    let more = in_loop.loop-left-test.true in (
-      (λ ms s. rw (put.ensures.place ms s, put.ensures.list ms s, l.invariant.1) (plan_next (l.invariant.0 ms s) more)),
-      rw l.invariant.1 (next_key l.left more),
-    )
+pub loop-step-preserved : goal.loop-step-preserved
+loop-step-preserved c = λ ms s.
+    let left : 32 - c.loop-step.step ≡ suc (31 - c.loop-step.step) = omega arith in
+    let after : 32 - (c.loop-step.step + 1) ≡ 31 - c.loop-step.step = omega arith in
+    rw (c.put_keyed-next.ensures.place ms s, c.put_keyed-next.ensures.list ms s, key_is (31 - c.loop-step.step) (omega arith), after)
+    (plan_next (rw left at (c.loop-step.invariant ms s)))
 
 pub put_keyed-requires : goal.put_keyed-requires
 put_keyed-requires c =
-    let l = c.loop-left in
     let pre = c.requires in
-    let none : l.left ≡ 0 = omega arith in
-    (pre.0, pre.1, last_room pre.1 (rw none at (l.invariant.0 pre.0 pre.1)) pre.2)
+    let none : 32 - c.loop-step.step ≡ 0 = omega arith in
+    (pre.0, pre.1, last_room pre.1 (rw none at (c.loop-step.invariant pre.0 pre.1)) pre.2)
 
 pub returns : goal.returns
-returns c =
-    let l = c.loop-left in
+returns c = λ ms s.
     let pre = c.requires in
-    let none : l.left ≡ 0 = omega (arith, c.loop-left-test.false) in
-    λ ms s.
+    let none : 32 - c.loop-step.step ≡ 0 = omega arith in
     rw (c.put_keyed.ensures.list ms s)
-    (plan_done s (rw none at (l.invariant.0 ms s)) (omega (arith, pre.2, pre.1.count_is, s.count_is)))
+    (plan_done s (rw none at (c.loop-step.invariant ms s)) (omega (arith, pre.2, pre.1.count_is, s.count_is)))
