@@ -118,19 +118,19 @@ module _ (t : Ty) (path b : List ℕ) where
     pub inside : extent_of n t ≤ length b
     pub target_is : target_in t path b ≡ walk 0 0 (shape_of n t) (map step_of path)
 
-  pub target_there : {n size : ℕ} → held_of t b ≡ Some (record { elements = n; size = size }) → There n size
+  pub target_there : {h : Held} → held_of t b ≡ Some h → There h.elements h.size
   unfolding held_of target_in ◌>>◌ refuse
-  target_there {n} {size} e = go (is_short t b) refl
+  target_there {h} e = go (is_short t b) refl
     where
-      go : (s : Bool) → is_short t b ≡ s → There n size
+      go : (s : Bool) → is_short t b ≡ s → There h.elements h.size
       go true q =
           let is : held_of t b ≡ None = rw q refl in
-          let z : 0 ≡ suc n = ap tag (sym is ∙ e) in
+          let z : 0 ≡ suc h.elements = ap tag (sym is ∙ e) in
           absurd (omega arith)
       go false q =
           let is : held_of t b ≡ Some (record { elements = elements_in (length b) t; size = extent_of (elements_in (length b) t) t }) = rw q refl in
-          let same : suc (elements_in (length b) t) ≡ suc n = ap tag (sym is ∙ e) in
-          let n_is : elements_in (length b) t ≡ n = omega arith in
+          let same : suc (elements_in (length b) t) ≡ suc h.elements = ap tag (sym is ∙ e) in
+          let n_is : elements_in (length b) t ≡ h.elements = omega arith in
           record {
             size_is = sym (ap end (sym is ∙ e)) ∙ ap (λ (m : ℕ). extent_of m t) n_is;
             inside = rw n_is at (short_no t b q);

@@ -49,7 +49,13 @@ fn field_of(t: Target, offset: u32, count: u32, buf: &[u8]) -> u32
 }
 
 // Puts `newbits` into the field of the scalar `t`.
-fn put_field(t: Target, newbits: u32, offset: u32, count: u32, buf: &mut [u8]) -> Result<u32, Refusal>
+fn put_field(
+    t: Target,
+    newbits: u32,
+    offset: u32,
+    count: u32,
+    buf: &mut [u8],
+) -> Result<u32, Refusal>
     requires { (x : FoundInteger) × Integer t x (length buf.old) }
     ensures answer { result ≡ Ok t.offset }
     ensures buffer { FieldPut t newbits offset count buf.old buf.new }

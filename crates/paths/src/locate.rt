@@ -8,11 +8,11 @@ ghost use Rattle.said.specs.Target.{reached};
 ghost use Rattle.paths.specs.Locate.{held_of, Viewable, Opening};
 ghost use Rattle.said.specs.Answer.{said};
 
-use said::target::Target;
 use file::trailer::check_trailer;
 use layout_table::{Ground, find};
 use layout_values::value::{Value, blank};
 use said::refusal::Refusal;
+use said::target::Target;
 use walk_decide::{Rest, allow, elements_in, rest_of};
 use walk_path::enter::Stand;
 use walk_path::walk::walk;
@@ -23,7 +23,6 @@ pub struct Held {
     pub elements: usize,
     pub size: usize,
 }
-
 
 // 15 for an open type with the tail `x`: a buffer with no whole element.
 fn held_open(x: Rest, bytes: usize) -> Option<Held>
@@ -65,7 +64,16 @@ fn target_in(
     ensures { (f : List ℕ) (t : Ty) (b : List ℕ) → Viewable f members.now table.now e l t → length b ≡ bytes → said result ≡ reached (target_in t path.now b) }
 {
     let held = held_of(members, table, l, bytes).ok_or(Refusal::Buffer)?;
-    walk(members, table, held.elements, Stand::Entry(e), held.size, path, 0, 0)
+    walk(
+        members,
+        table,
+        held.elements,
+        Stand::Entry(e),
+        held.size,
+        path,
+        0,
+        0,
+    )
 }
 
 // 17, 9, 10, and then the rest.
@@ -88,7 +96,13 @@ fn target_at(
 
 // What `path` leads to from entry `entry` in a buffer of so many bytes; `stored` says that the entry must be storable.
 // Refuses 1 to 7, 24 (file), 8, 17, 9 (no layout), 10, 15, then 11 to 13 (the first bad step).
-pub fn locate(file: &[u8], entry: u32, path: &[u32], bytes: usize, stored: bool) -> Result<Target, Refusal>
+pub fn locate(
+    file: &[u8],
+    entry: u32,
+    path: &[u32],
+    bytes: usize,
+    stored: bool,
+) -> Result<Target, Refusal>
     ensures { (b : List ℕ) → length b ≡ bytes → said result ≡ reached (target_call stored file.now entry path.now b) }
 {
     let trailer = check_trailer(file)?;

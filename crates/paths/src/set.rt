@@ -102,7 +102,13 @@ pub fn set_scalar(t: Target, words: &[u32], buf: &mut [u8]) -> Result<u32, Refus
 
 // Stores `words` in the one scalar that `path` leads to from entry `entry`, the lowest first; answers its offset. Every other byte stays.
 // Refuses 1 to 7, 24 (file), 8, 17, 9 (no layout), 10, 15, 11 to 13 (the first bad step), 14 (no scalar, or not as many words as it takes), 16.
-pub fn set(file: &[u8], entry: u32, path: &[u32], words: &[u32], buf: &mut [u8]) -> Result<u32, Refusal>
+pub fn set(
+    file: &[u8],
+    entry: u32,
+    path: &[u32],
+    words: &[u32],
+    buf: &mut [u8],
+) -> Result<u32, Refusal>
     ensures answer { said result ≡ answer_of (set_call file.now entry path.now words.now buf.old) }
     ensures buffer { buf.new ≡ contents_of buf.old (set_call file.now entry path.now words.now buf.old) }
 {

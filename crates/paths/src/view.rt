@@ -5,9 +5,9 @@ ghost use Rattle.said.specs.Target.{reached, after};
 ghost use Rattle.paths.specs.View.{PartIs};
 ghost use Rattle.said.specs.Answer.{said};
 
-use said::target::Target;
-use said::refusal::Refusal;
 use crate::locate::locate;
+use said::refusal::Refusal;
+use said::target::Target;
 
 // What `path` leads to from entry `entry`: its offset, its bytes and its scalar.
 // Refuses 1 to 7, 24 (file), 8, 17, 9 (no layout), 15, then 11 to 13 (the first bad step).

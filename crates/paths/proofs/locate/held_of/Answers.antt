@@ -22,11 +22,8 @@ returns-then-opens c f e t b x l =
 
 pub returns-then-bytes-size : goal.returns-then-bytes-size
 returns-then-bytes-size c f e t b x l =
-    let no = c in
-    sym (closed_short x b (sym (no.opens.ensures t (viewable_value x) (viewable_well_formed x)) ∙ no.if-opens.false) (omega (arith, c.wide-size.ensures.0)))
+    sym (closed_short x b (sym (c.opens.ensures t (viewable_value x) (viewable_well_formed x)) ∙ c.if-opens.false) (omega arith))
 
 pub returns : goal.returns
 returns c f e t b x l =
-    let no = c in
-    let size = c.wide-size.ensures.0 in
-    rw size (sym (closed_there x b (sym (no.opens.ensures t (viewable_value x) (viewable_well_formed x)) ∙ no.if-opens.false) (omega arith)))
+    sym (closed_there x b (sym (c.opens.ensures t (viewable_value x) (viewable_well_formed x)) ∙ c.if-opens.false) (omega arith))
