@@ -11,10 +11,10 @@ pub returns-then-s-eq1 : goal.returns-then-s-eq1
 unfolding step_of
 returns-then-s-eq1 c =
     let high : c.args.s / 2 ^ 31 < 2 = omega (arith, c.ranges.s) in
-    rw (and_mask c.args.s 31, mod-eq_of_lt high, eq-eqb _ 1 c.if-s-eq1.true)
+    rw (and_mask c.args.s 31, mod-eq_of_lt high, eq-eqb (c.args.s / 2 ^ 31) 1 c.if-s-eq1.true)
 
 pub returns-else-s-eq1 : goal.returns-else-s-eq1
 unfolding step_of
 returns-else-s-eq1 c =
     let high : c.args.s / 2 ^ 31 < 2 = omega (arith, c.ranges.s) in
-    rw (and_mask c.args.s 31, mod-eq_of_lt high, ne_eqb _ 1 c.if-s-eq1.false)
+    rw (and_mask c.args.s 31, mod-eq_of_lt high, ne_eqb (c.args.s / 2 ^ 31) 1 c.if-s-eq1.false)
