@@ -10,9 +10,8 @@ ghost use Rattle.listing_file.specs.List.{listing_room, Entries};
 
 use file::trailer::check_trailer;
 use layout_table::fill;
-use layout_values::value::{blank, value_at, Value};
+use layout_values::value::{Value, blank, value_at};
 use listing_text::{put_heading, put_line, put_refused};
-use said::refusal::{number, place};
 
 // The most bytes of a file that is listed.
 const INPUT_LIMIT: usize = 65536;
@@ -24,11 +23,9 @@ fn put_entries(out: &mut [u8], table: &[Value], types: u32) -> usize
     ensures { (f : List ℕ) (ts : List Ty) → Entries f table.now types ts → Put out.old 0 (listed (good ts)) result out.new }
 {
     let mut at = put_heading(out, 0, types);
-    let mut k: u32 = 0;
-    while k < types {
+    for k in 0..types {
         let l = value_at(table, k as usize);
         at = put_line(out, at, k, l.size, l.align, l.own_stride());
-        k += 1;
     }
     at
 }
@@ -42,12 +39,12 @@ pub fn list(file: &[u8], out: &mut [u8]) -> usize
         return put_refused(out, 0, 17, 0);
     }
     match check_trailer(file) {
-        Err(r) => put_refused(out, 0, number(r), place(r)),
+        Err(r) => put_refused(out, 0, r.number(), r.place()),
         Ok(t) => {
             let mut table = blank();
             match fill(file, t, &mut table) {
                 Ok(_) => put_entries(out, &table, t.types),
-                Err(r) => put_refused(out, 0, number(r), place(r)),
+                Err(r) => put_refused(out, 0, r.number(), r.place()),
             }
         }
     }

@@ -25,7 +25,7 @@ loop-k-preserved c =
     let p = c in
     let s = p in
     let v = s in
-    going_more v.loop-k.invariant (search rules) (rw v.value_at-l.ensures at s.stride_of.ensures)
+    going_more v.loop-k.invariant (search rules) (rw v.value_at-l.ensures at s.own_stride.ensures)
     (rw v.value_at-l.ensures at p.put_line-at.ensures)
 
 pub returns : goal.returns
