@@ -17,9 +17,6 @@ module _ {f : List ℕ} {ts : List Ty} {start a b : ℕ} (p : Pair f ts start a 
   swapped = record { accepted = p.accepted; start_is = p.start_is; first = p.second; second = p.first }
 
   module _ {x y : ℕ} (x_is : x ≡ a) (y_is : y ≡ b) where
-    pub renamed : Pair f ts start x y
-    renamed = rw (x_is, y_is) p
-
     -- What is said of the types of entries x and y is said of the types that a and b name.
     pub rank_named : {o r : Option ℕ} → o ≡ r → ((ts : List Ty) (s t : Ty) → types_of f ≡ good ts → get_elem? ts x ≡ some s → get_elem? ts y ≡ some t → o ≡ rank_of s t) → rank_of (get_or ts a (scalar bool)) (get_or ts b (scalar bool)) ≡ r
     rank_named e h =

@@ -2,9 +2,10 @@
 --
 -- In order: what an entry names; marks entry by entry; the verdict.
 -- Assumes nothing.
-use Prim.Native.Nat.{ℕ, zero, suc, ◌+◌, ◌*◌, ◌/◌, ◌%◌, ◌<◌, ◌≤◌}
+use Prim.Native.Nat.{ℕ, zero, suc, min, ◌+◌, ◌*◌, ◌/◌, ◌%◌, ◌<◌, ◌≤◌}
 use mathlib.Core.Bool.{Bool, true, false, ◌&&◌, ◌||◌}
 use mathlib.Core.List.{List}
+use mathlib.Core.Logic.{◌⊎◌, inl, inr}
 use mathlib.Core.Path.{◌≡◌, refl, ap, sym, ◌∙◌}
 use native.Mathlib.Numerals.{add-one}
 use native.Mathlib.Omega.{arith}
@@ -15,7 +16,7 @@ use Rattle.wgsl.specs.Types.{struct_kind}
 use Rattle.wgsl.specs.Said.{refuse}
 use Rattle.wgsl.specs.File.{TypeEntry, type_entry_at, type_entry_from, type_entry_length}
 use Rattle.wgsl.specs.Rule.{names_member, is_named, all_named}
-use Rattle.wgsl.proofs.Bit.{bit_above}
+use Rattle.wgsl.proofs.Bit.{bit_above, lt_or_le}
 use Rattle.wgsl.proofs.Stray.{named_all, unnamed_refused}
 use Rattle.layout_strays.specs.Strays.{Entries, mark_at, Marks}
 
@@ -30,13 +31,14 @@ module _ (e : TypeEntry) (m : ℕ) where
   unfolding names_member
   of_struct is = rw (eq-eqb e.kind struct_kind is) refl
 
-  -- the same by the numbers that the code has, and where there are no more members
-  pub names_span : {from count : ℕ} → e.kind ≡ struct_kind → from ≡ e.reference → count ≡ e.count → (leb from m && ltb m (from + count)) ≡ names_member e m
-  names_span is p q = rw (p, q) (sym (of_struct is))
-
-  pub names_cut : {from count members : ℕ} → e.kind ≡ struct_kind → from ≡ e.reference → count ≡ e.count → members ≤ from + count → m < members → (leb from m && ltb m members) ≡ names_member e m
-  names_cut {from} {count} {members} is p q cut low =
-      ap (λ b. leb from m && b) (lt-ltb m members low ∙ sym (lt-ltb m (from + count) (omega arith))) ∙ names_span is p q
+  -- the same by the numbers that the code has, cut where there are no more members
+  pub names_cut : {from count members to : ℕ} → e.kind ≡ struct_kind → to ≡ min (from + count) members → from ≡ e.reference → count ≡ e.count → m < members → (leb from m && ltb m to) ≡ names_member e m
+  names_cut {from} {count} {members} {to} is cut p q low =
+      ap (λ b. leb from m && b) (same (lt_or_le m (from + count))) ∙ rw (p, q) (sym (of_struct is))
+    where
+      same : (m < from + count) ⊎ (from + count ≤ m) → ltb m to ≡ ltb m (from + count)
+      same (inl h) = rw (lt-ltb m to (omega arith), lt-ltb m (from + count) h)
+      same (inr h) = rw (le-ltb m to (omega arith), le-ltb m (from + count) h)
 
 -- where the k-th entry begins
 pub entry_there : {f : List ℕ} {start types : ℕ} → Entries f start types → {e : TypeEntry} (k : ℕ) → e ≡ type_entry_from f (start + type_entry_length * k) → e ≡ type_entry_at f k

@@ -25,10 +25,7 @@ fn mark_entry(named: &mut [u64], e: TypeEntry, members: usize)
     }
     let from = wide(e.reference);
     let to = from + wide(e.count);
-    if to < members {
-        return mark(named, from, to);
-    }
-    mark(named, from, members)
+    mark(named, from, to.min(members))
 }
 
 // Marks the members that structs name.
@@ -36,10 +33,8 @@ fn mark_all(f: &[u8], start: usize, types: usize, members: usize, named: &mut [u
     requires { Entries f.now start types × (members ≤ 1024) × (length named.old ≡ 16) × Marks f.now 0 members named.old }
     ensures { Marks f.now types members named.new }
 {
-    let mut k: usize = 0;
-    while k < types {
+    for k in 0..types {
         mark_entry(named, entry_at(f, start + TYPE_ENTRY_LENGTH * k), members);
-        k += 1;
     }
 }
 

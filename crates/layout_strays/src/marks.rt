@@ -6,7 +6,7 @@ ghost use Rattle.layout_strays.specs.Strays.{mark_at, Marks};
 
 const WORD: usize = 64;
 
-const FULL: u64 = 0xffff_ffff_ffff_ffff;
+const FULL: u64 = u64::MAX;
 
 // So many bits, from bit `place` on.
 fn span(place: usize, count: usize) -> u64
@@ -22,7 +22,7 @@ fn mark_in_word(named: &mut [u64], from: usize, to: usize)
     ensures { (m : ℕ) → mark_at named.new m ≡ (mark_at named.old m || (leb from m && ltb m to)) }
 {
     let w = from / WORD;
-    named[w] = named[w] | span(from % WORD, to - from);
+    named[w] |= span(from % WORD, to - from);
 }
 
 // Marks the members from `from` on and below `to`.
@@ -71,12 +71,10 @@ pub fn first_unmarked(named: &[u64], members: usize) -> usize
     requires { (members ≤ 1024) × (length named.now ≡ 16) }
     ensures { (f : List ℕ) (n : ℕ) → Marks f n members named.now → refuse 24 result (ltb result members) ≡ all_named f n members }
 {
-    let mut m = full_to(named, members);
-    while m < members {
+    for m in full_to(named, members)..members {
         if !is_marked(named, m) {
             return m;
         }
-        m += 1;
     }
     members
 }

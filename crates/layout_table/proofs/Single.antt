@@ -1,7 +1,6 @@
 -- No slack: two tables that the claim of a fill allows are the same, and so are the answers beside them.
 -- Assumes nothing.
 use Rattle.std.specs.Prelude.{Err, Ok, Result}
-use Prim.Native.Nat.{ℕ}
 use mathlib.Core.List.{List, []}
 use mathlib.Core.Path.{◌≡◌, refl, sym, ap, ◌∙◌}
 use Rattle.wgsl.specs.Said.{Said, good, refused}

@@ -1,10 +1,7 @@
 -- Over a reference that is not lower nothing is made; over a lower one what its type makes (proofs/Judged).
-use mathlib.Core.Bool.{Bool, true, false, not}
-use mathlib.Core.List.{[], ◌∷◌}
-use mathlib.Core.Path.{◌≡◌, ap, sym, ◌∙◌}
+use mathlib.Core.Bool.{not}
+use mathlib.Core.Path.{ap, sym, ◌∙◌}
 use native.Mathlib.Omega.{arith}
-use Rattle.wgsl.specs.Rule.{unused}
-use Rattle.wgsl.specs.Types.{is_scalar_kind}
 use Rattle.layout_values.proofs.Unused.{unused_two, granted}
 use Rattle.layout_structs.proofs.MembersFrom.{lower_found, lower_past}
 use Rattle.layout_table.proofs.Judged.{entry_over, entry_missing}

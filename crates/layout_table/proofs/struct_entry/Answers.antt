@@ -1,6 +1,6 @@
 -- The members one after the other: after each turn the loop knows what those so far come to (`Reached` of crates/layout_structs), whatever the
 -- types of the lower entries are. Each answer is a law of `Upward`.
-use Rattle.std.specs.Prelude.{Err, Ok}
+use Rattle.std.specs.Prelude.{Err}
 use mathlib.Core.Path.{◌≡◌, ◌∙◌}
 use native.Mathlib.Omega.{arith}
 use borrow.Author.Rules.{rules}

@@ -1,7 +1,6 @@
 -- All before m are marked (`Named`).
 use mathlib.Core.Bool.{not}
 use mathlib.Core.Path.{ap}
-use Prim.Native.Nat.{◌<◌}
 use mathlib.Core.Path.{sym, ◌∙◌}
 use native.Mathlib.Omega.{arith}
 use borrow.Author.Tests.{not-true}
@@ -10,13 +9,10 @@ use Rattle.layout_strays.proofs.marks.first_unmarked.Goals as goal
 
 pub returns-then-not-is_marked : goal.returns-then-not-is_marked
 returns-then-not-is_marked c f n marks =
-    let call = c in
-    let l = call in
-    let low : l.loop-m.m < l.args.members = omega arith in
-    verdict_stray f n low (sym (marks l.loop-m.m low) ∙ sym call.is_marked.ensures ∙ not-true _ (ap not c.if-not-is_marked.true))
-    (λ i h. sym (marks i (omega arith)) ∙ l.loop-m.invariant.1 i h)
+    verdict_stray f n c.loop-m-test.true
+    (sym (marks c.loop-m.m c.loop-m-test.true) ∙ sym c.is_marked.ensures ∙ not-true _ (ap not c.if-not-is_marked.true))
+    (λ i h. sym (marks i (omega arith)) ∙ c.loop-m.invariant i h)
 
 pub returns : goal.returns
 returns c f n marks =
-    let l = c in
-    verdict_none f n l.args.members (λ i h. sym (marks i h) ∙ l.loop-m.invariant.1 i (omega (arith, c.loop-m-test.false)))
+    verdict_none f n c.args.members (λ i h. sym (marks i h) ∙ c.loop-m.invariant i (omega (arith, c.loop-m-test.false)))
