@@ -30,13 +30,13 @@ fn are_zero(buf: &[u8], from: usize, to: usize) -> bool
     requires { to ≤ length buf.now }
     ensures { result ≡ true → (k : ℕ) → from ≤ k → k < to → get_or buf.now k 0 ≡ 0 }
 {
-    let words = to.saturating_sub(from) / 4;
-    for i in 0..words {
+    let long = to.saturating_sub(from);
+    for i in 0..long / 4 {
         if u32_at(buf, from + 4 * i) != 0 {
             return false;
         }
     }
-    bytes_are_zero(buf, from + 4 * words, to)
+    long % 4 == 0 || bytes_are_zero(buf, to - long % 4, to)
 }
 
 // Byte `i` becomes zero.
