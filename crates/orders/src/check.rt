@@ -46,7 +46,13 @@ fn check_struct(members: &[u8], table: &[Value], l: Value, order: &[u32]) -> Res
 }
 
 // 9, and then the rest.
-fn check_entry_at(file: &[u8], e: usize, g: Ground, table: &[Value], order: &[u32]) -> Result<u32, Refusal>
+fn check_entry_at(
+    file: &[u8],
+    e: usize,
+    g: Ground,
+    table: &[Value],
+    order: &[u32],
+) -> Result<u32, Refusal>
     requires { (t : Ty) × Meant file.now e g table.now t }
     ensures { MeantOrdered file.now e g table.now order.now result }
 {

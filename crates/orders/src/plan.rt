@@ -28,7 +28,13 @@ fn plan_struct(members: &[u8], table: &[Value], l: Value, order: &mut [u32]) -> 
 }
 
 // 9, and then the rest.
-fn plan_entry_at(file: &[u8], e: usize, g: Ground, table: &[Value], order: &mut [u32]) -> Result<u32, Refusal>
+fn plan_entry_at(
+    file: &[u8],
+    e: usize,
+    g: Ground,
+    table: &[Value],
+    order: &mut [u32],
+) -> Result<u32, Refusal>
     requires { (t : Ty) × Meant file.now e g table.now t }
     ensures { MeantPlanned file.now e g table.now result order.old order.new }
 {

@@ -9,7 +9,9 @@ use mathlib.Core.Option.{Option}
 use mathlib.Core.Path.{◌≡◌, refl, sym, ap, ◌∙◌}
 use native.Mathlib.Nat.{suc-mul, add-mul}
 use native.Mathlib.Omega.{arith}
-use lib.ListN.{length, get_or}
+use lib.ListN.{length, get_or, take}
+use lib.Seq.{length-take-le}
+use Rattle.std.proofs.lemmas.List.{get_or-take}
 use Rattle.wgsl.specs.Types.{Ty, Members, everywhere}
 use Rattle.wgsl.specs.File.{MemberEntry, member_entry_from, given_size, given_align, rest_is_zero, most_members, member_fields_length}
 use Rattle.wgsl.specs.Rule.{count_of, member_allowed, given_size_fits, given_align_fits, is_well_formed}
@@ -70,15 +72,29 @@ pub struct_some : {bytes : List ℕ} {table : List Value} {l : Value} {ms : Memb
 struct_some {ms = ms} s = omega (arith, (struct_passed s.number ms s.well_formed).some_there, s.count_is)
 
 -- An order of one struct's members is one of those of any struct with its value.
-pub ordered : {bytes : List ℕ} {table : List Value} {l : Value} {own ms : Members} {order : List ℕ} {first long count : ℕ} → Struct bytes table l own → length order ≡ count_of own → all_below (count_of own) order ≡ true → first ≡ l.reference → long ≡ l.stride → count ≡ l.count → Struct bytes table l ms → Ordered bytes table order first long (count - 1) ms
-ordered {l = l} {count = count} s n below f g h t =
-    let c : count - 1 + 1 ≡ l.count = omega (arith, struct_some s) in
+pub ordered : {bytes : List ℕ} {table : List Value} {l : Value} {own ms : Members} {order : List ℕ} → Struct bytes table l own → length order ≡ count_of own → all_below (count_of own) order ≡ true → Struct bytes table l ms → Ordered bytes table order l.reference l.stride (l.count - 1) ms
+ordered {l = l} s n below t =
+    let c : l.count - 1 + 1 ≡ l.count = omega (arith, struct_some s) in
     record {
       few = omega (arith, struct_some s, s.few);
-      entries = rw (c, f, g) t.entries;
+      entries = rw c t.entries;
       length_is = rw c (n ∙ sym s.count_is);
       below = rw (c, s.count_is) below;
     }
+
+-- the positions before the last
+module _ {bytes : List ℕ} {table : List Value} {order : List ℕ} {first long last : ℕ} {ms : Members} (o : Ordered bytes table order first long last ms) where
+  long_is : length (take last order) ≡ last
+  long_is = length-take-le last order (omega (arith, o.length_is))
+
+  pub before_last : (i : ℕ) → i < length (take last order) → i < last
+  before_last i h = omega (arith, long_is)
+
+  pub before_is : (i : ℕ) → i < length (take last order) → get_or (take last order) i 0 ≡ get_or order i 0
+  before_is i h = get_or-take last order i 0 (before_last i h)
+
+  pub at_last : (i : ℕ) → i ≤ length (take last order) → length (take last order) ≤ i → i ≡ last
+  at_last i h g = omega (arith, long_is)
 
 -- the member at position i of the order, whose number is p
 module _ {bytes : List ℕ} {table : List Value} {order : List ℕ} {first long last : ℕ} {ms : Members} (o : Ordered bytes table order first long last ms) (i : ℕ) (low : i ≤ last) (p : ℕ) (is : p ≡ get_or order i 0) where

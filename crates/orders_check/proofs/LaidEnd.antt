@@ -1,8 +1,9 @@
 -- Where a struct ends, if it is well formed (`laid_end`, specs/Checked).
 --
--- In order: what the verdict on a type says; where a struct ends; the tail of members and one more; members that are too large.
+-- In order: a result by its value; what the verdict on a type says; where a struct ends; the tail of members and one more.
 -- Assumes nothing.
-use Rattle.std.specs.Prelude.{Err, Ok, Result}
+use Rattle.std.specs.Prelude.{Err, None, Ok, Result, Some}
+use Rattle.std.specs.Result.{result_ok}
 use Prim.Native.Nat.{ℕ}
 use mathlib.Core.Bool.{Bool, true, false, cond, ◌&&◌}
 use mathlib.Core.Option.{Option, none, some}
@@ -10,22 +11,32 @@ use mathlib.Core.Path.{◌≡◌, refl}
 use native.Mathlib.Omega.{arith}
 use Rattle.wgsl.specs.Types.{Ty, scalar, vector, matrix, array, runtime, atomic, struct, Members, no_more, member, is_runtime}
 use Rattle.wgsl.specs.Size.{present, size_of, align_of, members_end, fits_limit, member_start, member_end}
-use Rattle.wgsl.specs.Rule.{when, is_allowed, given_fits, members_given_fit, is_well_formed}
+use Rattle.wgsl.specs.Rule.{when, is_allowed, given_fits, is_well_formed}
 use Rattle.wgsl.specs.Place.{Tail, tail_at, members_tail, extent_by}
 use Rattle.wgsl.specs.Order.{end_of}
 use Rattle.wgsl.proofs.Absent.{true_not_false}
 use Rattle.layout_values.specs.declared.value.Value.{Value}
 use Rattle.layout_values.specs.Value.{value_of, verdict_on}
-use Rattle.layout_structs.specs.declared.Ends.{Ends}
-use Rattle.layout_structs.specs.SoFar.{appended, ends_of, members_fit, so_far}
+use Rattle.layout_structs.specs.SoFar.{appended}
 use Rattle.orders_check.specs.Checked.{laid_end}
 use Rattle.layout_values.specs.declared.value.Broken.{Broken}
 use Rattle.layout_values.specs.declared.value.Broken.TheVariants.{Given, Large, Rule}
 
--- ---- what the verdict on a type says
-
 pub never : {A : Type 0} → ◌≡◌ {A = ℕ} 0 1 → A
 never e = absurd (omega arith)
+
+-- ---- a result by its value
+
+module _ {A E : Type 0} where
+  pub ok_is : {x : A} (r : Result A E) → result_ok r ≡ Some x → r ≡ Ok x
+  ok_is (Ok y) e = cc
+  ok_is (Err b) e = never cc
+
+  pub err_is : (r : Result A E) → result_ok r ≡ None → (b : E) × (r ≡ Err b)
+  err_is (Ok y) e = never cc
+  err_is (Err b) e = (b, refl)
+
+-- ---- what the verdict on a type says
 
 -- A type that is laid out is well formed, and its value is the one told.
 pub verdict_laid : (long r : ℕ) (t : Ty) (l : Value) → verdict_on long r t ≡ Ok l → (is_well_formed t ≡ true) × (value_of long r t ≡ l)
@@ -38,16 +49,16 @@ verdict_laid long r t l e = go (is_allowed t) (given_fits t) (fits_limit t) e
     go true false f h = never cc
     go false g f h = never cc
 
--- One that is too large is not well formed.
-pub verdict_large : (long r : ℕ) (t : Ty) → verdict_on long r t ≡ Err Large → is_well_formed t ≡ false
+-- One that has no value is not well formed.
+pub verdict_broken : (long r : ℕ) (t : Ty) (b : Broken) → verdict_on long r t ≡ Err b → is_well_formed t ≡ false
 unfolding verdict_on is_well_formed
-verdict_large long r t e = go (is_allowed t) (given_fits t) (fits_limit t) e
+verdict_broken long r t b e = go (is_allowed t) (given_fits t) (fits_limit t) e
   where
-    go : (a g f : Bool) → cond a (cond g (cond f (Ok (value_of long r t)) (Err Large)) (Err Given)) (Err Rule) ≡ Err Large → (a && g && f) ≡ false
+    go : (a g f : Bool) → cond a (cond g (cond f (Ok (value_of long r t)) (Err Large)) (Err Given)) (Err Rule) ≡ Err b → (a && g && f) ≡ false
     go true true true h = never cc
     go true true false h = refl
-    go true false f h = never cc
-    go false g f h = never cc
+    go true false f h = refl
+    go false g f h = refl
 
 -- ---- where a struct ends
 
@@ -77,16 +88,3 @@ tail_start (array n t) size o e = true_not_false e refl
 tail_start (runtime t) size o e = omega arith
 tail_start (atomic s) size o e = true_not_false e refl
 tail_start (struct k ms) size o e = true_not_false e refl
-
--- ---- members that are too large
-
--- Members whose given sizes and aligns fit are placed or too large.
-pub not_placed : (ms : Members) (r : Result Ends Broken) → members_given_fit ms ≡ true → r ≡ so_far ms → ((x : Ends) → r ≡ Ok x → ⊥) → r ≡ Err Large
-unfolding so_far
-not_placed ms (Ok p) g e h = absurd (h p refl)
-not_placed ms (Err Given) g e h = go (members_fit ms) (rw g at e)
-  where
-    go : (b : Bool) → (Err Given) ≡ cond b (Ok (ends_of ms)) (Err Large) → (Err Given) ≡ Err Large
-    go true q = never cc
-    go false q = q
-not_placed ms (Err Large) g e h = refl

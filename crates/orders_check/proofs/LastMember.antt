@@ -2,9 +2,11 @@
 --
 -- In order: a number given or the type's own; all its members; members that are too large; a last member that is a runtime array; one that is not.
 -- Assumes nothing.
-use Rattle.std.specs.Prelude.{Err, None, Ok, Option, Result, Some, ℕ}
+use Rattle.std.specs.Prelude as std
+use Rattle.std.specs.Prelude.{Err, None, Ok, Result, Some}
+use Rattle.std.specs.Result.{result_ok}
 use Prim.Native.Nat.{ℕ, max, min}
-use mathlib.Core.Bool.{true, false, ◌&&◌, ◌||◌}
+use mathlib.Core.Bool.{true, false, ◌||◌}
 use mathlib.Core.Logic.{⊎_elim}
 use mathlib.Core.Option.{Option, none, some}
 use mathlib.Core.Path.{◌≡◌, refl, sym, ap, ◌∙◌}
@@ -13,7 +15,7 @@ use Rattle.wgsl.specs.Round.{IsPower, up}
 use Rattle.wgsl.specs.Types.{Ty, struct, Members, is_runtime, is_open, ends_in_runtime, everywhere, every_member}
 use Rattle.wgsl.specs.Size.{given_or, is_present, present, size_of, align_of, members_end, member_start}
 use Rattle.wgsl.specs.File.{TypeEntry, MemberEntry, given_size, given_align}
-use Rattle.wgsl.specs.Rule.{count_of, member_allowed, members_given_fit, given_size_fits, given_align_fits, is_well_formed}
+use Rattle.wgsl.specs.Rule.{count_of, member_allowed, is_well_formed}
 use Rattle.wgsl.specs.Place.{tail_of, extent_of}
 use Rattle.wgsl.specs.Order.{end_of}
 use Rattle.wgsl.proofs.Absent.{both_hold, hold_both, either_holds, true_not_false, present_some, present_is}
@@ -24,15 +26,15 @@ use Rattle.layout_values.specs.declared.value.Value.{Value}
 use Rattle.layout_values.specs.Value.{value_of}
 use Rattle.layout_structs.specs.declared.Ends.{Ends}
 use Rattle.layout_structs.specs.SoFar.{all_sized, followed, ends_of, struct_of, so_far, stepped_to, Joins, Complete, Ended}
-use Rattle.layout_structs.proofs.Appended.{after_count, after_every, after_given, after_runtime}
+use Rattle.layout_structs.proofs.Appended.{after_count, after_every, after_runtime}
 use Rattle.layout_structs.proofs.Going.{next_start, going_end}
 use Rattle.layout_structs.proofs.SoFarOf.{limited_is}
 use Rattle.layout_structs.proofs.MembersAllowed.{allowed_so, allowed_after}
 use Rattle.layout_structs.proofs.Joins.{joins_power, joins_past, joins_open}
-use Rattle.layout_structs.proofs.Meets.{steps_next, steps_joins, steps_large}
+use Rattle.layout_structs.proofs.Meets.{steps_next, steps_joins, steps_past}
 use Rattle.layout_structs.proofs.Ended.{closes_placed, closes_past, ended_power, ended_opens, ended_closes, ended_past}
 use Rattle.orders_check.specs.Checked.{laid_end, Last}
-use Rattle.orders_check.proofs.LaidEnd.{verdict_laid, verdict_large, end_none, end_some, tail_after, tail_start, not_placed}
+use Rattle.orders_check.proofs.LaidEnd.{never, ok_is, err_is, verdict_laid, verdict_broken, end_none, end_some, tail_after, tail_start}
 use Rattle.layout_values.specs.declared.value.Broken.{Broken}
 use Rattle.layout_values.specs.declared.value.Broken.TheVariants.{Large}
 use Rattle.said.specs.Answer.{maybe_of}
@@ -60,12 +62,6 @@ module _ {run : (Result Ends Broken)} {l : Value} {m : MemberEntry} {ms : Member
             ∙ hold_both (every_member is_well_formed ms) (everywhere is_well_formed t) j.meets.going.well_formed j.meets.well_formed;
       }
 
-  given_fits_lem : members_given_fit (followed ms t m) ≡ true
-  given_fits_lem =
-      after_given t (given_size m) (given_align m) ms
-      ∙ hold_both (members_given_fit ms) (given_size_fits t (given_size m) && given_align_fits t (given_align m)) j.given
-      (hold_both (given_size_fits t (given_size m)) (given_align_fits t (given_align m)) j.size_fits j.align_fits)
-
   -- an entry of as many members
   abbrev entry : TypeEntry
   entry =
@@ -75,23 +71,32 @@ module _ {run : (Result Ends Broken)} {l : Value} {m : MemberEntry} {ms : Member
   pub last_stepped : stepped_to true ms t m ≡ Ok (so_far (followed ms t m))
   last_stepped = steps_next true ms t m j.rest_zero j.allowed (so_far (followed ms t m)) refl
 
+  pub all_told : (s : Result (Result Ends Broken) Broken) {r : Result Ends Broken} → s ≡ stepped_to true ms t m → result_ok s ≡ Some r → r ≡ so_far (followed ms t m)
+  all_told s e h =
+      let q = ok_is s h in
+      cc (e, last_stepped, q)
+
+  pub all_there : {A : Type 0} (s : Result (Result Ends Broken) Broken) → s ≡ stepped_to true ms t m → result_ok s ≡ None → A
+  all_there s e h =
+      let q = err_is s h in
+      never (cc (e, last_stepped, q.1))
+
   -- ---- members that are too large
 
-  large_none : (k : ℕ) → so_far (followed ms t m) ≡ Err Large → none ≡ laid_end k (followed ms t m)
-  large_none k e =
+  -- Where all have no value, there is no end.
+  pub all_broken : (k : ℕ) (r : Result Ends Broken) → r ≡ so_far (followed ms t m) → result_ok r ≡ None → none ≡ laid_end k (followed ms t m)
+  all_broken k r e h =
+      let b = err_is r h in
       end_none k (followed ms t m)
-      (verdict_large 0 0 (struct k (followed ms t m))
-      (closes_past 0 0 k (followed ms t m) (record { verdict = sym e; complete = complete })))
+      (verdict_broken 0 0 (struct k (followed ms t m)) b.0
+      (closes_past 0 0 k r b.0 (followed ms t m) (record { verdict = e; complete = complete }) b.1))
 
-  -- Where those before are too large, so are all.
-  pub before_large : (k : ℕ) → ((x : Ends) → run ≡ Ok x → ⊥) → none ≡ laid_end k (followed ms t m)
-  before_large k h =
-      let e = not_placed ms run j.given j.meets.verdict h in
-      let s = steps_large true ms t m j.rest_zero j.allowed run l j.meets j.size_fits j.align_fits e in
-      large_none k (cc (last_stepped, s))
-
-  pub all_large : (k : ℕ) (r : Result Ends Broken) → r ≡ so_far (followed ms t m) → ((x : Ends) → r ≡ Ok x → ⊥) → none ≡ laid_end k (followed ms t m)
-  all_large k r e h = large_none k (sym e ∙ not_placed (followed ms t m) r given_fits_lem e h)
+  -- Where those before have none, all have none.
+  pub before_broken : (k : ℕ) → result_ok run ≡ None → none ≡ laid_end k (followed ms t m)
+  before_broken k h =
+      let b = err_is run h in
+      let s = steps_past true ms t m j.rest_zero j.allowed run l j.meets j.size_fits j.align_fits b.0 b.1 in
+      all_broken k run (cc (last_stepped, s, b.1)) h
 
   -- ---- a last member that is a runtime array
 
@@ -138,19 +143,19 @@ module _ {run : (Result Ends Broken)} {l : Value} {m : MemberEntry} {ms : Member
         (tail_start t (size_of (struct k (followed ms t m))) (up al p.end) (open_runtime o))
 
     -- The struct ends where it starts.
-    pub open_found : (k : ℕ) → is_open t ≡ true → (r : Option ℕ) → r ≡ limited (up al p.end) → maybe_of r ≡ laid_end k (followed ms t m)
+    pub open_found : (k : ℕ) → is_open t ≡ true → (r : std.Option ℕ) → r ≡ limited (up al p.end) → maybe_of r ≡ laid_end k (followed ms t m)
     open_found k o (Some n) h =
         let placed = joins_open p l m ms t joins al al_is n (sym h) (max p.align al) refl (min p.narrow l.narrow) refl o in
-        let ended = closes_placed _ (followed ms t m) (record { verdict = sym placed; complete = complete }) in
+        let ended = closes_placed _ _ (followed ms t m) (record { verdict = sym placed; complete = complete }) refl in
         let v = verdict_laid 0 0 (struct k (followed ms t m)) _ (ended_opens 0 k entry _ (followed ms t m) ended refl refl) in
         end_some k (followed ms t m) n v.0 (open_end k o ∙ (limited_is (up al p.end) n (sym h)).1)
-    open_found k o None h = large_none k (joins_past p l m ms t joins al al_is (sym h))
+    open_found k o None h = all_broken k (Err Large) (sym (joins_past p l m ms t joins al al_is (sym h))) refl
 
   -- ---- one that is not
 
   module _ (o : is_open t ≡ false) (p : Ends) (is : Ok p ≡ so_far (followed ms t m)) where
     ended : Ended p (followed ms t m)
-    ended = closes_placed p (followed ms t m) (record { verdict = is; complete = complete })
+    ended = closes_placed (Ok p) p (followed ms t m) (record { verdict = is; complete = complete }) refl
 
     no_tail : ends_in_runtime false (followed ms t m) ≡ false
     no_tail = after_runtime t (given_size m) (given_align m) false ms ∙ closed_not_runtime t o
@@ -167,10 +172,10 @@ module _ {run : (Result Ends Broken)} {l : Value} {m : MemberEntry} {ms : Member
     closed_end k n e = closed_extent 0 (struct k (followed ms t m)) no_tail ∙ ap (λ (x : Value). x.size) e
 
     -- The struct ends at its size.
-    pub closed_found : (k : ℕ) (r : Option ℕ) → r ≡ limited (up p.align p.end) → maybe_of r ≡ laid_end k (followed ms t m)
+    pub closed_found : (k : ℕ) (r : std.Option ℕ) → r ≡ limited (up p.align p.end) → maybe_of r ≡ laid_end k (followed ms t m)
     closed_found k (Some n) h =
         let v = verdict_laid 0 0 (struct k (followed ms t m)) _ (ended_closes 0 k entry p (followed ms t m) n ended refl not_open h) in
         end_some k (followed ms t m) n v.0 (closed_end k n v.1)
     closed_found k None h =
         end_none k (followed ms t m)
-        (verdict_large 0 0 (struct k (followed ms t m)) (ended_past 0 0 k p (followed ms t m) ended not_open h))
+        (verdict_broken 0 0 (struct k (followed ms t m)) Large (ended_past 0 0 k p (followed ms t m) ended not_open h))

@@ -2,7 +2,8 @@
 --
 -- In order: before the first; the next member, and a turn that goes on; a turn that rule 5 ends; the last member.
 -- Assumes nothing.
-use Rattle.std.specs.Prelude.{Err, Ok, Result}
+use Rattle.std.specs.Prelude.{None, Ok, Result}
+use Rattle.std.specs.Result.{result_ok}
 use Prim.Native.Nat.{ℕ, suc, ◌+◌, ◌<◌, ◌≤◌}
 use mathlib.Core.Bool.{true, false, ◌&&◌, and-false}
 use mathlib.Core.List.{List}
@@ -23,11 +24,10 @@ use Rattle.layout_structs.proofs.Appended.{after_every, after_given}
 use Rattle.layout_structs.proofs.MembersAllowed.{allowed_so, allowed_after}
 use Rattle.layout_structs.proofs.Meets.{steps_next, steps_not_allowed}
 use Rattle.orders_check.specs.Checked.{laid_end, Last}
-use Rattle.orders_check.proofs.LaidEnd.{never, end_none}
+use Rattle.orders_check.proofs.LaidEnd.{never, err_is, end_none}
 use Rattle.orders_check.proofs.Reordered.{reordered_count, reordered_after, reordered_refused}
 use Rattle.orders_check.proofs.Entries.{Coming, Ordered}
 use Rattle.layout_values.specs.declared.value.Broken.{Broken}
-use Rattle.layout_values.specs.declared.value.Broken.TheVariants.{Rule}
 use Rattle.layout_structs.specs.declared.Ends.{Ends}
 
 pub record Walked (ms : Members) (order : List ℕ) (i : ℕ) (run : Result Ends Broken) : Type 0 where
@@ -53,10 +53,10 @@ next_told {r} ms t e z h =
     (λ q. (q, let s = steps_next false ms t e z q (so_far (followed ms t e)) refl in cc (h, s)))
     (λ q. let s = steps_not_allowed false ms t e q in never (cc (h, s)))
 
-rule_told : (ms : Members) (t : Ty) (e : MemberEntry) → rest_is_zero e ≡ true → (Err Rule) ≡ stepped_to false ms t e → member_allowed false t ≡ false
-rule_told ms t e z h =
+rule_told : (s : Result (Result Ends Broken) Broken) (ms : Members) (t : Ty) (e : MemberEntry) → rest_is_zero e ≡ true → s ≡ stepped_to false ms t e → result_ok s ≡ None → member_allowed false t ≡ false
+rule_told s ms t e z h n =
     yes_or_no (member_allowed false t)
-    (λ q. let s = steps_next false ms t e z q (so_far (followed ms t e)) refl in never (cc (h, s)))
+    (λ q. let b = err_is s n in let r = steps_next false ms t e z q (so_far (followed ms t e)) refl in never (cc (h, b.1, r)))
     (λ q. q)
 
 -- no rule allows members of which one is refused
@@ -100,10 +100,10 @@ module _ {bytes : List ℕ} {table : List Value} {order : List ℕ} {first long 
   -- ---- a turn that rule 5 ends
 
   -- A runtime array that is not the last refuses the struct.
-  pub walked_rule : (k : ℕ) (new : Members) → i < last → (Err Rule) ≡ stepped_to false d.members m.type e → reordered ms order ≡ some new → none ≡ laid_end k new
+  pub walked_rule : (k : ℕ) (new : Members) (s : Result (Result Ends Broken) Broken) → i < last → s ≡ stepped_to false d.members m.type e → result_ok s ≡ None → reordered ms order ≡ some new → none ≡ laid_end k new
   unfolding allowed_so
-  walked_rule k new more h is =
-      let no = rule_told d.members m.type e m.rest_zero h in
+  walked_rule k new s more h n is =
+      let no = rule_told s d.members m.type e m.rest_zero h n in
       let sized : all_sized (followed d.members m.type e) ≡ false =
       allowed_after false d.members m.type (given_size e) (given_align e) ∙ rw no (and-false (all_sized d.members)) in
       end_none k new

@@ -30,19 +30,17 @@ fn lowest_member(members: &[u8], told: &[u32], l: Value) -> u32
     ensures { result ≡ lowest_among told.now (types_at members.now l.stride l.count (l.reference * l.stride)) }
 {
     let length = l.stride as usize;
-    let mut m = l.reference as usize * length;
+    let first = l.reference as usize * length;
     let mut low = NO_ENTRY;
-    let mut left = l.count as usize;
-    while 0 < left {
-        let ty = member_at(members, m).ty as usize;
+    for i in 0..l.count as usize {
+        let ty = member_at(members, first + length * i).ty as usize;
         low = low.min(told[ty]);
-        m += length;
-        left -= 1;
     }
     low
 }
 
 // The lowest number told of what an entry of the value `l` refers to.
+#[tactic(auto, unfolding(crate::specs::Lowest::refers_by, crate::specs::Lowest::lowest_among))]
 fn lowest_below(members: &[u8], told: &[u32], l: Value) -> u32
     requires { RefersInside members.now (length told.now) l }
     ensures { result ≡ lowest_among told.now (refers_by members.now l) }
@@ -58,6 +56,7 @@ fn lowest_below(members: &[u8], told: &[u32], l: Value) -> u32
 }
 
 // The lowest broken one among entry `k` and those that it reaches, which are lower.
+#[tactic(auto, unfolding(crate::specs::Lowest::lowest_by))]
 fn lowest_at(members: &[u8], table: &[Value], told: &[u32], k: usize) -> u32
     requires { LowestAsks members.now table.now (length told.now) k }
     ensures { result ≡ lowest_by members.now table.now told.now k }
@@ -86,6 +85,7 @@ fn lowest_broken(members: &[u8], table: &[Value], e: usize) -> u32
 }
 
 // 9, for open types too, and 10; `l` is the value of the entry's type.
+#[tactic(auto, using(crate::proofs::MayLive::no_size, crate::proofs::MayLive::some_size))]
 fn may_live(l: Value) -> Result<(), Refusal>
     ensures { (t : Ty) → l ≡ value_of l.stride l.reference t → everywhere is_well_formed t ≡ true → said result ≡ may_live t }
 {
@@ -96,6 +96,7 @@ fn may_live(l: Value) -> Result<(), Refusal>
 }
 
 // 19, where an entry is broken.
+#[tactic(auto, unfolding(crate::specs::Lowest::verdict_of))]
 fn verdict(low: u32) -> Result<u32, Refusal>
     ensures { said result ≡ verdict_of low }
 {

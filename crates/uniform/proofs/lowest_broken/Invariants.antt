@@ -1,4 +1,4 @@
-use Prim.Native.Nat.{ℕ, ◌+◌, ◌-◌, ◌<◌, ◌≤◌}
+use Prim.Native.Nat.{ℕ, ◌<◌}
 use mathlib.Core.List.{List}
 use mathlib.Core.Path.{◌≡◌}
 use lib.ListN.{length, get_or}
@@ -9,9 +9,5 @@ use Rattle.uniform.proofs.lowest_broken.Given as goal
 
 abbrev pub invariant-loop-k : goal.invariant-loop-k
 invariant-loop-k l =
-    (l.k ≤ l.e + 1)
-    × (length l.told ≡ 256)
+    (length l.told ≡ 256)
     × ((f : List ℕ) (ts : List Ty) → Basis f ts l.members l.table → l.e < length ts → (j : ℕ) → j < l.k → IsLowest f ts j (get_or l.told j 0))
-
-abbrev pub decreases-loop-k : goal.decreases-loop-k
-decreases-loop-k l = l.e + 1 - l.k

@@ -8,14 +8,12 @@ returns-then-l-ne-STRUCT c = λ t x. sym (order_refused _ _ _ (no_struct_lem x c
 
 pub check_struct-requires : goal.check_struct-requires
 check_struct-requires c =
-    let else1 = c in
-    let (t, x) = else1.requires in
-    let s = meant_struct x else1.if-l-ne-STRUCT.false in
+    let (t, x) = c.requires in
+    let s = meant_struct x c.if-l-ne-STRUCT.false in
     (s.0, s.1)
 
 pub returns : goal.returns
 returns c =
-    let else1 = c in
     λ t x.
-    let s = meant_struct x else1.if-l-ne-STRUCT.false in
+    let s = meant_struct x c.if-l-ne-STRUCT.false in
     c.check_struct.ensures _ s.0 s.1 ∙ sym (order_allowed _ _ _ s.2)

@@ -8,7 +8,6 @@ use Rattle.orders.proofs.check.end_now.Goals as goal
 pub returns : goal.returns
 unfolding value_of
 returns c =
-    let else1 = c in
     λ t x.
-    let closed_is = sym (else1.opens.ensures t x.value_is x.well_formed) ∙ else1.if-opens.false in
-    c.wide.ensures.0 ∙ ap (λ (l : Value). l.size) x.value_is ∙ sym (closed_extent 0 t closed_is)
+    let closed_is = sym (c.opens.ensures t x.value_is x.well_formed) ∙ c.if-opens.false in
+    ap (λ (l : Value). l.size) x.value_is ∙ sym (closed_extent 0 t closed_is)

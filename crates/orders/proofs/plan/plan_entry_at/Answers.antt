@@ -8,15 +8,12 @@ returns-then-l-ne-STRUCT c = λ t x. answered_refused _ (plan_refused _ _ _ (no_
 
 pub plan_struct-requires : goal.plan_struct-requires
 plan_struct-requires c =
-    let else1 = c in
-    let (t, x) = else1.requires in
-    let s = meant_struct x else1.if-l-ne-STRUCT.false in
+    let (t, x) = c.requires in
+    let s = meant_struct x c.if-l-ne-STRUCT.false in
     (s.0, s.1.is_struct)
 
 pub returns : goal.returns
 returns c =
-    let plan = c in
-    let else1 = plan in
     λ t x.
-    let s = meant_struct x else1.if-l-ne-STRUCT.false in
-    answered_same _ (plan_allowed _ _ _ s.2) (plan.plan_struct.ensures s.0 s.1.is_struct)
+    let s = meant_struct x c.if-l-ne-STRUCT.false in
+    answered_same _ (plan_allowed _ _ _ s.2) (c.plan_struct.ensures s.0 s.1.is_struct)
