@@ -1,5 +1,6 @@
 -- A member cleared, step by step (crates/wgsl, specs/Site; specs/Clear).
 -- Assumes nothing.
+use Rattle.std.specs.Prelude.{Err}
 use Prim.Native.Nat.{ℕ, ◌<◌}
 use mathlib.Core.List.{List}
 use mathlib.Core.Path.{◌≡◌, refl, ap, sym, ◌∙◌}
@@ -14,6 +15,11 @@ use Rattle.wgsl.specs.Rule.{count_of}
 use Rattle.wgsl.specs.Site.{block_entry, member_of, clear_call, without_bit, zero_of, mask_after}
 use Rattle.wgsl.proofs.Said.{then_good, then_is, then_refused}
 use Rattle.wgsl.proofs.Site.{block_struct, is_entry, member_low}
+use Rattle.said.specs.Answer.{said}
+use Rattle.walk_path.specs.declared.enter.NoStep.{NoStep}
+use Rattle.walk_path.specs.declared.enter.NoStep.TheVariants.{NoMember, PastEnd, NoIndex}
+use Rattle.walk_path.specs.Step.{refusal_at}
+use Rattle.walk_path.specs.Way.{Enters}
 use Rattle.site.specs.Clear.{there_in, can_clear}
 
 -- ---- a member that is there, or not
@@ -23,9 +29,11 @@ module _ (x : Shape) (k : ℕ) where
   unfolding there_in
   there_good h = sym (then_is _ h)
 
-  pub there_none : {number place : ℕ} → enter 0 x (path.member k) ≡ refused number place → refused number place ≡ there_in x k
-  unfolding there_in
-  there_none h = sym (then_refused _ h)
+  pub there_none : (ts : List Ty) (why : NoStep) → Enters ts 0 (Err why) x (path.member k) → said (Err (refusal_at why 0)) ≡ there_in x k
+  unfolding Enters there_in
+  there_none ts NoMember bad = sym (then_refused _ (bad 0))
+  there_none ts PastEnd bad = sym (then_refused _ (bad 0))
+  there_none ts NoIndex bad = sym (then_refused _ (bad 0))
 
 -- ---- whether it can be cleared
 

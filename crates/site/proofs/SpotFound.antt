@@ -2,16 +2,23 @@
 --
 -- In order: the path; the member.
 -- Assumes nothing.
+use Rattle.std.specs.Prelude.{Err}
 use Prim.Native.Nat.{ℕ}
 use mathlib.Core.List.{List, map}
 use mathlib.Core.Path.{◌≡◌, refl, sym}
+use Rattle.wgsl.specs.Types.{Ty}
 use Rattle.wgsl.specs.Said.{Said, good, refused, ◌>>=◌}
 use Rattle.wgsl.specs.Place.{Shape}
 use Rattle.wgsl.specs.Path as path
 use Rattle.wgsl.specs.Path.{enter, walk, step_of}
 use Rattle.wgsl.proofs.Said.{then_is, then_refused}
 use Rattle.said.specs.declared.target.Target.{Target}
+use Rattle.said.specs.Answer.{said}
 use Rattle.said.specs.Target.{target_is, reached}
+use Rattle.walk_path.specs.declared.enter.NoStep.{NoStep}
+use Rattle.walk_path.specs.declared.enter.NoStep.TheVariants.{NoMember, PastEnd, NoIndex}
+use Rattle.walk_path.specs.Step.{refusal_at}
+use Rattle.walk_path.specs.Way.{Enters}
 use Rattle.site.specs.Spot.{spot_of, spot_from, spot_at}
 
 -- ---- the path
@@ -40,6 +47,8 @@ module _ (x : Shape) (k : ℕ) (steps : List ℕ) where
   unfolding spot_at
   member_there h = sym (then_is _ h)
 
-  pub member_none : {number place : ℕ} → enter 0 x (path.member k) ≡ refused number place → refused number place ≡ spot_at x k steps
-  unfolding spot_at
-  member_none h = sym (then_refused _ h)
+  pub member_none : (ts : List Ty) (why : NoStep) → Enters ts 0 (Err why) x (path.member k) → said (Err (refusal_at why 0)) ≡ spot_at x k steps
+  unfolding Enters spot_at
+  member_none ts NoMember bad = sym (then_refused _ (bad 0))
+  member_none ts PastEnd bad = sym (then_refused _ (bad 0))
+  member_none ts NoIndex bad = sym (then_refused _ (bad 0))

@@ -8,10 +8,9 @@ ghost use Rattle.layout_table.specs.Table.{said_ground};
 ghost use Rattle.site.specs.Block.{block_allowed, block_ground};
 ghost use Rattle.said.specs.Answer.{said};
 
-use layout_table::Ground;
 use file::kinds::STRUCT;
 use file::trailer::check_trailer;
-use layout_table::find;
+use layout_table::{Ground, find};
 use layout_values::value::Value;
 use said::refusal::Refusal;
 use walk_decide::allow;
@@ -58,7 +57,13 @@ fn allow_block(l: Value, mask: u64, bytes: usize) -> Result<(), Refusal>
 }
 
 // Fills the table, and finds in it the block that entry `entry` is with this mask. Refuses 1 to 7, 24, 8, 17, 9, 10, 21.
-pub fn find_block(file: &[u8], entry: u32, mask: u64, bytes: usize, table: &mut [Value]) -> Result<Ground, Refusal>
+pub fn find_block(
+    file: &[u8],
+    entry: u32,
+    mask: u64,
+    bytes: usize,
+    table: &mut [Value],
+) -> Result<Ground, Refusal>
     requires { table.old ≡ blank_table }
     ensures { said_ground result table.new ≡ block_ground file.now entry mask bytes }
 {

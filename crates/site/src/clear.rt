@@ -12,7 +12,7 @@ ghost use Rattle.said.specs.Answer.{said};
 use crate::block::find_block;
 use crate::mask::without_bit;
 use layout_table::Ground;
-use layout_values::value::{blank, Value};
+use layout_values::value::{Value, blank};
 use said::refusal::Refusal;
 use walk_path::enter::{Stand, enter};
 use walk_path::step::Step;
@@ -22,8 +22,11 @@ fn member_there(members: &[u8], table: &[Value], e: usize, k: u32) -> Result<(),
     requires { (f : List ℕ) × (ts : List Ty) × (x : Shape) × Standing f ts members.now table.now 0 (Entry e) x }
     ensures { (f : List ℕ) (ts : List Ty) (x : Shape) → Standing f ts members.now table.now 0 (Entry e) x → said result ≡ there_in x k }
 {
-    enter(members, table, 0, Stand::Entry(e), Step::Member(k)).map_err(|step| step.at(0))?;
-    Ok(())
+    // a match, since the proof does not close over the closure of a `map_err`
+    match enter(members, table, 0, Stand::Entry(e), Step::Member(k)) {
+        Ok(_) => Ok(()),
+        Err(step) => Err(step.at(0)),
+    }
 }
 
 // The same in the block that was found.

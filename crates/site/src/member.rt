@@ -5,13 +5,20 @@ ghost use Rattle.wgsl.specs.Site.{member_call, handed_from};
 ghost use Rattle.said.specs.Target.{reached, after};
 ghost use Rattle.said.specs.Answer.{said};
 
-use said::target::Target;
-use said::refusal::Refusal;
 use crate::mask::bit;
 use crate::spot::locate_in;
+use said::refusal::Refusal;
+use said::target::Target;
 
 // Where member `k` lies, in buffers of so many bytes.
-fn member_in(file: &[u8], entry: u32, k: u32, mask: u64, factory: usize, site: usize) -> Result<Target, Refusal>
+fn member_in(
+    file: &[u8],
+    entry: u32,
+    k: u32,
+    mask: u64,
+    factory: usize,
+    site: usize,
+) -> Result<Target, Refusal>
     ensures { (a b : List ℕ) → length a ≡ factory → length b ≡ site → said result ≡ reached (member_call file.now entry k mask a b) }
 {
     let spot = locate_in(file, entry, k, &[], mask, factory, site)?;
@@ -20,7 +27,14 @@ fn member_in(file: &[u8], entry: u32, k: u32, mask: u64, factory: usize, site: u
 
 // Where member `k` lies in its block: its offset, its bytes and its scalar.
 // Refuses 1 to 7, 24, 8, 17, 9, 10, 21, 15 (either buffer), 11 (no such member, place 0).
-pub fn member_at(file: &[u8], entry: u32, k: u32, mask: u64, factory: &[u8], site: &[u8]) -> Result<Target, Refusal>
+pub fn member_at(
+    file: &[u8],
+    entry: u32,
+    k: u32,
+    mask: u64,
+    factory: &[u8],
+    site: &[u8],
+) -> Result<Target, Refusal>
     ensures { said result ≡ reached (member_call file.now entry k mask factory.now site.now) }
 {
     member_in(file, entry, k, mask, factory.len(), site.len())

@@ -8,11 +8,11 @@ ghost use Rattle.said.specs.Answer.{said, Answered};
 ghost use Rattle.paths.specs.Set.{InBuffer};
 ghost use Rattle.site.specs.Set.{brought_in};
 
-use said::refusal::Refusal;
 use crate::mask::{bit, with_bit};
 use crate::spot::{Spot, locate_in};
 use paths::set::{fit_scalar, set_scalar};
 use puts::put;
+use said::refusal::Refusal;
 
 // Brings a member's bytes from the factory buffer, unless it was set on site.
 fn bring(on: bool, from: usize, size: usize, factory: &[u8], site: &mut [u8])
@@ -26,7 +26,13 @@ fn bring(on: bool, from: usize, size: usize, factory: &[u8], site: &mut [u8])
 }
 
 // 14, 16; then the member's bytes, unless it was set on site, and the words in its scalar.
-fn store_in(s: Spot, on: bool, words: &[u32], factory: &[u8], site: &mut [u8]) -> Result<u32, Refusal>
+fn store_in(
+    s: Spot,
+    on: bool,
+    words: &[u32],
+    factory: &[u8],
+    site: &mut [u8],
+) -> Result<u32, Refusal>
     requires { (s.from + s.size ≤ length factory.now) × (s.from + s.size ≤ length site.old) × ((u : path.Target) × InBuffer s.target u (length site.old)) }
     ensures { (u : path.Target) → InBuffer s.target u (length site.old) → Answered (set_target u words.now (brought_in on s.from s.size factory.now site.old)) result site.old site.new }
 {

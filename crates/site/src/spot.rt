@@ -12,7 +12,7 @@ ghost use Rattle.said.specs.Answer.{said};
 use crate::block::find_block;
 use crate::buffers::both_have;
 use layout_table::Ground;
-use layout_values::value::{blank, Value};
+use layout_values::value::{Value, blank};
 use said::refusal::Refusal;
 use said::target::Target;
 use walk_path::enter::{Inner, Stand, enter};
@@ -26,7 +26,6 @@ pub struct Spot {
     pub size: usize,
     pub target: Target,
 }
-
 
 // What `path` leads to from the member `i`.
 fn spot_from(members: &[u8], table: &[Value], i: Inner, path: &[u32]) -> Result<Spot, Refusal>
@@ -45,7 +44,11 @@ fn spot_at(members: &[u8], table: &[Value], e: usize, k: u32, path: &[u32]) -> R
     requires { (f : List ℕ) × (ts : List Ty) × (x : Shape) × Standing f ts members.now table.now 0 (Entry e) x }
     ensures { (f : List ℕ) (ts : List Ty) (x : Shape) → Standing f ts members.now table.now 0 (Entry e) x → said result ≡ spot_at x k path.now }
 {
-    let inner = enter(members, table, 0, Stand::Entry(e), Step::Member(k)).map_err(|step| step.at(0))?;
+    // a match, since the proof does not close over the closure of a `map_err`
+    let inner = match enter(members, table, 0, Stand::Entry(e), Step::Member(k)) {
+        Ok(inner) => inner,
+        Err(step) => return Err(step.at(0)),
+    };
     spot_from(members, table, inner, path)
 }
 

@@ -33,7 +33,13 @@ fn copy_first(size: usize, factory: &[u8], site: &mut [u8])
 // A fresh block: the factory buffer's bytes, as many as the entry's size, copied into the site buffer, and every member's bit into the mask,
 // whatever it held; the answer is 0.
 // Refuses 1 to 7, 24, 8, 17, 9, 10, 21, 15 (either buffer), before anything is copied.
-pub fn fresh(file: &[u8], entry: u32, factory: &[u8], site: &mut [u8], mask: &mut u64) -> Result<u32, Refusal>
+pub fn fresh(
+    file: &[u8],
+    entry: u32,
+    factory: &[u8],
+    site: &mut [u8],
+    mask: &mut u64,
+) -> Result<u32, Refusal>
     ensures answer { said result ≡ site_answer (fresh_call file.now entry factory.now site.old) }
     ensures site { site.new ≡ site_after site.old (fresh_call file.now entry factory.now site.old) }
     ensures mask { mask.new ≡ mask_set mask.old (fresh_call file.now entry factory.now site.old) }
