@@ -8,7 +8,6 @@ ghost use Rattle.walk_trees.specs.Slot.{run_at, RunAsks};
 ghost use Rattle.walk_decide.specs.Whole.{Ready, Tailed, TailedBy, Whole};
 ghost use Rattle.walk_decide.specs.Meant.{Meant};
 ghost use Rattle.words.specs.Promise.{Tested, WholeStored, WholeWritten, ClosedWritten, ElementsWritten, OpenWritten, MeantWritten};
-ghost use Rattle.walk_pieces.specs.Piece.{Listed};
 ghost use Rattle.said.specs.Answer.{said};
 
 use file::trailer::check_trailer;
@@ -39,9 +38,8 @@ fn scan(
     words: &[u32],
     pieces: &mut Pieces,
 ) -> Result<(), Refusal>
-    requires { ((t : Ty) × (n : ℕ) × Whole members.now table.now e x t n × (length words.now ≡ word_count n t)) × Listed pieces.old }
-    ensures said { Tested members.now table.now e x words.now (said result) }
-    ensures long { Listed pieces.new }
+    requires { (t : Ty) × (n : ℕ) × Whole members.now table.now e x t n × (length words.now ≡ word_count n t) }
+    ensures { Tested members.now table.now e x words.now (said result) }
 {
     scan_entry(members, table, e, words, 0, pieces)?;
     scan_many(members, table, x.value, words, x.fixed, pieces)
@@ -58,7 +56,7 @@ fn store(
     buf: &mut [u8],
     pieces: &mut Pieces,
 )
-    requires { ((t : Ty) × (n : ℕ) × Whole members.now table.now e x t n × (length words.now ≡ word_count n t) × (extent ≡ extent_of n t) × (extent ≤ length buf.old)) × Listed pieces.old }
+    requires { (t : Ty) × (n : ℕ) × Whole members.now table.now e x t n × (length words.now ≡ word_count n t) × (extent ≡ extent_of n t) × (extent ≤ length buf.old) }
     ensures { WholeStored members.now table.now e x extent words.now buf.old buf.new }
 {
     let width = run_at(table, e);
