@@ -1,1 +1,2 @@
 pub mod ReadOff
+pub mod Laws

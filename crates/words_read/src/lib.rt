@@ -22,7 +22,8 @@ struct Read<'b, 'w> {
 
 impl<'b, 'w> Visitor for Read<'b, 'w> {
     ghost use Rattle.std.specs.Prelude.{length};
-    ghost use Rattle.words_read.specs.ReadOff.{read_off, read_laws};
+    ghost use Rattle.words_read.specs.ReadOff.{read_off};
+    ghost use Rattle.words_read.specs.Laws.{read_laws};
 
     ghost passes = { read_off };
 

@@ -22,7 +22,8 @@ struct Write<'w, 'b> {
 
 impl<'w, 'b> Visitor for Write<'w, 'b> {
     ghost use Rattle.std.specs.Prelude.{length};
-    ghost use Rattle.words_write.specs.Written.{written, write_laws};
+    ghost use Rattle.words_write.specs.Written.{written};
+    ghost use Rattle.words_write.specs.Laws.{write_laws};
 
     ghost passes = { written };
 
