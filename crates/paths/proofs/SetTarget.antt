@@ -1,30 +1,33 @@
 -- A set (crates/wgsl, specs/Call) by what the code finds: a scalar or none, its width, the words.
 --
--- In order: once the target is found; 14, or one scalar; its width; 14 for a wrong number of words, 16, and the words stored.
+-- In order: once the target is found; 14, or one scalar; its width; 14 for a wrong number of words, 16, and the words stored; words that fit.
 -- Assumes nothing.
 use Prim.Native.Nat.{ℕ, ◌+◌, ◌<◌, ◌≤◌}
-use mathlib.Core.Bool.{true, false}
+use mathlib.Core.Bool.{Bool, true, false}
 use mathlib.Core.List.{List, [], ◌∷◌}
 use mathlib.Core.Option.{Option, none, some}
+use mathlib.Core.Logic.{⊎_elim}
 use mathlib.Core.Path.{◌≡◌, refl, ap, sym, ◌∙◌}
 use native.Mathlib.Omega.{arith}
-use borrow.Author.Tests.{lt-ltb, le-ltb, ne_eqb}
+use borrow.Author.Tests.{lt-ltb, le-ltb, ne_eqb, eqb-true, eqb-false}
+use lib.Dec.{eqb}
 use lib.ListN.{length, get_or}
 use Rattle.wgsl.specs.Round.{up}
 use Rattle.wgsl.specs.Number.{store}
 use Rattle.wgsl.specs.Types.{Scalar, bool, i32, u32, f32, f16, abstract_int, abstract_float, i64, u64, f64, is_scalar_kind}
 use Rattle.wgsl.specs.Size.{present, width_of}
-use Rattle.wgsl.specs.Said.{good, refused, ◌>>=◌, ◌>>◌, refuse, or_refuse}
+use Rattle.wgsl.specs.Said.{Said, good, refused, ◌>>=◌, ◌>>◌, refuse, or_refuse}
 use Rattle.wgsl.specs.Place.{Shape, one, parts, field, whole, span_of, words_for, words_over, word_places, store_words, can_hold, check_words}
 use Rattle.wgsl.specs.Path as path
-use Rattle.wgsl.specs.Call.{scalar_at, set_call, set_scalar, set_target, target_call}
+use Rattle.wgsl.specs.Call.{Done, scalar_at, set_call, set_scalar, set_target, target_call}
 use Rattle.wgsl.specs.Shapes.{Sound}
 use Rattle.wgsl.proofs.Absent.{true_not_false}
 use Rattle.wgsl.proofs.ScalarKind.{scalar_kind_is, no_scalar_lem}
-use Rattle.wgsl.proofs.Said.{then_is, then_refused}
+use Rattle.wgsl.proofs.Bit.{lt_or_le}
+use Rattle.wgsl.proofs.Said.{good_not_refused, then_is, then_refused}
 use Rattle.said.specs.Target.{kind_in}
 use Rattle.said.specs.declared.target.Target.{Target}
-use Rattle.paths.specs.Set.{InBuffer}
+use Rattle.paths.specs.Set.{InBuffer, fit_of}
 
 -- ---- once the target is found
 
@@ -174,3 +177,57 @@ module _ (s : Scalar) (at : ℕ) (ws b : List ℕ) where
   unfolding set_scalar word_places words_for words_over up check_words store_words can_hold present ◌>>◌ refuse
   stored_eight e two h k =
       rw (e, double ws two, lt-ltb (get_or ws 0 0) 4294967296 h, lt-ltb (get_or ws 1 0) 4294967296 k) refl
+
+-- ---- words that fit, or not
+
+pub fit_refused : {number place : ℕ} (said : Said Done) → refused number place ≡ fit_of said → said ≡ refused number place
+unfolding fit_of
+fit_refused (good d) h = cc
+fit_refused (refused n p) h = cc
+
+module _ {t : Target} {u : path.Target} {bytes : ℕ} (x : InBuffer t u bytes) (ws b : List ℕ) (fits : good tt ≡ fit_of (set_target u ws b)) where
+  not_refused : {A : Type 0} {number place : ℕ} → set_target u ws b ≡ refused number place → A
+  unfolding fit_of
+  not_refused e = good_not_refused (sym fits) (ap fit_of e)
+
+  the_scalar : OneScalar t u
+  the_scalar = one_scalar x (go (is_scalar_kind t.scalar) refl)
+    where
+      go : (k : Bool) → is_scalar_kind t.scalar ≡ k → is_scalar_kind t.scalar ≡ true
+      go true q = q
+      go false q = not_refused (set_none x ws b q)
+
+  many : (k : ℕ) → t.size ≡ k → length ws ≡ words_for k
+  many k e = go (eqb (length ws) (words_for k)) refl
+    where
+      go : (s : Bool) → eqb (length ws) (words_for k) ≡ s → length ws ≡ words_for k
+      go true q = eqb-true (length ws) (words_for k) q
+      go false q =
+          not_refused (set_one the_scalar ws b ∙ wrong_count the_scalar.scalar t.offset ws b (of_width the_scalar k e) (eqb-false (length ws) (words_for k) q))
+
+  -- an f16
+  pub one_half : t.size ≡ 2 → (length ws ≡ 1) × (get_or ws 0 0 < 65536)
+  unfolding words_for up
+  one_half e = (many 2 e, ⊎_elim (λ (l : get_or ws 0 0 < 65536). l) (λ (l : 65536 ≤ get_or ws 0 0). not_refused (set_one the_scalar ws b ∙ stored_large the_scalar.scalar t.offset ws b (of_width the_scalar 2 e) (many 2 e) (omega (arith, l)))) (lt_or_le (get_or ws 0 0) 65536))
+
+  pub set_half : t.size ≡ 2 → set_target u ws b ≡ good (record { value = t.offset; contents = store 2 b t.offset (get_or ws 0 0) })
+  set_half e =
+      let y = one_half e in
+      set_one the_scalar ws b ∙ stored_two the_scalar.scalar t.offset ws b (of_width the_scalar 2 e) y.0 y.1
+
+  -- eight bytes
+  pub two_words : t.size ≡ 8 → length ws ≡ 2
+  unfolding words_for up
+  two_words e = many 8 e
+
+  pub set_eight : t.size ≡ 8 → get_or ws 0 0 < 4294967296 → get_or ws 1 0 < 4294967296 → set_target u ws b ≡ good (record { value = t.offset; contents = store 4 (store 4 b t.offset (get_or ws 0 0)) (t.offset + 4) (get_or ws 1 0) })
+  set_eight e h k = set_one the_scalar ws b ∙ stored_eight the_scalar.scalar t.offset ws b (of_width the_scalar 8 e) (two_words e) h k
+
+  -- neither
+  module _ (h : t.size ≡ 2 → ⊥) (k : t.size ≡ 8 → ⊥) where
+    pub one_word : (length ws ≡ 1) × (t.size ≡ 4)
+    unfolding words_for up
+    one_word = let e = of_four the_scalar h k in (many 4 e, e)
+
+    pub set_four : get_or ws 0 0 < 4294967296 → set_target u ws b ≡ good (record { value = t.offset; contents = store 4 b t.offset (get_or ws 0 0) })
+    set_four l = set_one the_scalar ws b ∙ stored_four the_scalar.scalar t.offset ws b (of_width the_scalar 4 one_word.1) one_word.0 l

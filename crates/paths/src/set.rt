@@ -1,11 +1,7 @@
 // `set`: one scalar at a path. Document 01's order is that of a view with 10, then 14, 16; since E6 14 also for a wrong number of words.
-ghost use Rattle.std.specs.Prelude.{◌≡◌, List, ℕ, ◌+◌, ◌≤◌, length};
-ghost use Rattle.std.proofs.Math.Option.{some};
-ghost use Rattle.wgsl.specs.Round.{limit};
-ghost use Rattle.wgsl.specs.Types.{Scalar};
-ghost use Rattle.wgsl.specs.Size.{width_of};
+ghost use Rattle.std.specs.Prelude.{◌≡◌, List, ℕ, length};
 ghost use Rattle.wgsl.specs.Path as path;
-ghost use Rattle.wgsl.specs.Call.{answer_of, contents_of, set_call, set_target, set_scalar};
+ghost use Rattle.wgsl.specs.Call.{answer_of, contents_of, set_call, set_target};
 ghost use Rattle.said.specs.Answer.{said, Answered};
 ghost use Rattle.paths.specs.Set.{InBuffer, fit_of};
 
@@ -14,49 +10,6 @@ use file::kinds::is_scalar;
 use numbers::bytes::{store_u16, store_u32};
 use said::refusal::Refusal;
 use said::target::Target;
-
-// 14, 16 for an f16, and its two bytes at `at`.
-fn set_half(at: usize, words: &[u32], buf: &mut [u8]) -> Result<u32, Refusal>
-    requires { (at + 2 ≤ length buf.old) × (length buf.old ≤ limit) }
-    ensures { (s : Scalar) → width_of s ≡ some 2 → Answered (set_scalar s at words.now buf.old) result buf.old buf.new }
-{
-    if words.len() != 1 {
-        return Err(Refusal::Count);
-    }
-    let word = words[0];
-    if 65535 < word {
-        return Err(Refusal::Word(0));
-    }
-    store_u16(buf, at, word as u16);
-    Ok(at as u32)
-}
-
-// 14 for a scalar of four bytes, and these.
-fn set_four(at: usize, words: &[u32], buf: &mut [u8]) -> Result<u32, Refusal>
-    requires { (at + 4 ≤ length buf.old) × (length buf.old ≤ limit) }
-    ensures { (s : Scalar) → width_of s ≡ some 4 → Answered (set_scalar s at words.now buf.old) result buf.old buf.new }
-{
-    if words.len() != 1 {
-        return Err(Refusal::Count);
-    }
-    store_u32(buf, at, words[0]);
-    Ok(at as u32)
-}
-
-// 14 for a scalar of eight bytes, and these: the low word first.
-fn set_eight(at: usize, words: &[u32], buf: &mut [u8]) -> Result<u32, Refusal>
-    requires { (at + 8 ≤ length buf.old) × (length buf.old ≤ limit) }
-    ensures { (s : Scalar) → width_of s ≡ some 8 → Answered (set_scalar s at words.now buf.old) result buf.old buf.new }
-{
-    if words.len() != 2 {
-        return Err(Refusal::Count);
-    }
-    let low = words[0];
-    let high = words[1];
-    store_u32(buf, at, low);
-    store_u32(buf, at + 4, high);
-    Ok(at as u32)
-}
 
 // Whether words can be stored in the scalar `t`: 14, 16.
 pub fn fit_scalar(t: Target, words: &[u32]) -> Result<(), Refusal>
@@ -83,21 +36,22 @@ pub fn fit_scalar(t: Target, words: &[u32]) -> Result<(), Refusal>
     Ok(())
 }
 
-// 14, 16, and the scalar's bytes.
+// 14, 16, and the scalar's bytes: of eight the low word first.
 pub fn set_scalar(t: Target, words: &[u32], buf: &mut [u8]) -> Result<u32, Refusal>
     requires { (u : path.Target) × InBuffer t u (length buf.old) }
     ensures { (u : path.Target) → InBuffer t u (length buf.old) → Answered (set_target u words.now buf.old) result buf.old buf.new }
 {
-    if !is_scalar(t.scalar) {
-        return Err(Refusal::Count);
+    fit_scalar(t, words)?;
+    let at = t.offset;
+    match t.size {
+        2 => store_u16(buf, at, words[0] as u16),
+        8 => {
+            store_u32(buf, at, words[0]);
+            store_u32(buf, at + 4, words[1]);
+        }
+        _ => store_u32(buf, at, words[0]),
     }
-    if t.size == 2 {
-        return set_half(t.offset, words, buf);
-    }
-    if t.size == 8 {
-        return set_eight(t.offset, words, buf);
-    }
-    set_four(t.offset, words, buf)
+    Ok(at as u32)
 }
 
 // Stores `words` in the one scalar that `path` leads to from entry `entry`, the lowest first; answers its offset. Every other byte stays.

@@ -16,12 +16,7 @@ unfolding brought_in
 length_brought true from size factory site = refl
 length_brought false from size factory site = length-sets site from (take size (drop from factory))
 
--- ---- words that fit, or not
-
-pub fit_refused : {number place : ℕ} (said : Said Done) → refused number place ≡ fit_of said → said ≡ refused number place
-unfolding fit_of
-fit_refused (good d) h = cc
-fit_refused (refused n p) h = cc
+-- ---- words that fit
 
 -- what a good call leaves does not go by what was there
 pub fit_left : (said : Said Done) (a b : List ℕ) → good tt ≡ fit_of said → contents_of a said ≡ contents_of b said

@@ -1,64 +1,48 @@
--- One scalar or none, of two, four or eight bytes (proofs/SetTarget). Assumes nothing.
-use mathlib.Core.Bool.{not}
-use mathlib.Core.Path.{ap}
-use mathlib.Core.Path.{◌≡◌}
-use mathlib.Core.Bool.{true}
+-- Words that fit, and how many bytes they are stored in (proofs/SetTarget). Assumes nothing.
+use Rattle.std.specs.Prelude.{Err}
+use mathlib.Core.Path.{◌≡◌, refl}
 use native.Mathlib.Omega.{arith}
-use Rattle.wgsl.specs.Types.{is_scalar_kind}
-use Rattle.layout_values.proofs.Unused.{denied, granted}
-use Rattle.said.proofs.Answered.{answered_refused, answered_same}
-use Rattle.paths.proofs.SetTarget.{set_none, one_scalar, set_one, of_width, of_four}
+use Rattle.said.proofs.Answered.{answered_refused, answered_done}
+use Rattle.paths.proofs.SetTarget.{fit_refused, one_half, set_half, two_words, set_eight, one_word, set_four}
 use Rattle.paths.proofs.InBuffer.{room}
+use Rattle.paths.proofs.set.set_scalar.Goals.{in-2, in-8, in_default}
 use Rattle.paths.proofs.set.set_scalar.Goals as goal
 
--- past the first test the target is one scalar
-scalar_there : (c : goal.After-slice_known-then-t-eq2-1) → is_scalar_kind c.args.t.scalar ≡ true
-scalar_there c = granted c.is_scalar.ensures (ap not c.if-not-is_scalar.false)
+pub returns-in_err-fit_scalar : goal.returns-in_err-fit_scalar
+returns-in_err-fit_scalar c u x =
+    let is : c.from_residual.result ≡ Err c.in_err-fit_scalar.field-0.0 = grind arith in
+    rw is (answered_refused _ (fit_refused _ (rw c.in_err-fit_scalar.was at (c.fit_scalar.ensures u _ x c.args.buf.now))))
 
--- past the first test the target is one scalar
-scalar_there_2 : (c : goal.After-slice_known-then-t-eq8-1) → is_scalar_kind c.args.t.scalar ≡ true
-scalar_there_2 c = granted c.is_scalar.ensures (ap not c.if-not-is_scalar.false)
+pub bounds-words-0 : goal.bounds-words-0
+bounds-words-0 c = omega (arith, (one_half c.requires.1 _ _ (rw c.in_ok-fit_scalar.was at (c.fit_scalar.ensures c.requires.0 _ c.requires.1 c.args.buf.now)) c.in-2.is).0)
 
--- past the first test the target is one scalar
-scalar_there_3 : (c : goal.After-set_four-arg-1) → is_scalar_kind c.args.t.scalar ≡ true
-scalar_there_3 c = granted c.is_scalar.ensures (ap not c.if-not-is_scalar.false)
+pub overflow_cast-words : goal.overflow_cast-words
+overflow_cast-words c = record { fits = omega (arith, (one_half c.requires.1 _ _ (rw c.in_ok-fit_scalar.was at (c.fit_scalar.ensures c.requires.0 _ c.requires.1 c.args.buf.now)) c.in-2.is).1) }
 
--- past the first test the target is one scalar
-scalar_there_4 : (c : goal.After-slice_known-2-1) → is_scalar_kind c.args.t.scalar ≡ true
-scalar_there_4 c = granted c.is_scalar.ensures (ap not c.if-not-is_scalar.false)
+pub bounds-words-0-in-8 : goal.bounds-words-0-in-8
+bounds-words-0-in-8 c = omega (arith, two_words c.requires.1 _ _ (rw c.in_ok-fit_scalar.was at (c.fit_scalar.ensures c.requires.0 _ c.requires.1 c.args.buf.now)) c.in-8.is)
 
-pub returns-then-not-is_scalar : goal.returns-then-not-is_scalar
-returns-then-not-is_scalar c = λ u x. answered_refused _ (set_none x _ _ (denied c.is_scalar.ensures (ap not c.if-not-is_scalar.true)))
+pub bounds-words-1 : goal.bounds-words-1
+bounds-words-1 c = omega (arith, two_words c.requires.1 _ _ (rw c.in_ok-fit_scalar.was at (c.fit_scalar.ensures c.requires.0 _ c.requires.1 c.args.buf.now)) c.in-8.is)
 
-pub returns-then-t-eq2 : goal.returns-then-t-eq2
-returns-then-t-eq2 c =
-    let half = c in
-    let two = half in
-    λ u x.
-    let y = one_scalar x (scalar_there two) in
-    answered_same _ (set_one y _ _) (half.set_half.ensures y.scalar (of_width y 2 two.if-t-eq2.true))
+pub bounds-words-0-in_default : goal.bounds-words-0-in_default
+bounds-words-0-in_default c =
+    omega (arith, (one_word c.requires.1 _ _ (rw c.in_ok-fit_scalar.was at (c.fit_scalar.ensures c.requires.0 _ c.requires.1 c.args.buf.now)) (λ q. omega (arith, q)) (λ q. omega (arith, q))).0)
 
-pub returns-then-t-eq8 : goal.returns-then-t-eq8
-returns-then-t-eq8 c =
-    let eight = c in
-    let three = eight in
-    λ u x.
-    let y = one_scalar x (scalar_there_2 three) in
-    answered_same _ (set_one y _ _) (eight.set_eight.ensures y.scalar (of_width y 8 three.if-t-eq8.true))
-
-pub set_four-requires : goal.set_four-requires
-set_four-requires c =
-    let three = c in
-    let two = three in
-    let x = two.requires.1 in
-    let y = one_scalar x (scalar_there_3 two) in
-    (omega (arith, room x, of_four y two.if-t-eq2.false three.if-t-eq8.false), x.within)
+pub store_u32-requires-in_default : goal.store_u32-requires-in_default
+store_u32-requires-in_default c =
+    let size = (one_word c.requires.1 _ _ (rw c.in_ok-fit_scalar.was at (c.fit_scalar.ensures c.requires.0 _ c.requires.1 c.args.buf.now)) (λ q. omega (arith, q)) (λ q. omega (arith, q))).1 in
+    omega (arith, room c.requires.1, size)
 
 pub returns : goal.returns
-returns c =
-    let full = c in
-    let three = full in
-    let two = three in
-    λ u x.
-    let y = one_scalar x (scalar_there_4 two) in
-    answered_same _ (set_one y _ _) (full.set_four.ensures y.scalar (of_width y 4 (of_four y two.if-t-eq2.false three.if-t-eq8.false)))
+returns c u x =
+    let fits = (rw c.in_ok-fit_scalar.was at (c.fit_scalar.ensures u _ x c.args.buf.now)) in
+    let word = c.type_inv.words in
+    elim c.match-t.branch [
+      | in-2 w ↦
+          rw w.buf-is (answered_done _ (set_half x _ _ fits w.in-2.is) refl w.store_u16.ensures)
+      | in-8 w ↦
+          rw w.buf-is (answered_done _ (set_eight x _ _ fits w.in-8.is (word 0).fits (word 1).fits) refl (rw w.store_u32.ensures at w.store_u32-in-8.ensures))
+      | in_default w ↦
+          rw w.buf-is (answered_done _ (set_four x _ _ fits (λ q. omega (arith, q)) (λ q. omega (arith, q)) (word 0).fits) refl w.store_u32-in_default.ensures)
+    ]

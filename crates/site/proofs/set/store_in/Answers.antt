@@ -7,8 +7,9 @@ use native.Mathlib.Omega.{arith}
 use lib.ListN.{length}
 use Rattle.wgsl.specs.Call.{answer_of, contents_of, set_target}
 use Rattle.said.proofs.Answered.{answered_refused}
+use Rattle.paths.proofs.SetTarget.{fit_refused}
 use Rattle.site.specs.Set.{brought_in}
-use Rattle.site.proofs.StoreIn.{length_brought, fit_refused, fit_left}
+use Rattle.site.proofs.StoreIn.{length_brought, fit_left}
 use Rattle.site.proofs.set.store_in.Goals as goal
 
 pub returns-in_err-fit_scalar : goal.returns-in_err-fit_scalar
