@@ -4,7 +4,7 @@ ghost use Rattle.wgsl.specs.Types.{Ty, is_open};
 ghost use Rattle.wgsl.specs.Place.{extent_of, word_count};
 ghost use Rattle.wgsl.specs.Call.{answer_of, contents_of, write_call};
 ghost use Rattle.wgsl.specs.Round.{limit};
-ghost use Rattle.walk_trees.specs.Slot.{run_at, RunAsks};
+ghost use Rattle.walk_trees.specs.Slot.{run_at};
 ghost use Rattle.walk_decide.specs.Whole.{Ready, Tailed, TailedBy, Whole};
 ghost use Rattle.walk_decide.specs.Meant.{Meant};
 ghost use Rattle.words.specs.Promise.{Tested, WholeStored, WholeWritten, ClosedWritten, ElementsWritten, OpenWritten, MeantWritten};
@@ -86,7 +86,8 @@ fn write_whole(
 {
     let mut pieces = no_pieces();
     scan(members, table, e, x, words, &mut pieces)?;
-    store(members, table, e, x, extent as usize, words, buf, &mut pieces);
+    let bytes = extent as usize;
+    store(members, table, e, x, bytes, words, buf, &mut pieces);
     Ok(extent)
 }
 
