@@ -11,7 +11,7 @@ use native.Mathlib.Omega.{arith}
 use borrow.Author.Tests.{eqb-true, eqb-false, eq-eqb, ne_eqb, ltb-true, lt-ltb, le-ltb}
 use lib.Dec.{eqb, ltb}
 use lib.ListN.{length, take, drop, get_or, set, replicate, length-set, length-replicate, get_or-replicate}
-use lib.Seq.{take_all, take-suc, split_at, get_or-set_same, get_or-set_other}
+use lib.Seq.{take-suc, split_at, get_or-set_same, get_or-set_other}
 use Rattle.wgsl.specs.Order.{appears, all_differ}
 use Rattle.wgsl.proofs.Absent.{both_hold, hold_both, true_not_false, yes_or_no}
 use Rattle.orders_check.specs.Checked.{all_below}
@@ -134,9 +134,3 @@ module _ {order : List ℕ} {n : ℕ} {seen : List Bool} {i : ℕ} (d : Passed o
             yes_or_no (eqb p x)
             (λ e. rw (e, or-true (appears p (take i order)), eqb-true p x e) (get_or-set_same seen x true false (omega (arith, d.long))))
             (λ e. rw (e, or-false (appears p (take i order))) (get_or-set_other seen x p true false (eqb-false p x e) ∙ d.marks p q))
-
-  -- Past the last number they all are below n, and no two the same.
-  pub passed_all : length order ≤ i → true ≡ (all_below n order && all_differ order)
-  passed_all h =
-      let all : take i order ≡ order = take_all i order h in
-      rw (← all) (sym (hold_both (all_below n (take i order)) (all_differ (take i order)) d.below d.differ))
