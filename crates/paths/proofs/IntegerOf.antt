@@ -39,7 +39,7 @@ module _ (f : List ℕ) (e : ℕ) (steps b : List ℕ) where
 -- ---- 14, or one of the two
 
 -- The kind of i32 is no other scalar's.
-pub kind_one : (s : Scalar) → scalar_kind s ≡ 1 → s ≡ i32
+kind_one : (s : Scalar) → scalar_kind s ≡ 1 → s ≡ i32
 unfolding scalar_kind
 kind_one s e = kind_same {a = s} {b = i32} e
 
@@ -63,7 +63,7 @@ no_integer u64 h k = refl
 no_integer f64 h k = refl
 
 -- An i32 or u32 has one of the two kinds.
-pub integer_kinds : (s : Scalar) → is_integer s ≡ true → (scalar_kind s ≡ 1 → ⊥) → s ≡ u32
+integer_kinds : (s : Scalar) → is_integer s ≡ true → (scalar_kind s ≡ 1 → ⊥) → s ≡ u32
 unfolding is_integer scalar_kind
 integer_kinds bool e h = true_not_false e refl
 integer_kinds i32 e h = absurd (h refl)
@@ -105,13 +105,13 @@ module _ (u : path.Target) where
 -- ---- it lies inside the buffer
 
 -- What is found is an i32 or a u32 inside the buffer.
-pub integer_inside : (f : List ℕ) (e : ℕ) (steps b : List ℕ) (x : FoundInteger) → integer_at f e steps b ≡ good x → Integer (found_is x) x (length b)
+integer_inside : (f : List ℕ) (e : ℕ) (steps b : List ℕ) (x : FoundInteger) → integer_at f e steps b ≡ good x → Integer (found_is x) x (length b)
 integer_inside f e steps b x h =
     let (integer, inside, within) = integer_room f e steps b x h in
     record { is = refl; integer = integer; inside = inside; within = within }
 
 -- What the code has of an answer is there.
-pub found_good : {t : Target} (said : Said FoundInteger) → good t ≡ found_in said → (x : FoundInteger) × (said ≡ good x) × (t ≡ found_is x)
+found_good : {t : Target} (said : Said FoundInteger) → good t ≡ found_in said → (x : FoundInteger) × (said ≡ good x) × (t ≡ found_is x)
 found_good (good x) e = (x, refl, cc)
 found_good (refused number place) e = good_not_refused refl e
 

@@ -4,5 +4,4 @@ pub mod Begins
 pub mod TargetCall
 pub mod InBuffer
 pub mod SetTarget
-pub mod PartLength
 pub mod IntegerOf

@@ -147,7 +147,7 @@ double (w ∷ v ∷ x ∷ ws) e = absurd (omega arith)
 
 module _ (s : Scalar) (at : ℕ) (ws b : List ℕ) where
   -- 14: "for another length"
-  pub wrong_count : {k : ℕ} → width_of s ≡ some k → (length ws ≡ words_for k → ⊥) → set_scalar s at ws b ≡ refused 14 0
+  wrong_count : {k : ℕ} → width_of s ≡ some k → (length ws ≡ words_for k → ⊥) → set_scalar s at ws b ≡ refused 14 0
   unfolding set_scalar present ◌>>◌ refuse
   wrong_count {k} e h = rw (e, ne_eqb (length ws) (words_for k) h) refl
 

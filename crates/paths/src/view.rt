@@ -43,10 +43,8 @@ pub fn view<'a>(file: &[u8], entry: u32, path: &[u32], buf: &'a [u8]) -> &'a [u8
     ensures bytes { result.now ≡ part_of (view_call file.now entry path.now buf.now) buf.now }
     ensures place { result.ref_ptr ≡ after buf.entry.ref_ptr (part_start (view_call file.now entry path.now buf.now)) }
 {
-    let p = part_at(file, entry, path, buf.len());
-    let from = p.from;
-    let to = p.to;
-    &buf[from..to]
+    let part = part_at(file, entry, path, buf.len());
+    &buf[part.from..part.to]
 }
 
 // The same part, to be written.
@@ -54,8 +52,6 @@ pub fn view_mut<'a>(file: &[u8], entry: u32, path: &[u32], buf: &'a mut [u8]) ->
     ensures bytes { result.now ≡ part_of (view_call file.now entry path.now buf.old) buf.old }
     ensures place { result.ref_ptr ≡ after buf.entry.ref_ptr (part_start (view_call file.now entry path.now buf.old)) }
 {
-    let p = part_at(file, entry, path, buf.len());
-    let from = p.from;
-    let to = p.to;
-    &mut buf[from..to]
+    let part = part_at(file, entry, path, buf.len());
+    &mut buf[part.from..part.to]
 }
