@@ -1,13 +1,13 @@
 // Answers questions about layout files: reads them on standard input and writes a line for each (oracle/README.md, version 13).
 #![tactic(auto)]
 
+mod blocks;
 mod change;
 mod held;
 mod lines;
 mod number;
 mod question;
 mod say;
-mod site;
 
 use crate::held::Held;
 use crate::lines::{numbers, split_word};

@@ -1,9 +1,9 @@
 // The questions, and the lines that ask them (oracle/README.md).
+use crate::blocks::Site;
 use crate::change::Change;
 use crate::held::Held;
 use crate::number::Number;
 use crate::say::{Bytes, Cleaned, Four, Place, Said, Words};
-use crate::site::Site;
 use std::alloc::Global;
 use std::io::{self, Write};
 
