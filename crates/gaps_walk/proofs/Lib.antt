@@ -1,1 +1,1 @@
-pub mod SweepSteps
+pub mod Words

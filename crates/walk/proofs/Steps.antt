@@ -1,6 +1,6 @@
 -- The steps of the walk (src/lib.rt), for any visitor that keeps the laws (specs/Visitor).
 --
--- In order: parts in turn; members in turn.
+-- In order: one part; parts in turn; members in turn.
 -- Assumes nothing.
 use Prim.Native.Nat.{ℕ, ◌+◌, ◌-◌, ◌*◌, ◌<◌, ◌≤◌}
 use mathlib.Core.List.{List, [], ◌++◌, append-nil, append_assoc}
@@ -11,6 +11,7 @@ use Rattle.wgsl.specs.Place.{Shape, parts, field, span_of, Place, repeated, plac
 use Rattle.wgsl.specs.Shapes.{shape_words}
 use Rattle.wgsl.specs.Types.{struct_kind}
 use Rattle.wgsl.proofs.Count.{places_words, repeated_length}
+use Rattle.runs.specs.Run.{run_places, part_places}
 use Rattle.runs.proofs.OverPlaces.{repeated_append}
 use Rattle.walk_trees.specs.declared.Slot.{Slot}
 use Rattle.layout_values.specs.declared.value.Value.{Value}
@@ -22,6 +23,12 @@ use Rattle.walk_trees.proofs.Room.{type_tree, member_words}
 use Rattle.walk_trees.proofs.TreeOne.{tree_one}
 use Rattle.walk_trees.proofs.TreeSteps.{First, left_first, left_none, nth_member, nth_next, left_all}
 use Rattle.walk.specs.Visitor.{VisitorLaws}
+
+-- ---- one part
+
+pub one_part : (n width stride at : ℕ) → part_places 1 n width stride at ≡ run_places n width at
+unfolding part_places repeated
+one_part n width stride at = append-nil (run_places n width at)
 
 -- ---- parts in turn
 

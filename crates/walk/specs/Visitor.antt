@@ -15,3 +15,7 @@ pub record VisitorLaws {V : Type 0} (passes : List Place → ℕ → V → V →
   pub join : (ps qs : List Place) (k : ℕ) (s t u : V) → passes ps k s t → passes qs (k + length ps) t u → passes (ps ++ qs) k s u
   pub bytes_stay : (ps : List Place) (k : ℕ) (s t : V) → passes ps k s t → bytes t ≡ bytes s
   pub words_stay : (ps : List Place) (k : ℕ) (s t : V) → passes ps k s t → words t ≡ words s
+
+-- so many words can be counted, for a visitor that has none of its own
+abbrev pub most_words : ℕ
+most_words = 18_446_744_073_709_551_615

@@ -156,12 +156,20 @@ fn visit_member<V: Visitor>(
 {
     let p = slot_after(members, table, m, end);
     let r = value_at(table, p.ty);
-    // a scalar or a vector, most often
+    // words of four bytes without a gap: a scalar or a vector, most often
     if packed(r) == 4 {
         if p.words <= 4 {
             v.pass_few(at + p.start, k, p.words);
             return p;
         }
+        let run = Parts {
+            count: 1,
+            unit: p.words,
+            width: 4,
+            stride: p.words * 4,
+        };
+        v.pass_parts(at + p.start, k, run);
+        return p;
     }
     visit_entry(members, table, p.ty, at + p.start, k, v, pieces);
     p

@@ -4,13 +4,15 @@
 -- A walk goes down from an entry to the entries below it, which have lower numbers: that is the measure.
 -- The loops' invariants are `Turn` and `Walk` of proofs/Steps: what was passed so far.
 -- Assumes nothing.
-use mathlib.Core.Path.{ap, sym, ◌∙◌}
+use Prim.Native.Nat.{◌+◌, ◌*◌}
+use mathlib.Core.Logic.{inr}
+use mathlib.Core.Path.{ap, refl, sym, ◌∙◌}
 use native.Mathlib.Omega.{arith}
 use Rattle.walk_trees.specs.declared.Series.{Series}
 use Rattle.walk_trees.proofs.Many.{tree_many, many_none}
 use Rattle.walk_trees.proofs.Room.{each_entry, each_room, type_is, type_inside, type_tree, member_room, run_places_lem, run_room}
 use Rattle.walk_pieces.proofs.Pass.{pieced_each, pieced_parts}
-use Rattle.walk.proofs.Steps.{turn_start, turn_next, turn_all, walk_start, walk_first, walk_room, walk_words, walk_next, walk_none}
+use Rattle.walk.proofs.Steps.{one_part, turn_start, turn_next, turn_all, walk_start, walk_first, walk_room, walk_words, walk_next, walk_none}
 use Rattle.walk.proofs.+visit_entry_visit_many_visit_member_visit_struct.Goals as goal
 
 pub visit_entry-returns : goal.visit_entry-returns
@@ -87,6 +89,23 @@ pub visit_member-returns-then-p-le4-clause-passed : goal.visit_member-returns-th
 visit_member-returns-then-p-le4-clause-passed g t c y u =
     let is = c.slot_after-p.ensures in
     rw (run_places_lem c.requires.0.1 is c.value_at-r.ensures (sym c.packed.ensures ∙ c.if-packed-eq4.true) u) (rw is at c.pass_few.ensures)
+
+pub visit_member-overflow_mul-run : goal.visit_member-overflow_mul-run
+visit_member-overflow_mul-run g t c =
+    let room = run_room c.requires.0.1 c.slot_after-p.ensures c.value_at-r.ensures (sym c.packed.ensures ∙ c.if-packed-eq4.true) in
+    record { fits = omega (arith, room.1, c.requires.1.bytes_low) }
+
+pub visit_member-pass_parts-requires : goal.visit_member-pass_parts-requires
+visit_member-pass_parts-requires g t c =
+    let room = run_room c.requires.0.1 c.slot_after-p.ensures c.value_at-r.ensures (sym c.packed.ensures ∙ c.if-packed-eq4.true) in
+    record { width = inr refl; fits = omega arith; bytes_there = omega (arith, room.1); words_there = omega (arith, room.0) }
+
+pub visit_member-returns-then-packed-eq4-clause-passed : goal.visit_member-returns-then-packed-eq4-clause-passed
+visit_member-returns-then-packed-eq4-clause-passed g t c y u =
+    let is = c.slot_after-p.ensures in
+    let n = c.slot_after-p.result.words in
+    let passed = rw (one_part n 4 (n * 4) (c.args.at + c.slot_after-p.result.start)) at c.pass_parts.ensures in
+    rw (run_places_lem c.requires.0.1 is c.value_at-r.ensures (sym c.packed.ensures ∙ c.if-packed-eq4.true) u) (rw is at passed)
 
 pub visit_member-visit_entry-requires : goal.visit_member-visit_entry-requires
 visit_member-visit_entry-requires g t c κs within =

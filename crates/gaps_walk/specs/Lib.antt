@@ -1,0 +1,2 @@
+pub mod SweptOver
+pub mod Laws
