@@ -1,4 +1,5 @@
 -- What passing places makes of a sweeper (src/lib.rt, `Sweeper`): the gaps before them are swept, and nothing else changed.
+-- Definitions only. Assumes nothing.
 use Rattle.std.specs.Prelude.{ℕ, ◌≡◌, List, length}
 use Rattle.wgsl.specs.Place.{Place}
 use Rattle.gaps_sweep.specs.Sweep.{swept_of, Sweeps}

@@ -1,4 +1,4 @@
-// The kinds that refer to one lower entry: 7 to 11. Each is handed that entry's value.
+// The kinds that refer to one lower entry: 7 to 11. Each is handed that entry's value. Five functions and no generic one: each has rules of its own.
 #![tactic(auto)]
 
 ghost use Rattle.std.specs.Prelude.{◌≡◌, ℕ, true};

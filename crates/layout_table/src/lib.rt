@@ -98,6 +98,7 @@ pub fn fill(f: &[u8], t: Trailer, table: &mut [Value]) -> Result<Trailer, Refusa
     let long = member_length(t.form);
     for k in 0..types {
         let e = entry_at(f, start + TYPE_ENTRY_LENGTH * k);
+        // a match: over map_err with a closure the proof did not close
         table[k] = match entry_made(f, e, k, base, members, long, table) {
             Ok(value) => value,
             Err(broken) => return Err(broken.at(k)),

@@ -11,13 +11,15 @@ use literals_round::round_to;
 use said::refusal::Refusal;
 
 // A float's format: the bits of its fraction, its unit as a power of two over 2 ^ -1074, and what infinity and the sign are as patterns.
-#[derive(Clone, Copy)]
+#[derive(Clone, Copy, Debug, PartialEq, Eq)]
 pub struct Format {
     pub digits: u32,
     pub unit: u32,
     pub infinity: u64,
     pub sign: u64,
 }
+
+// The three formats are functions, and no constants that one function takes: contracts speak of what each answers.
 
 #[tactic(auto, unfolding(wgsl::specs::Literal::sign_of, wgsl::specs::Literal::infinity, wgsl::specs::Literal::lowest, wgsl::specs::Literal::unit_of))]
 pub fn half() -> Format

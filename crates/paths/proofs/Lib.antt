@@ -5,3 +5,4 @@ pub mod TargetCall
 pub mod InBuffer
 pub mod SetTarget
 pub mod IntegerOf
+pub mod PartLength

@@ -29,6 +29,7 @@ struct Part {
 fn part_at(file: &[u8], entry: u32, path: &[u32], bytes: usize) -> Part
     ensures { (b : List ℕ) → length b ≡ bytes → PartIs result (view_call file.now entry path.now b) b }
 {
+    // a match and no `?`: what is answered has no place for a refusal
     match locate(file, entry, path, bytes, false) {
         Ok(t) => Part {
             from: t.offset,

@@ -1,5 +1,4 @@
-// The answer of a walk along a path: a target or a refusal. What it says is specs/Target.
-use crate::refusal::Refusal;
+// What a path leads to.
 
 // What stands for the kind of a scalar where a target is not one scalar.
 pub const NO_SCALAR: u32 = 7;

@@ -65,6 +65,7 @@ pub fn member<'a>(
     ensures bytes { result.now ≡ part_of (member_call file.now entry k mask factory.now site.now) (handed_from (member_call file.now entry k mask factory.now site.now) mask k factory.now site.now) }
     ensures place { result.ref_ptr ≡ after (handed_from (member_call file.now entry k mask factory.now site.now) mask k factory.entry.ref_ptr site.entry.ref_ptr) (part_start (member_call file.now entry k mask factory.now site.now)) }
 {
+    // a match and no `?`: what is answered has no place for a refusal
     match member_in(file, entry, k, mask, factory.len(), site.len()) {
         Err(_) => &factory[0..0],
         Ok(t) => {

@@ -1,5 +1,6 @@
 -- What passing places makes of a reader (src/lib.rt, `Read`): its words from the first on are those that stand there, and nothing else
 -- changed.
+-- Definitions only. Assumes nothing.
 use Rattle.std.specs.Prelude.{ℕ, ◌≡◌, List, length}
 use Rattle.wgsl.specs.Place.{Place}
 use Rattle.runs.specs.Fold.{over_places, loading, Loads}

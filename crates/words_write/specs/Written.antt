@@ -1,4 +1,5 @@
 -- What passing places makes of a writer (src/lib.rt, `Write`): its words from the first on stand at them, and nothing else changed.
+-- Definitions only. Assumes nothing.
 use Rattle.std.specs.Prelude.{ℕ, ◌≡◌, List, length}
 use Rattle.wgsl.specs.Place.{Place}
 use Rattle.runs.specs.Fold.{over_places, storing, Stores}
