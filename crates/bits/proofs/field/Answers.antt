@@ -1,4 +1,4 @@
--- A shift and a mask cut out a field (`field_masked`).
+-- A shift and a mask cut out a field (`Words`).
 use mathlib.Core.Path.{refl}
 use native.Mathlib.Nat.{lt_of_lt_of_le}
 use lib.Pow.{pow_mono}
@@ -11,4 +11,4 @@ returns c =
     let a = c.args in
     let is = field_masked a.e a.o a.c c.requires.1 in
     let small = field_bounded a.e a.o a.c in
-    rw (c.from.ensures, is) (refl, small, lt_of_lt_of_le small (pow_mono c.requires.1))
+    rw (c.wide.ensures.0, is) (refl, small, lt_of_lt_of_le small (pow_mono c.requires.1))

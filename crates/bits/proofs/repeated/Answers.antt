@@ -1,4 +1,4 @@
--- The top bit is repeated by a sum and a difference (`repeated_sum`).
+-- The top bit is repeated by a sum and a difference (`Words`).
 use Rattle.wgsl.proofs.FieldAt.{repeated_word}
 use Rattle.bits.proofs.FieldAt.{repeated_sum}
 use mathlib.Core.Path.{refl}
