@@ -43,6 +43,24 @@ unfolding part_places
 part_more f i unit width stride at k s t e =
     rw (e, over_more f (λ p. run_places unit width p) i unit stride at k s (λ p. run_length unit width p))
 
+-- One, two, three and four words of four bytes.
+module _ {S : Type 0} (f : Place → ℕ → S → S) (at k : ℕ) (s : S) where
+  abbrev four : ℕ → Place
+  four p = record { at = p; width = 4 }
+
+  pub run_one : f (four at) k s ≡ over_places f (run_places 1 4 at) k s
+  unfolding run_places repeated over_places
+  run_one = refl
+
+  pub run_two : f (four (at + 4)) (k + 1) (f (four at) k s) ≡ over_places f (run_places 2 4 at) k s
+  run_two = run_more f 1 4 at k s _ run_one
+
+  pub run_three : f (four (at + 8)) (k + 2) (f (four (at + 4)) (k + 1) (f (four at) k s)) ≡ over_places f (run_places 3 4 at) k s
+  run_three = run_more f 2 4 at k s _ run_two
+
+  pub run_four : f (four (at + 12)) (k + 3) (f (four (at + 8)) (k + 2) (f (four (at + 4)) (k + 1) (f (four at) k s))) ≡ over_places f (run_places 4 4 at) k s
+  run_four = run_more f 3 4 at k s _ run_three
+
 -- Numbers put one after the other, and then the next one, are all of them put.
 pub sets_more : (vs l : List ℕ) (k i : ℕ) → i < length vs → set (sets l k (take i vs)) (k + i) (get_or vs i 0) ≡ sets l k (take (i + 1) vs)
 sets_more [] l k i h = absurd (omega arith)
