@@ -1,6 +1,6 @@
 -- Where a struct ends, if it is well formed (`laid_end`, specs/Checked).
 --
--- In order: a result by its value; what the verdict on a type says; where a struct ends; the tail of members and one more.
+-- In order: a result by its value; what the verdict on a type says; where a struct ends; members that are not placed; the tail of members and one more.
 -- Assumes nothing.
 use Rattle.std.specs.Prelude.{Err, None, Ok, Result, Some}
 use Rattle.std.specs.Result.{result_ok}
@@ -11,13 +11,14 @@ use mathlib.Core.Path.{◌≡◌, refl}
 use native.Mathlib.Omega.{arith}
 use Rattle.wgsl.specs.Types.{Ty, scalar, vector, matrix, array, runtime, atomic, struct, Members, no_more, member, is_runtime}
 use Rattle.wgsl.specs.Size.{present, size_of, align_of, members_end, fits_limit, member_start, member_end}
-use Rattle.wgsl.specs.Rule.{when, is_allowed, given_fits, is_well_formed}
+use Rattle.wgsl.specs.Rule.{when, is_allowed, given_fits, members_given_fit, is_well_formed}
 use Rattle.wgsl.specs.Place.{Tail, tail_at, members_tail, extent_by}
 use Rattle.wgsl.specs.Order.{end_of}
 use Rattle.wgsl.proofs.Absent.{true_not_false}
 use Rattle.layout_values.specs.declared.value.Value.{Value}
 use Rattle.layout_values.specs.Value.{value_of, verdict_on}
-use Rattle.layout_structs.specs.SoFar.{appended}
+use Rattle.layout_structs.specs.declared.Ends.{Ends}
+use Rattle.layout_structs.specs.SoFar.{appended, ends_of, so_far}
 use Rattle.orders_check.specs.Checked.{laid_end}
 use Rattle.layout_values.specs.declared.value.Broken.{Broken}
 use Rattle.layout_values.specs.declared.value.Broken.TheVariants.{Given, Large, Rule}
@@ -35,6 +36,10 @@ module _ {A E : Type 0} where
   pub err_is : (r : Result A E) → result_ok r ≡ None → (b : E) × (r ≡ Err b)
   err_is (Ok y) e = never cc
   err_is (Err b) e = (b, refl)
+
+  pub not_ok : (r : Result A E) → ((x : A) → r ≡ Ok x → ⊥) → result_ok r ≡ None
+  not_ok (Ok y) h = absurd (h y refl)
+  not_ok (Err b) h = refl
 
 -- ---- what the verdict on a type says
 
@@ -69,6 +74,17 @@ end_none k ms e = rw e
 pub end_some : (k : ℕ) (ms : Members) (n : ℕ) → is_well_formed (struct k ms) ≡ true → end_of k ms ≡ n → some n ≡ laid_end k ms
 unfolding laid_end when
 end_some k ms n e f = rw (e, f)
+
+-- ---- members whose sizes and alignments fit, and that are not placed
+
+pub not_placed : (ms : Members) (r : Result Ends Broken) → members_given_fit ms ≡ true → r ≡ so_far ms → ((x : Ends) → r ≡ Ok x → ⊥) → r ≡ Err Large
+unfolding so_far
+not_placed ms (Ok p) g e h = absurd (h p refl)
+not_placed ms (Err b) g e h = go (members_fit ms) (rw g at e)
+  where
+    go : (c : Bool) → Err b ≡ cond c (Ok (ends_of ms)) (Err Large) → Err b ≡ Err Large
+    go true q = never cc
+    go false q = q
 
 -- ---- the tail of members and one more
 

@@ -34,7 +34,7 @@ use Rattle.layout_structs.proofs.Joins.{joins_power, joins_past, joins_open}
 use Rattle.layout_structs.proofs.Meets.{steps_next, steps_joins, steps_past}
 use Rattle.layout_structs.proofs.Ended.{closes_placed, closes_past, ended_power, ended_opens, ended_closes, ended_past}
 use Rattle.orders_check.specs.Checked.{laid_end, Last}
-use Rattle.orders_check.proofs.LaidEnd.{never, ok_is, err_is, verdict_laid, verdict_broken, end_none, end_some, tail_after, tail_start}
+use Rattle.orders_check.proofs.LaidEnd.{never, ok_is, err_is, not_ok, verdict_laid, verdict_broken, end_none, end_some, tail_after, tail_start}
 use Rattle.layout_values.specs.declared.value.Broken.{Broken}
 use Rattle.layout_values.specs.declared.value.Broken.TheVariants.{Large}
 use Rattle.said.specs.Answer.{maybe_of}
@@ -97,6 +97,13 @@ module _ {run : (Result Ends Broken)} {l : Value} {m : MemberEntry} {ms : Member
       let b = err_is run h in
       let s = steps_past true ms t m j.rest_zero j.allowed run l j.meets j.size_fits j.align_fits b.0 b.1 in
       all_broken k run (cc (last_stepped, s, b.1)) h
+
+  -- .. whatever they say that is not where they end.
+  pub all_large : (k : ℕ) (r : Result Ends Broken) → r ≡ so_far (followed ms t m) → ((x : Ends) → r ≡ Ok x → ⊥) → none ≡ laid_end k (followed ms t m)
+  all_large k r e h = all_broken k r e (not_ok r h)
+
+  pub before_large : (k : ℕ) → ((x : Ends) → run ≡ Ok x → ⊥) → none ≡ laid_end k (followed ms t m)
+  before_large k h = before_broken k (not_ok run h)
 
   -- ---- a last member that is a runtime array
 
