@@ -18,7 +18,7 @@ use Rattle.wgsl.proofs.Absent.{true_not_false}
 use Rattle.layout_values.specs.declared.value.Value.{Value}
 use Rattle.layout_values.specs.Value.{value_of, verdict_on}
 use Rattle.layout_structs.specs.declared.Ends.{Ends}
-use Rattle.layout_structs.specs.SoFar.{appended, ends_of, so_far}
+use Rattle.layout_structs.specs.SoFar.{appended, ends_of, members_fit, so_far}
 use Rattle.orders_check.specs.Checked.{laid_end}
 use Rattle.layout_values.specs.declared.value.Broken.{Broken}
 use Rattle.layout_values.specs.declared.value.Broken.TheVariants.{Given, Large, Rule}
@@ -82,7 +82,7 @@ unfolding so_far
 not_placed ms (Ok p) g e h = absurd (h p refl)
 not_placed ms (Err b) g e h = go (members_fit ms) (rw g at e)
   where
-    go : (c : Bool) → Err b ≡ cond c (Ok (ends_of ms)) (Err Large) → Err b ≡ Err Large
+    go : (c : Bool) → ◌≡◌ {A = Result Ends Broken} (Err b) (cond c (Ok (ends_of ms)) (Err Large)) → ◌≡◌ {A = Result Ends Broken} (Err b) (Err Large)
     go true q = never cc
     go false q = q
 
