@@ -139,6 +139,8 @@ fn visit_struct<V: Visitor>(
 }
 
 // Takes it to member `m` of a struct that begins at `at`, where the one before it ended at `end`; answers its place.
+// Inlined, so that the place stays in registers: as a call of its own, entries of more than 32 pieces took 1.3 of the time.
+#[inline(always)]
 #[cycle(visit_entry_visit_many_visit_member_visit_struct)]
 fn visit_member<V: Visitor>(
     members: &[u8],
