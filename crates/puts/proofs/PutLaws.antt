@@ -1,17 +1,15 @@
--- Laws of `Put` (specs/Put): puts one after another, one store, and a copy.
+-- Laws of `Put` (specs/Put): puts one after another, one store, and the turns of a loop that stores.
 --
--- In order: a run of stores; puts; a copy.
+-- In order: a run of stores; puts; the loop.
 -- Assumes nothing.
-use Prim.Native.Nat.{ℕ, suc, ◌+◌, ◌≤◌}
-use mathlib.Core.Path.{◌≡◌, refl, ap, sym, ◌∙◌}
-use mathlib.Core.List.{List, [], ◌∷◌, ◌++◌, append_assoc}
+use Prim.Native.Nat.{ℕ, suc, ◌+◌, ◌<◌}
+use mathlib.Core.Path.{◌≡◌, refl, ap, ◌∙◌}
+use mathlib.Core.List.{List, [], ◌∷◌, ◌++◌}
 use native.Mathlib.Nat.{add-zero}
+use native.Mathlib.Numerals.{add-one}
 use native.Mathlib.Omega.{arith}
-use lib.ListN.{length, set, length-append}
-use lib.Seq.{sets, length-sets, sets-eq}
-use borrow.Rule.Slice.PartMut.{put_mid}
-use Rattle.std.proofs.lemmas.Slice.{put_mid-paste}
-use Rattle.std.proofs.lemmas.List.Edits.{paste_all}
+use lib.ListN.{length, get_or, drop, set, length-append}
+use lib.Seq.{sets, length-sets, drop-cons, drop-length}
 use Rattle.puts.specs.Put.{Put}
 
 -- ---- a run of stores
@@ -37,9 +35,15 @@ put_one b at v = record { next = refl; bytes = refl }
 pub put_length : {b c x : List ℕ} {at r : ℕ} → Put b at x r c → length c ≡ length b
 put_length {b} {c} {x} {at} {r} p = ap length p.bytes ∙ length-sets b at x
 
--- ---- a copy
+-- ---- the loop: what is left to store, from here, gives what the whole gives from the start
 
--- Bytes copied over those from `at` on.
-pub put_copied : (b x y : List ℕ) (at m : ℕ) → m ≡ length x → y ≡ x → at + length x ≤ length b → put_mid at m b y ≡ sets b at x
-put_copied b x y at m i e h =
-    put_mid-paste at m b y x m e refl i ∙ paste_all b at x m i ∙ sym (rw (sym i, append_assoc) at (sets-eq x b at h))
+pub left_all : (b : List ℕ) (at : ℕ) (x : List ℕ) → sets b (at + 0) (drop 0 x) ≡ sets b at x
+left_all b at x = rw (add-zero at)
+
+pub left_more : (b : List ℕ) (at : ℕ) (x : List ℕ) (i : ℕ) → i < length x → sets (set b (at + i) (get_or x i 0)) (at + (i + 1)) (drop (i + 1) x) ≡ sets b (at + i) (drop i x)
+left_more b at x i h =
+    let e : at + (i + 1) ≡ suc (at + i) = omega arith in
+    rw (e, add-one i, drop-cons x i 0 h)
+
+pub left_none : (b : List ℕ) (at : ℕ) (x : List ℕ) (i : ℕ) → i ≡ length x → sets b (at + i) (drop i x) ≡ b
+left_none b at x i e = rw (e, drop-length x)
