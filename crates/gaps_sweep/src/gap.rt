@@ -24,13 +24,16 @@ fn are_zero(bytes: &[u8]) -> bool
     ensures { result ≡ true → (k : ℕ) → k < length bytes.now → get_or bytes.now k 0 ≡ 0 }
 {
     let mut rest = bytes;
-    while 4 <= rest.len() {
+    while !rest.is_empty() {
+        if rest.len() < 4 {
+            return bytes_are_zero(rest);
+        }
         if u32_at(rest, 0) != 0 {
             return false;
         }
         rest = &rest[4..];
     }
-    bytes_are_zero(rest)
+    true
 }
 
 // Byte `i` becomes zero.
