@@ -12,8 +12,7 @@ use native.Mathlib.Nat.{suc-mul, mul_assoc, eq-or-lt_of_le}
 use native.Mathlib.Omega.{arith}
 use borrow.Author.Tests.{eqb-true, eqb-false, eq-eqb, ne_eqb}
 use lib.Dec.{eqb}
-use lib.ListN.{length, get_or, set, take, drop, length-set}
-use Rattle.std.proofs.lemmas.List.{get_or-drop, get_or-take, length-take, length-drop}
+use lib.ListN.{length, get_or, set, length-set}
 use Rattle.wgsl.specs.Number.{load}
 use Rattle.wgsl.specs.Place.{Place, repeated}
 use Rattle.runs.specs.Fold.{over_places}
@@ -140,21 +139,6 @@ pub zero_stays : (to : ℕ) (s : Swept) → ((k : ℕ) → s.from ≤ k → k < 
 unfolding swept_to
 zero_stays to s h = zero_bytes (to - s.from) s.from s (λ k l m. h k l (omega arith))
 
--- .. so where nothing lies between, and where what lies between is zero.
-pub no_gap : (to : ℕ) (s : Swept) → to ≤ s.from → s ≡ swept_to to s
-no_gap to s h = sym (zero_stays to s (λ k l m. absurd (omega arith)))
-
-pub zero_gap : (to : ℕ) (s : Swept) → s.from ≤ to → ((k : ℕ) → k < length (take (to - s.from) (drop s.from s.bytes)) → get_or (take (to - s.from) (drop s.from s.bytes)) k 0 ≡ 0) → to ≤ length s.bytes → s ≡ swept_to to s
-zero_gap to s up h inside = sym (zero_stays to s between)
-  where
-    between : (k : ℕ) → s.from ≤ k → k < to → get_or s.bytes k 0 ≡ 0
-    between k l m =
-        let there : k - s.from < to - s.from = omega arith in
-        let long : length (take (to - s.from) (drop s.from s.bytes)) ≡ to - s.from = omega (arith, length-take (to - s.from) (drop s.from s.bytes), length-drop s.from s.bytes) in
-        let is : s.from + (k - s.from) ≡ k = omega arith in
-        ap (λ n. get_or s.bytes n 0) (sym is) ∙ sym (get_or-drop s.from s.bytes (k - s.from) 0)
-        ∙ sym (get_or-take (to - s.from) (drop s.from s.bytes) (k - s.from) 0 there) ∙ h (k - s.from) (rw long there)
-
 -- A number that is zero has bytes that are.
 pub load_zero : (n : ℕ) (b : List ℕ) (at : ℕ) → load n b at ≡ 0 → (k : ℕ) → at ≤ k → k < at + n → get_or b k 0 ≡ 0
 unfolding load
@@ -169,16 +153,9 @@ lt_or_le m zero = inr (omega arith)
 lt_or_le zero (suc n) = inl (omega arith)
 lt_or_le (suc m) (suc n) = ⊎_elim (λ (x : m < n). inl (omega arith)) (λ (x : n ≤ m). inr (omega arith)) (lt_or_le m n)
 
--- Where four bytes make a number that is zero, and those after them are zero, all are.
-pub four_more : (b : List ℕ) → 4 ≤ length b → load 4 b 0 ≡ 0 → ((k : ℕ) → k < length (take (length b - 4) (drop 4 b)) → get_or (take (length b - 4) (drop 4 b)) k 0 ≡ 0) → (k : ℕ) → k < length b → get_or b k 0 ≡ 0
-four_more b h e rest k l =
-    ⊎_elim (λ (low : k < 4). load_zero 4 b 0 e k (omega arith) (omega arith))
-    (λ (high : 4 ≤ k).
-      let there : k - 4 < length b - 4 = omega arith in
-      let long : length (take (length b - 4) (drop 4 b)) ≡ length b - 4 = omega (arith, length-take (length b - 4) (drop 4 b), length-drop 4 b) in
-      let is : 4 + (k - 4) ≡ k = omega arith in
-      ap (λ n. get_or b n 0) (sym is) ∙ sym (get_or-drop 4 b (k - 4) 0) ∙ sym (get_or-take (length b - 4) (drop 4 b) (k - 4) 0 there) ∙ rest (k - 4) (rw long there))
-    (lt_or_le k 4)
+-- bytes that are zero, and further ones
+pub zero_on : (b : List ℕ) (from i to : ℕ) → ((k : ℕ) → k < i → from ≤ k → get_or b k 0 ≡ 0) → ((k : ℕ) → i ≤ k → k < to → get_or b k 0 ≡ 0) → (k : ℕ) → k < to → from ≤ k → get_or b k 0 ≡ 0
+zero_on b from i to low high k l m = ⊎_elim (λ (h : k < i). low k h m) (λ (h : i ≤ k). high k h l) (lt_or_le k i)
 
 -- ---- byte by byte
 

@@ -1,5 +1,5 @@
 // One gap: from where the bytes that were passed end to the next place.
-ghost use Rattle.std.specs.Prelude.{◌≡◌, ◌↔◌, true, ℕ, ◌+◌, ◌<◌, ◌≤◌, length, get_or, IsTrue, All};
+ghost use Rattle.std.specs.Prelude.{◌≡◌, true, ℕ, ◌+◌, ◌<◌, ◌≤◌, length, get_or};
 ghost use Rattle.gaps_sweep.specs.Sweep.{swept_of, swept_byte, swept_to, passed, Countable};
 
 use numbers::bytes::u32_at;
@@ -12,26 +12,36 @@ pub struct Sweep {
     pub first: usize,
 }
 
-// Whether all bytes are zero, one by one.
-fn bytes_are_zero(bytes: &[u8]) -> bool
-    ensures { IsTrue result ↔ All (λ x. x ≡ 0) bytes.now }
+// Whether the bytes from `from` to `to` are zero, byte by byte.
+fn bytes_are_zero(buf: &[u8], from: usize, to: usize) -> bool
+    requires { to ≤ length buf.now }
+    ensures { result ≡ true → (k : ℕ) → from ≤ k → k < to → get_or buf.now k 0 ≡ 0 }
 {
-    bytes.iter().all(|byte| *byte == 0)
-}
-
-// The same, four at a time: most gaps are.
-fn are_zero(bytes: &[u8]) -> bool
-    ensures { result ≡ true → (k : ℕ) → k < length bytes.now → get_or bytes.now k 0 ≡ 0 }
-{
-    let mut rest = bytes;
-    while !rest.is_empty() {
-        if rest.len() < 4 {
-            return bytes_are_zero(rest);
-        }
-        if u32_at(rest, 0) != 0 {
+    let mut i = from;
+    while i < to {
+        if buf[i] != 0 {
             return false;
         }
-        rest = &rest[4..];
+        i += 1;
+    }
+    true
+}
+
+// The same, four at a time: most gaps are. Both by `while`: by `for` over the quarters, and over a slice that shortens, cleaning columns took
+// 1.5 of the time.
+fn are_zero(buf: &[u8], from: usize, to: usize) -> bool
+    requires { to ≤ length buf.now }
+    ensures { result ≡ true → (k : ℕ) → from ≤ k → k < to → get_or buf.now k 0 ≡ 0 }
+{
+    let mut i = from;
+    while i < to {
+        if to - i < 4 {
+            return bytes_are_zero(buf, i, to);
+        }
+        if u32_at(buf, i) != 0 {
+            return false;
+        }
+        i += 4;
     }
     true
 }
@@ -67,15 +77,12 @@ fn sweep_bytes(buf: &mut [u8], s: Sweep, to: usize) -> Sweep
 }
 
 // The bytes from `s.from` to `to` become zero.
-#[tactic(auto, using(crate::proofs::Sweep::no_gap, crate::proofs::Sweep::zero_gap))]
+#[tactic(auto, using(crate::proofs::Sweep::zero_stays))]
 pub fn sweep_to(buf: &mut [u8], s: Sweep, to: usize) -> Sweep
     requires { (to ≤ length buf.old) × Countable (swept_of buf.old s) }
     ensures { swept_of buf.new result ≡ swept_to to (swept_of buf.old s) }
 {
-    if to <= s.from {
-        return s;
-    }
-    if are_zero(&buf[s.from..to]) {
+    if are_zero(buf, s.from, to) {
         return s;
     }
     sweep_bytes(buf, s, to)

@@ -1,12 +1,10 @@
-use Prim.Native.Nat.{ℕ, ◌<◌}
+use Prim.Native.Nat.{ℕ, ◌≤◌, ◌<◌, ◌-◌}
 use mathlib.Core.Path.{◌≡◌}
-use lib.ListN.{get_or, length}
+use lib.ListN.{get_or}
 use Rattle.gaps_sweep.proofs.gap.are_zero.Given as goal
 
--- Where what is left is zero, all is.
-abbrev pub invariant-loop-rest : goal.invariant-loop-rest
-invariant-loop-rest l =
-    ((k : ℕ) → k < length l.rest → get_or l.rest k 0 ≡ 0) → (k : ℕ) → k < length l.bytes → get_or l.bytes k 0 ≡ 0
+abbrev pub invariant-loop-i : goal.invariant-loop-i
+invariant-loop-i l = (k : ℕ) → k < l.i → l.from ≤ k → get_or l.buf k 0 ≡ 0
 
-abbrev pub decreases-loop-rest : goal.decreases-loop-rest
-decreases-loop-rest l = length l.rest
+abbrev pub decreases-loop-i : goal.decreases-loop-i
+decreases-loop-i l = l.to - l.i
