@@ -1,9 +1,8 @@
 // The questions about a site block.
-use crate::held::Held;
+use crate::held::{Held, copied};
 use crate::question::joined;
 use crate::say::{Bytes, Place, Said};
 use said::refusal::Refusal;
-use std::alloc::Global;
 use std::io::{self, Write};
 
 // What is asked of a block of an entry, whose mask is this before.
@@ -74,7 +73,7 @@ impl<'a> Site<'a> {
     }
 
     // The mask and the site buffer change in copies, and are said after the answer; the buffer is where it may change.
-    pub fn answer<W: Write>(self, out: &mut W, alloc: Global, held: &Held) -> io::Result<()> {
+    pub fn answer<W: Write>(self, out: &mut W, held: &Held) -> io::Result<()> {
         let entry = self.entry;
         let file = held.file.bytes();
         let factory = held.factory.bytes();
@@ -90,18 +89,18 @@ impl<'a> Site<'a> {
                 say_block(out, answer, mask, b"")
             }
             Asked::Fresh => {
-                let mut site = held.buffer.bytes().to_vec(alloc)?;
-                let buffer = site.as_mut_slice();
-                let answer = lepugaso::site_fresh(file, entry, factory, buffer, &mut mask);
-                say_block(out, answer, mask, site.as_slice())
+                let mut room = [0; 4_096];
+                let site = copied(held.buffer.bytes(), &mut room);
+                let answer = lepugaso::site_fresh(file, entry, factory, site, &mut mask);
+                say_block(out, answer, mask, site)
             }
             Asked::Set(member, words, path) => {
-                let mut site = held.buffer.bytes().to_vec(alloc)?;
-                let buffer = site.as_mut_slice();
+                let mut room = [0; 4_096];
+                let site = copied(held.buffer.bytes(), &mut room);
                 let answer = lepugaso::site_set(
-                    file, entry, member, path, words, factory, buffer, &mut mask,
+                    file, entry, member, path, words, factory, site, &mut mask,
                 );
-                say_block(out, answer, mask, site.as_slice())
+                say_block(out, answer, mask, site)
             }
         }
     }
