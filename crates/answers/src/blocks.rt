@@ -72,11 +72,40 @@ impl<'a> Site<'a> {
         writeln!(out, "{answer}{whose}{bytes}")
     }
 
+    // Makes a fresh block in a copy of the site buffer.
+    fn answer_fresh<W: Write>(self, out: &mut W, held: &Held) -> io::Result<()> {
+        let file = held.file.bytes();
+        let factory = held.factory.bytes();
+        let mut mask = self.mask;
+        let mut room = [0; 4_096];
+        let site = copied(held.buffer.bytes(), &mut room);
+        let answer = lepugaso::site_fresh(file, self.entry, factory, site, &mut mask);
+        say_block(out, answer, mask, site)
+    }
+
+    // Sets a scalar in a member in a copy of the site buffer.
+    fn answer_set<W: Write>(
+        self,
+        out: &mut W,
+        held: &Held,
+        member: u32,
+        words: &[u32],
+        path: &[u32],
+    ) -> io::Result<()> {
+        let entry = self.entry;
+        let file = held.file.bytes();
+        let factory = held.factory.bytes();
+        let mut mask = self.mask;
+        let mut room = [0; 4_096];
+        let site = copied(held.buffer.bytes(), &mut room);
+        let answer = lepugaso::site_set(file, entry, member, path, words, factory, site, &mut mask);
+        say_block(out, answer, mask, site)
+    }
+
     // The mask and the site buffer change in copies, and are said after the answer; the buffer is where it may change.
     pub fn answer<W: Write>(self, out: &mut W, held: &Held) -> io::Result<()> {
         let entry = self.entry;
         let file = held.file.bytes();
-        let factory = held.factory.bytes();
         let mut mask = self.mask;
         match self.asked {
             Asked::Member(member) => self.answer_member(out, held, member),
@@ -88,20 +117,8 @@ impl<'a> Site<'a> {
                 let answer = lepugaso::site_clear(file, entry, member, &mut mask);
                 say_block(out, answer, mask, b"")
             }
-            Asked::Fresh => {
-                let mut room = [0; 4_096];
-                let site = copied(held.buffer.bytes(), &mut room);
-                let answer = lepugaso::site_fresh(file, entry, factory, site, &mut mask);
-                say_block(out, answer, mask, site)
-            }
-            Asked::Set(member, words, path) => {
-                let mut room = [0; 4_096];
-                let site = copied(held.buffer.bytes(), &mut room);
-                let answer = lepugaso::site_set(
-                    file, entry, member, path, words, factory, site, &mut mask,
-                );
-                say_block(out, answer, mask, site)
-            }
+            Asked::Fresh => self.answer_fresh(out, held),
+            Asked::Set(member, words, path) => self.answer_set(out, held, member, words, path),
         }
     }
 }

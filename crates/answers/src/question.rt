@@ -64,6 +64,7 @@ impl<'a> Question<'a> {
     }
 
     // Says the answer. What a question changes, a buffer, words or a list, it changes in a copy: what is held is as it was for the others.
+    // Each such question has a function of its own, since a function clears all its arrays at its start.
     pub fn answer<W: Write>(self, out: &mut W, held: &Held) -> io::Result<()> {
         let file = held.file.bytes();
         let buffer = held.buffer.bytes();
@@ -72,42 +73,43 @@ impl<'a> Question<'a> {
                 let answer = Said(asked.ask(file, buffer));
                 writeln!(out, "{answer}")
             }
-            Question::Change(asked) => {
-                let mut room = [0; 4_096];
-                let copy = copied(buffer, &mut room);
-                let answer = Said(asked.ask(file, copy));
-                let bytes = Bytes(copy);
-                writeln!(out, "{answer}{bytes}")
-            }
+            Question::Change(asked) => asked.answer(out, held),
             Question::Site(asked) => asked.answer(out, held),
             Question::Layout(entry) => {
                 let answer = Said(lepugaso::layout(file, entry).map(Four));
                 writeln!(out, "{answer}")
             }
-            Question::Clean(entry) => {
-                let mut room = [0; 4_096];
-                let copy = copied(buffer, &mut room);
-                let answer = Said(lepugaso::clean(file, entry, copy).map(Cleaned));
-                let bytes = Bytes(copy);
-                writeln!(out, "{answer}{bytes}")
-            }
+            Question::Clean(entry) => answer_clean(out, held, entry),
             Question::View(entry, path) => answer_view(out, held, entry, path),
-            Question::Read(entry, words) => {
-                let mut room = [0; MOST_NUMBERS];
-                let copy = copied(words.numbers, &mut room);
-                let answer = Said(lepugaso::read(file, entry, buffer, copy));
-                let words = Words(copy);
-                writeln!(out, "{answer}{words}")
-            }
-            Question::PlanOrder(entry, list) => {
-                let mut room = [0; MOST_NUMBERS];
-                let copy = copied(list.numbers, &mut room);
-                let answer = Said(lepugaso::plan_order(file, entry, copy));
-                let words = Words(copy);
-                writeln!(out, "{answer}{words}")
-            }
+            Question::Read(entry, words) => answer_read(out, held, entry, words),
+            Question::PlanOrder(entry, list) => answer_plan(out, held, entry, list),
         }
     }
+}
+
+fn answer_clean<W: Write>(out: &mut W, held: &Held, entry: u32) -> io::Result<()> {
+    let mut room = [0; 4_096];
+    let copy = copied(held.buffer.bytes(), &mut room);
+    let answer = Said(lepugaso::clean(held.file.bytes(), entry, copy).map(Cleaned));
+    let bytes = Bytes(copy);
+    writeln!(out, "{answer}{bytes}")
+}
+
+fn answer_read<W: Write>(out: &mut W, held: &Held, entry: u32, words: Part<'_>) -> io::Result<()> {
+    let mut room = [0; MOST_NUMBERS];
+    let copy = copied(words.numbers, &mut room);
+    let buffer = held.buffer.bytes();
+    let answer = Said(lepugaso::read(held.file.bytes(), entry, buffer, copy));
+    let words = Words(copy);
+    writeln!(out, "{answer}{words}")
+}
+
+fn answer_plan<W: Write>(out: &mut W, held: &Held, entry: u32, list: Part<'_>) -> io::Result<()> {
+    let mut room = [0; MOST_NUMBERS];
+    let copy = copied(list.numbers, &mut room);
+    let answer = Said(lepugaso::plan_order(held.file.bytes(), entry, copy));
+    let words = Words(copy);
+    writeln!(out, "{answer}{words}")
 }
 
 // Says where a path leads, and the bytes that a view hands back; and puts the question to `view_mut` on a copy of the buffer, which is to

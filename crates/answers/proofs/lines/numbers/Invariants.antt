@@ -1,5 +1,5 @@
 -- No more numbers are put than there is room for.
-use Rattle.std.proofs.Common.{◌≤◌, length}
+use Rattle.std.proofs.Common.{◌≤◌}
 use Rattle.answers.proofs.lines.numbers.Given as goal
 
 abbrev pub invariant-loop-part : goal.invariant-loop-part
