@@ -38,12 +38,19 @@ pub fn byte(pair: &[u8]) -> Option<u8> {
     Some(digit(*high)? * 16 + digit(*low)?)
 }
 
-// A number is decimal digits alone: it has no sign, which `parse` would take.
+// A number is decimal digits alone: it has no sign, which `parse` would take. One pass over the digits, since lines may be all numbers.
 fn number(part: &[u8]) -> Option<u32> {
-    if !part.iter().all(|c| c.is_ascii_digit()) {
+    if part.is_empty() {
         return None;
     }
-    std::str::from_utf8(part).ok()?.parse::<u32>().ok()
+    let mut value: u32 = 0;
+    for c in part {
+        if !c.is_ascii_digit() {
+            return None;
+        }
+        value = value.checked_mul(10)?.checked_add(u32::from(*c - b'0'))?;
+    }
+    Some(value)
 }
 
 // The numbers after a word, one space before each, put into a room for them; `None` where one is none, or they are too many.
