@@ -1,9 +1,8 @@
 // The questions about a site block.
-use crate::held::Held;
+use crate::held::{Held, copied};
 use crate::question::joined;
 use crate::say::{Bytes, Place, Said};
 use said::refusal::Refusal;
-use std::alloc::Global;
 use std::io::{self, Write};
 
 // What is asked of a block of an entry, whose mask is this before.
@@ -73,11 +72,40 @@ impl<'a> Site<'a> {
         writeln!(out, "{answer}{whose}{bytes}")
     }
 
-    // The mask and the site buffer change in copies, and are said after the answer; the buffer is where it may change.
-    pub fn answer<W: Write>(self, out: &mut W, alloc: Global, held: &Held) -> io::Result<()> {
+    // Makes a fresh block in a copy of the site buffer.
+    fn answer_fresh<W: Write>(self, out: &mut W, held: &Held) -> io::Result<()> {
+        let file = held.file.bytes();
+        let factory = held.factory.bytes();
+        let mut mask = self.mask;
+        let mut room = [0; 4_096];
+        let site = copied(held.buffer.bytes(), &mut room);
+        let answer = lepugaso::site_fresh(file, self.entry, factory, site, &mut mask);
+        say_block(out, answer, mask, site)
+    }
+
+    // Sets a scalar in a member in a copy of the site buffer.
+    fn answer_set<W: Write>(
+        self,
+        out: &mut W,
+        held: &Held,
+        member: u32,
+        words: &[u32],
+        path: &[u32],
+    ) -> io::Result<()> {
         let entry = self.entry;
         let file = held.file.bytes();
         let factory = held.factory.bytes();
+        let mut mask = self.mask;
+        let mut room = [0; 4_096];
+        let site = copied(held.buffer.bytes(), &mut room);
+        let answer = lepugaso::site_set(file, entry, member, path, words, factory, site, &mut mask);
+        say_block(out, answer, mask, site)
+    }
+
+    // The mask and the site buffer change in copies, and are said after the answer; the buffer is where it may change.
+    pub fn answer<W: Write>(self, out: &mut W, held: &Held) -> io::Result<()> {
+        let entry = self.entry;
+        let file = held.file.bytes();
         let mut mask = self.mask;
         match self.asked {
             Asked::Member(member) => self.answer_member(out, held, member),
@@ -89,20 +117,8 @@ impl<'a> Site<'a> {
                 let answer = lepugaso::site_clear(file, entry, member, &mut mask);
                 say_block(out, answer, mask, b"")
             }
-            Asked::Fresh => {
-                let mut site = held.buffer.bytes().to_vec(alloc)?;
-                let buffer = site.as_mut_slice();
-                let answer = lepugaso::site_fresh(file, entry, factory, buffer, &mut mask);
-                say_block(out, answer, mask, site.as_slice())
-            }
-            Asked::Set(member, words, path) => {
-                let mut site = held.buffer.bytes().to_vec(alloc)?;
-                let buffer = site.as_mut_slice();
-                let answer = lepugaso::site_set(
-                    file, entry, member, path, words, factory, buffer, &mut mask,
-                );
-                say_block(out, answer, mask, site.as_slice())
-            }
+            Asked::Fresh => self.answer_fresh(out, held),
+            Asked::Set(member, words, path) => self.answer_set(out, held, member, words, path),
         }
     }
 }

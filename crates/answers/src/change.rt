@@ -1,6 +1,9 @@
 // The questions that change a buffer, and are answered by a number and what the buffer holds then.
+use crate::held::{Held, copied};
 use crate::question::Field;
+use crate::say::{Bytes, Said};
 use said::refusal::Refusal;
+use std::io::{self, Write};
 
 #[derive(Clone, Copy)]
 pub enum Change<'a> {
@@ -33,7 +36,16 @@ impl<'a> Change<'a> {
         Some(asked)
     }
 
-    pub fn ask(self, file: &[u8], buffer: &mut [u8]) -> Result<u64, Refusal> {
+    // Says the answer, and what a copy of the buffer holds then.
+    pub fn answer<W: Write>(self, out: &mut W, held: &Held) -> io::Result<()> {
+        let mut room = [0; 4_096];
+        let copy = copied(held.buffer.bytes(), &mut room);
+        let answer = Said(self.ask(held.file.bytes(), copy));
+        let bytes = Bytes(copy);
+        writeln!(out, "{answer}{bytes}")
+    }
+
+    fn ask(self, file: &[u8], buffer: &mut [u8]) -> Result<u64, Refusal> {
         match self {
             Change::Write(entry, words) => {
                 lepugaso::write(file, entry, words, buffer).map(u64::from)

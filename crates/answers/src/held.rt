@@ -1,36 +1,71 @@
-// What the questions are about: the bytes that lines said last.
-ghost use Rattle.std.specs.Prelude.{◌≤◌, length, vec_len};
+// What is held in fixed memory: the text of a run, and the bytes that lines said last, which the questions are about.
+ghost use Rattle.std.specs.Prelude.{◌≡◌, ◌+◌, ◌<◌, ◌≤◌, length, take};
 
 use crate::lines::byte;
-use std::alloc::Global;
-use std::io::{self, Write};
+use std::io::{self, Read, Write};
 
-// The bytes of a file or of a buffer, none before its first line, and at most so many.
-#[derive(Drop)]
+// The bytes of a text, a file or a buffer, none at first, and at most so many.
+#[derive(Clone, Copy)]
 pub struct Room<const MOST: usize> {
-    bytes: Vec<u8>,
-    ghost within: { vec_len bytes ≤ MOST },
+    bytes: [u8; MOST],
+    count: usize,
+    ghost within: { count ≤ MOST },
 }
 
 impl<const MOST: usize> Room<MOST> {
-    pub fn bytes(&self) -> &[u8]
-        ensures { length result.now ≤ MOST }
+    pub fn new() -> Room<MOST>
+        ensures { result.count ≡ 0 }
     {
-        self.bytes.as_slice()
+        Room {
+            bytes: [0; MOST],
+            count: 0,
+        }
+    }
+
+    pub fn bytes(&self) -> &[u8]
+        ensures value { result.now ≡ take self.now.count self.now.bytes }
+        ensures within { length result.now ≤ MOST }
+    {
+        &self.bytes[..self.count]
+    }
+
+    // Takes what comes from a reader, as much as there is room for.
+    pub fn read<R: Read + Drop>(&mut self, from: R) -> io::Result<()> {
+        let read = io::copy(&mut from.take(MOST as u64), &mut &mut self.bytes[..])?;
+        self.count = MOST.min(read as usize);
+        Ok(())
     }
 
     // Takes the bytes after a word in place of those that were there; spaces between bytes say nothing. Where something else comes, or
     // one too many, those before it stay.
     pub fn take<W: Write>(&mut self, out: &mut W, word: &str, rest: &[u8]) -> io::Result<()> {
-        self.bytes.clear();
+        self.count = 0;
         for pair in rest.split(|c| *c == b' ').flat_map(|part| part.chunks(2)) {
             match byte(pair) {
-                Some(byte) if self.bytes.len() < MOST => self.bytes.push(byte)?,
+                Some(byte) if self.count < MOST => self.push(byte),
                 _ => return writeln!(out, "not a {word}"),
             }
         }
         Ok(())
     }
+
+    fn push(&mut self, byte: u8)
+        requires { self.old.count < MOST }
+        ensures { self.new.count ≡ self.old.count + 1 }
+    {
+        self.bytes[self.count] = byte;
+        self.count += 1;
+    }
+}
+
+// A copy of items at the front of a room for them, to be changed.
+pub fn copied<'a, T: Copy>(items: &[T], room: &'a mut [T]) -> &'a mut [T]
+    requires { length items.now ≤ length room.old }
+    ensures { result.now ≡ items.now }
+{
+    let copy = &mut room[..items.len()];
+    copy.copy_from_slice(items);
+    copy
 }
 
 // Of a site block `buffer` is the site buffer.
@@ -42,17 +77,11 @@ pub struct Held {
 }
 
 impl Held {
-    pub fn new(alloc: Global) -> Held {
+    pub fn new() -> Held {
         Held {
-            file: Room {
-                bytes: Vec::new(alloc),
-            },
-            buffer: Room {
-                bytes: Vec::new(alloc),
-            },
-            factory: Room {
-                bytes: Vec::new(alloc),
-            },
+            file: Room::new(),
+            buffer: Room::new(),
+            factory: Room::new(),
         }
     }
 }

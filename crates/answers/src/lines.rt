@@ -1,10 +1,15 @@
 // A line of questions: its word, its numbers, its bytes.
-ghost use Rattle.std.specs.Prelude.{◌≡◌, ◌<◌, ◌≤◌, ◌++◌, IfOk, IfSome, vec_len};
-
-use std::alloc::{AllocError, Global};
+ghost use Rattle.std.specs.Prelude.{◌≡◌, ◌<◌, ◌≤◌, ◌++◌, IfSome, length};
 
 // A line has at most so many numbers.
-const MOST_NUMBERS: usize = 1_024;
+pub const MOST_NUMBERS: usize = 1_024;
+
+// Numbers of a line, all or a part of them.
+#[derive(Clone, Copy)]
+pub struct Part<'a> {
+    pub numbers: &'a [u32],
+    ghost within: { length numbers.now ≤ 1024 },
+}
 
 // The word of a line, and what comes after it: nothing, or a space and more.
 pub fn split_word(line: &[u8]) -> (&[u8], &[u8])
@@ -33,22 +38,31 @@ pub fn byte(pair: &[u8]) -> Option<u8> {
     Some(digit(*high)? * 16 + digit(*low)?)
 }
 
-// A number is decimal digits alone: it has no sign, which `parse` would take.
+// A number is decimal digits alone: it has no sign, which `parse` would take. One pass over the digits, since lines may be all numbers.
 fn number(part: &[u8]) -> Option<u32> {
-    if !part.iter().all(|c| c.is_ascii_digit()) {
+    if part.is_empty() {
         return None;
     }
-    std::str::from_utf8(part).ok()?.parse::<u32>().ok()
+    let mut value: u32 = 0;
+    for c in part {
+        if !c.is_ascii_digit() {
+            return None;
+        }
+        value = value.checked_mul(10)?.checked_add(u32::from(*c - b'0'))?;
+    }
+    Some(value)
 }
 
-// The numbers after a word, one space before each; `None` where one is none, or they are too many.
-pub fn numbers(alloc: Global, rest: &[u8]) -> Result<Option<Vec<u32>>, AllocError>
-    ensures { IfOk result (λ all. IfSome all (λ ns. vec_len ns ≤ 1024)) }
-{
-    let all: Option<Vec<u32>> = rest
-        .split(|c| *c == b' ')
-        .skip(1)
-        .map(number)
-        .collect(alloc)?;
-    Ok(all.filter(|ns| ns.len() <= MOST_NUMBERS))
+// The numbers after a word, one space before each, put into a room for them; `None` where one is none, or they are too many.
+pub fn numbers<'a>(rest: &[u8], room: &'a mut [u32; MOST_NUMBERS]) -> Option<Part<'a>> {
+    let mut count = 0;
+    for part in rest.split(|c| *c == b' ').skip(1) {
+        if count == MOST_NUMBERS {
+            return None;
+        }
+        room[count] = number(part)?;
+        count += 1;
+    }
+    let numbers = &room[..count];
+    Some(Part { numbers })
 }

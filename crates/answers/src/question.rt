@@ -1,10 +1,10 @@
 // The questions, and the lines that ask them (oracle/README.md).
 use crate::blocks::Site;
 use crate::change::Change;
-use crate::held::Held;
+use crate::held::{Held, copied};
+use crate::lines::{MOST_NUMBERS, Part};
 use crate::number::Number;
 use crate::say::{Bytes, Cleaned, Four, Place, Said, Words};
-use std::alloc::Global;
 use std::io::{self, Write};
 
 // A bit field as it is asked for.
@@ -35,20 +35,24 @@ pub enum Question<'a> {
     // an entry and the steps
     View(u32, &'a [u32]),
     // an entry and what the words are before
-    Read(u32, &'a [u32]),
+    Read(u32, Part<'a>),
     // an entry and what the list is before
-    PlanOrder(u32, &'a [u32]),
+    PlanOrder(u32, Part<'a>),
 }
 
 impl<'a> Question<'a> {
     // The question of a word and the numbers after it; `None` where it is none.
-    pub fn parse(word: &[u8], numbers: &'a [u32]) -> Option<Question<'a>> {
+    pub fn parse(word: &[u8], given: Part<'a>) -> Option<Question<'a>> {
+        let numbers = given.numbers;
         let question = match (word, numbers) {
             (b"layout", [entry]) => Question::Layout(*entry),
             (b"clean", [entry]) => Question::Clean(*entry),
             (b"view", [entry, path @ ..]) => Question::View(*entry, path),
-            (b"read", [entry, words @ ..]) => Question::Read(*entry, words),
-            (b"plan_order", [entry, list @ ..]) => Question::PlanOrder(*entry, list),
+            (b"read", [entry, words @ ..]) => Question::Read(*entry, Part { numbers: words }),
+            (b"plan_order", [entry, list @ ..]) => Question::PlanOrder(
+                *entry,
+                Part { numbers: list },
+            ),
             _ => {
                 return Number::parse(word, numbers)
                     .map(Question::Number)
@@ -60,7 +64,8 @@ impl<'a> Question<'a> {
     }
 
     // Says the answer. What a question changes, a buffer, words or a list, it changes in a copy: what is held is as it was for the others.
-    pub fn answer<W: Write>(self, out: &mut W, alloc: Global, held: &Held) -> io::Result<()> {
+    // Each such question has a function of its own, since a function clears all its arrays at its start.
+    pub fn answer<W: Write>(self, out: &mut W, held: &Held) -> io::Result<()> {
         let file = held.file.bytes();
         let buffer = held.buffer.bytes();
         match self {
@@ -68,56 +73,57 @@ impl<'a> Question<'a> {
                 let answer = Said(asked.ask(file, buffer));
                 writeln!(out, "{answer}")
             }
-            Question::Change(asked) => {
-                let mut copy = buffer.to_vec(alloc)?;
-                let answer = Said(asked.ask(file, copy.as_mut_slice()));
-                let bytes = Bytes(copy.as_slice());
-                writeln!(out, "{answer}{bytes}")
-            }
-            Question::Site(asked) => asked.answer(out, alloc, held),
+            Question::Change(asked) => asked.answer(out, held),
+            Question::Site(asked) => asked.answer(out, held),
             Question::Layout(entry) => {
                 let answer = Said(lepugaso::layout(file, entry).map(Four));
                 writeln!(out, "{answer}")
             }
-            Question::Clean(entry) => {
-                let mut copy = buffer.to_vec(alloc)?;
-                let answer = Said(lepugaso::clean(file, entry, copy.as_mut_slice()).map(Cleaned));
-                let bytes = Bytes(copy.as_slice());
-                writeln!(out, "{answer}{bytes}")
-            }
-            Question::View(entry, path) => answer_view(out, alloc, file, entry, path, buffer),
-            Question::Read(entry, words) => {
-                let mut copy = words.to_vec(alloc)?;
-                let answer = Said(lepugaso::read(file, entry, buffer, copy.as_mut_slice()));
-                let words = Words(copy.as_slice());
-                writeln!(out, "{answer}{words}")
-            }
-            Question::PlanOrder(entry, list) => {
-                let mut copy = list.to_vec(alloc)?;
-                let answer = Said(lepugaso::plan_order(file, entry, copy.as_mut_slice()));
-                let words = Words(copy.as_slice());
-                writeln!(out, "{answer}{words}")
-            }
+            Question::Clean(entry) => answer_clean(out, held, entry),
+            Question::View(entry, path) => answer_view(out, held, entry, path),
+            Question::Read(entry, words) => answer_read(out, held, entry, words),
+            Question::PlanOrder(entry, list) => answer_plan(out, held, entry, list),
         }
     }
 }
 
+fn answer_clean<W: Write>(out: &mut W, held: &Held, entry: u32) -> io::Result<()> {
+    let mut room = [0; 4_096];
+    let copy = copied(held.buffer.bytes(), &mut room);
+    let answer = Said(lepugaso::clean(held.file.bytes(), entry, copy).map(Cleaned));
+    let bytes = Bytes(copy);
+    writeln!(out, "{answer}{bytes}")
+}
+
+fn answer_read<W: Write>(out: &mut W, held: &Held, entry: u32, words: Part<'_>) -> io::Result<()> {
+    let mut room = [0; MOST_NUMBERS];
+    let copy = copied(words.numbers, &mut room);
+    let buffer = held.buffer.bytes();
+    let answer = Said(lepugaso::read(held.file.bytes(), entry, buffer, copy));
+    let words = Words(copy);
+    writeln!(out, "{answer}{words}")
+}
+
+fn answer_plan<W: Write>(out: &mut W, held: &Held, entry: u32, list: Part<'_>) -> io::Result<()> {
+    let mut room = [0; MOST_NUMBERS];
+    let copy = copied(list.numbers, &mut room);
+    let answer = Said(lepugaso::plan_order(held.file.bytes(), entry, copy));
+    let words = Words(copy);
+    writeln!(out, "{answer}{words}")
+}
+
 // Says where a path leads, and the bytes that a view hands back; and puts the question to `view_mut` on a copy of the buffer, which is to
 // hand back the same bytes and to leave the copy as it is.
-fn answer_view<W: Write>(
-    out: &mut W,
-    alloc: Global,
-    file: &[u8],
-    entry: u32,
-    path: &[u32],
-    buffer: &[u8],
-) -> io::Result<()> {
+fn answer_view<W: Write>(out: &mut W, held: &Held, entry: u32, path: &[u32]) -> io::Result<()> {
+    let file = held.file.bytes();
+    let buffer = held.buffer.bytes();
     let answer = Said(lepugaso::view_at(file, entry, path, buffer).map(Place));
     let part = lepugaso::view(file, entry, path, buffer);
-    let mut copy = buffer.to_vec(alloc)?;
-    let handed = lepugaso::view_mut(file, entry, path, copy.as_mut_slice());
+    let mut room = [0; 4_096];
+    let copy = copied(buffer, &mut room);
+    let handed = lepugaso::view_mut(file, entry, path, copy);
     let alike = part == &handed[..];
-    let changed = if alike && copy.as_slice() == buffer {
+    let changed = if alike && &*copy == buffer {
         ""
     } else {
         " changed"

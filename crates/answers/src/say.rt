@@ -1,8 +1,11 @@
 // Answers as text.
+ghost use Rattle.std.specs.Prelude.{◌≡◌, ◌*◌, ◌<◌, ◌≤◌, IsAscii, length};
+
 use said::answer::{Gaps, Sizes};
 use said::refusal::Refusal;
 use said::target::Target;
 use std::fmt::{self, Display};
+use std::str;
 
 // An answer: what it gives, or its refusal.
 #[derive(Drop)]
@@ -95,9 +98,43 @@ impl Display for Bytes<'_> {
             return Ok(());
         }
         write!(f, " ")?;
-        for byte in self.0 {
-            write!(f, "{byte:02x}")?;
+        for part in self.0.chunks(4_096) {
+            let mut room = [0; 8_192];
+            f.write_str(spell(part, &mut room))?;
         }
         Ok(())
     }
+}
+
+// Bytes as two hexadecimal digits each, put into a room for them: what is written is one text, since each write is a call of the system.
+#[tactic(auto, using(crate::proofs::Ascii::front_utf8))]
+fn spell<'a>(bytes: &[u8], room: &'a mut [u8]) -> &'a str
+    requires room { 2 * length bytes.now ≤ length room.old }
+    requires ascii { IsAscii room.old }
+    ensures { length result.now ≡ 2 * length bytes.now }
+{
+    put_digits(bytes, room);
+    let Ok(text) = str::from_utf8(&room[..2 * bytes.len()]) else {
+        unreachable!();
+    };
+    text
+}
+
+fn put_digits(bytes: &[u8], room: &mut [u8])
+    requires room { 2 * length bytes.now ≤ length room.old }
+    requires ascii { IsAscii room.old }
+    ensures ascii { IsAscii room.new }
+    ensures len { length room.new ≡ length room.old }
+{
+    for (i, byte) in bytes.iter().enumerate() {
+        room[2 * i] = digit(byte / 16);
+        room[2 * i + 1] = digit(byte % 16);
+    }
+}
+
+fn digit(n: u8) -> u8
+    requires { n < 16 }
+    ensures { result < 128 }
+{
+    if n < 10 { b'0' + n } else { b'a' - 10 + n }
 }
