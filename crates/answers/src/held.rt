@@ -40,11 +40,18 @@ impl<const MOST: usize> Room<MOST> {
     // one too many, those before it stay.
     pub fn take<W: Write>(&mut self, out: &mut W, word: &str, rest: &[u8]) -> io::Result<()> {
         self.count = 0;
-        for pair in rest.split(|c| *c == b' ').flat_map(|part| part.chunks(2)) {
+        let mut left = rest;
+        while let [first, tail @ ..] = left {
+            if *first == b' ' {
+                left = tail;
+                continue;
+            }
+            let (pair, more) = left.split_at(left.len().min(2));
             match byte(pair) {
                 Some(byte) if self.count < MOST => self.push(byte),
                 _ => return writeln!(out, "not a {word}"),
             }
+            left = more;
         }
         Ok(())
     }

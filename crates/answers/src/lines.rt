@@ -38,30 +38,37 @@ pub fn byte(pair: &[u8]) -> Option<u8> {
     Some(digit(*high)? * 16 + digit(*low)?)
 }
 
-// A number is decimal digits alone: it has no sign, which `parse` would take. One pass over the digits, since lines may be all numbers.
-fn number(part: &[u8]) -> Option<u32> {
-    if part.is_empty() {
-        return None;
-    }
-    let mut value: u32 = 0;
-    for c in part {
-        if !c.is_ascii_digit() {
+// The number that a text begins with, decimal digits alone, and what comes after it. (It has no sign, which `parse` would take.)
+fn number(text: &[u8]) -> Option<(u32, &[u8])>
+    ensures { IfSome result (λ found. length found.1.now ≤ length text.now) }
+{
+    let mut value: u64 = 0;
+    let mut rest = text;
+    while let [c @ b'0'..=b'9', tail @ ..] = rest {
+        value = value * 10 + u64::from(*c - b'0');
+        if u64::from(u32::MAX) < value {
             return None;
         }
-        value = value.checked_mul(10)?.checked_add(u32::from(*c - b'0'))?;
+        rest = tail;
     }
-    Some(value)
+    if rest.len() == text.len() {
+        return None;
+    }
+    Some((value as u32, rest))
 }
 
 // The numbers after a word, one space before each, put into a room for them; `None` where one is none, or they are too many.
-pub fn numbers<'a>(rest: &[u8], room: &'a mut [u32; MOST_NUMBERS]) -> Option<Part<'a>> {
+pub fn numbers<'a>(after: &[u8], room: &'a mut [u32; MOST_NUMBERS]) -> Option<Part<'a>> {
     let mut count = 0;
-    for part in rest.split(|c| *c == b' ').skip(1) {
-        if count == MOST_NUMBERS {
+    let mut rest = after;
+    while let [first, tail @ ..] = rest {
+        if *first != b' ' || count == MOST_NUMBERS {
             return None;
         }
-        room[count] = number(part)?;
+        let (value, more) = number(tail)?;
+        room[count] = value;
         count += 1;
+        rest = more;
     }
     let numbers = &room[..count];
     Some(Part { numbers })
