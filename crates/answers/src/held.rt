@@ -37,8 +37,8 @@ impl<const MOST: usize> Room<MOST> {
     }
 
     // Takes the bytes after a word in place of those that were there; spaces between bytes say nothing. Where something else comes, or
-    // one too many, those before it stay.
-    pub fn take<W: Write>(&mut self, out: &mut W, word: &str, rest: &[u8]) -> io::Result<()> {
+    // one too many, those before it stay, and the complaint is said, whole, since each write is a call of the system.
+    pub fn take<W: Write>(&mut self, out: &mut W, rest: &[u8], complaint: &[u8]) -> io::Result<()> {
         self.count = 0;
         let mut left = rest;
         while let [first, tail @ ..] = left {
@@ -49,7 +49,7 @@ impl<const MOST: usize> Room<MOST> {
             let (pair, more) = left.split_at(left.len().min(2));
             match byte(pair) {
                 Some(byte) if self.count < MOST => self.push(byte),
-                _ => return writeln!(out, "not a {word}"),
+                _ => return out.write_all(complaint),
             }
             left = more;
         }

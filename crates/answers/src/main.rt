@@ -28,9 +28,9 @@ fn answer_question<W: Write>(out: &mut W, held: &Held, word: &[u8], rest: &[u8])
 fn answer_line<W: Write>(out: &mut W, held: &mut Held, line: &[u8]) -> io::Result<()> {
     let (word, rest) = split_word(line);
     match word {
-        b"file" => held.file.take(out, "file", rest),
-        b"buffer" => held.buffer.take(out, "buffer", rest),
-        b"factory" => held.factory.take(out, "factory", rest),
+        b"file" => held.file.take(out, rest, b"not a file\n"),
+        b"buffer" => held.buffer.take(out, rest, b"not a buffer\n"),
+        b"factory" => held.factory.take(out, rest, b"not a factory\n"),
         _ => answer_question(out, held, word, rest),
     }
 }
